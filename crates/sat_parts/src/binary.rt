@@ -247,12 +247,11 @@ impl BinaryClauses {
     }
 
     /// Sets the number of variables. New literals imply nothing.
-    pub fn set_var_count(&mut self, alloc: Global, count: usize) -> Result<(), AllocError>
+    pub fn set_var_count(&mut self, count: usize) -> Result<(), AllocError>
         requires { count ≤ var_limit }
         ensures done { OnOk result (self.new ≡ with_binary_lists (2 * count) self.old) }
         ensures same { OnErr result (self.new ≡ self.old) }
     {
-        let _ = alloc;
         resize(&mut self.by_lit, 2 * count)?;
         Ok(())
     }

@@ -35,15 +35,15 @@ pub struct SearchState {
 /// Raises the number of variables to `count`, which must not be lower than before.
 ///
 /// New variables have no value, are in no clause, and are not available for decisions.
-pub fn set_var_count(alloc: Global, parts: &mut SearchState, count: usize) -> Result<(), AllocError>
+pub fn set_var_count(parts: &mut SearchState, count: usize) -> Result<(), AllocError>
     requires holds { SearchStateInvariant parts.old }
     requires more { length parts.old.assignment.current ≤ count }
     requires few { count ≤ var_limit }
     ensures holds { OnOk result (SearchStateInvariant parts.new) }
     ensures grown { OnOk result (AddsVars parts.old parts.new count) }
 {
-    parts.watchlists.set_var_count(alloc, count)?;
-    parts.binary.set_var_count(alloc, count)?;
+    parts.watchlists.set_var_count(count)?;
+    parts.binary.set_var_count(count)?;
     parts.assignment.set_var_count(count)?;
     parts.graph.set_var_count(count)?;
     parts.trail.set_var_count(count)?;

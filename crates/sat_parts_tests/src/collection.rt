@@ -46,7 +46,6 @@ fn reasons_hold(clauses: &ClauseAlloc, db: &ClauseDb, graph: &ImplGraph, trail: 
 
 /// Adds two clauses, and deletes the first one. Returns the second one, or `None` if the first one isn't live.
 fn two_clauses(
-    alloc: Global,
     clauses: &mut ClauseAlloc,
     db: &mut ClauseDb,
     watchlists: &mut Watchlists,
@@ -55,7 +54,7 @@ fn two_clauses(
     requires lists { watchlists.old.lists ≡ [] }
     ensures db { OnOk result (DbMatchesBuffer clauses.new db.new) }
 {
-    watchlists.set_var_count(alloc, 7)?;
+    watchlists.set_var_count(7)?;
     let codes = [
         Lit::from_code(0),
         Lit::from_code(2),
@@ -130,7 +129,7 @@ fn row(
     requires db { DbMatchesBuffer clauses.old db.old }
     requires lists { watchlists.old.lists ≡ [] }
 {
-    let cref = match two_clauses(alloc, clauses, db, watchlists)? {
+    let cref = match two_clauses(clauses, db, watchlists)? {
         Some(cref) => cref,
         None => return Ok(false),
     };

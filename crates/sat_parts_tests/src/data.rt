@@ -8,7 +8,7 @@ use sat_base::{Lit, Var};
 use sat_parts::{
     Assignment, BinaryClauses, ImplGraph, Reason, Trail, enqueue_assignment, fast_option_eq,
 };
-use std::alloc::{AllocError, Global};
+use std::alloc::AllocError;
 
 fn values(values: &mut Assignment) -> bool
     requires { length values.old.current ≡ 2 }
@@ -79,14 +79,10 @@ fn removal(binary: &mut BinaryClauses, values: &mut Assignment) -> Result<bool, 
     )
 }
 
-fn removal_row(
-    alloc: Global,
-    binary: &mut BinaryClauses,
-    values: &mut Assignment,
-) -> Result<bool, AllocError>
+fn removal_row(binary: &mut BinaryClauses, values: &mut Assignment) -> Result<bool, AllocError>
     requires lists { binary.old.implied ≡ [] }
 {
-    binary.set_var_count(alloc, 3)?;
+    binary.set_var_count(3)?;
     values.set_var_count(3)?;
     removal(binary, values)
 }
@@ -95,7 +91,7 @@ fn removal_row(
 fn clauses_with_a_value_are_removed(rt: HostRuntime) {
     let mut binary = BinaryClauses::new(rt.alloc());
     let mut values = Assignment::new(rt.alloc());
-    assert!(rt; removal_row(rt.alloc(), &mut binary, &mut values) == Ok(true));
+    assert!(rt; removal_row(&mut binary, &mut values) == Ok(true));
     drop(binary);
     drop(values);
 }
@@ -110,10 +106,10 @@ fn nodes_row(graph: &mut ImplGraph) -> Result<bool, AllocError> {
     Ok(nodes(graph))
 }
 
-fn implications_row(alloc: Global, binary: &mut BinaryClauses) -> Result<bool, AllocError>
+fn implications_row(binary: &mut BinaryClauses) -> Result<bool, AllocError>
     requires lists { binary.old.implied ≡ [] }
 {
-    binary.set_var_count(alloc, 2)?;
+    binary.set_var_count(2)?;
     implications(binary)
 }
 
@@ -124,7 +120,7 @@ fn parts_are_read_back(rt: HostRuntime) {
     let mut binary = BinaryClauses::new(rt.alloc());
     assert!(rt; values_row(&mut assignment) == Ok(true));
     assert!(rt; nodes_row(&mut graph) == Ok(true));
-    assert!(rt; implications_row(rt.alloc(), &mut binary) == Ok(true));
+    assert!(rt; implications_row(&mut binary) == Ok(true));
     drop(assignment);
     drop(graph);
     drop(binary);

@@ -13,7 +13,7 @@ use sat_parts::{
     compute_clause_glue_below,
 };
 use sat_store::{ClauseAlloc, ClauseRef, StoreError, TmpFlags};
-use std::alloc::{AllocError, Global};
+use std::alloc::AllocError;
 
 /// Whether every literal of a clause has a node with a level below `bound`.
 fn levels_below(graph: &ImplGraph, clauses: &ClauseAlloc, cref: ClauseRef, bound: usize) -> bool
@@ -72,7 +72,6 @@ fn glue_of_first(
 }
 
 fn row(
-    alloc: Global,
     clauses: &mut ClauseAlloc,
     db: &mut ClauseDb,
     watchlists: &mut Watchlists,
@@ -85,7 +84,7 @@ fn row(
     requires lists { watchlists.old.lists ≡ [] }
     requires flags { flags.old.flags.items ≡ [] }
 {
-    four(alloc, clauses, db, watchlists)?;
+    four(clauses, db, watchlists)?;
     make_nodes(graph, Lit::from_code(6))?;
     Ok(glue_of_first(flags, graph, clauses, db)?)
 }
@@ -98,7 +97,6 @@ fn levels_of_a_clause_are_counted(rt: HostRuntime) {
     let mut graph = ImplGraph::new(rt.alloc());
     let mut flags = TmpFlags::new(rt.alloc());
     let glue = row(
-        rt.alloc(),
         &mut clauses,
         &mut db,
         &mut watchlists,

@@ -169,7 +169,7 @@ fn row(
     requires none { live_refs clauses.old db.old.refs ≡ [] }
     requires lists { watchlists.old.lists ≡ [] }
 {
-    watchlists.set_var_count(alloc, 7)?;
+    watchlists.set_var_count(7)?;
     let (first, second, third, fourth) = store_four(clauses, db, watchlists)?;
     if counts(db) != [1, 1, 1, 1] || clauses.buffer_size() != 26 {
         return Ok(false);

@@ -65,13 +65,13 @@ fn use_all(parts: &mut SearchState, count: usize)
 }
 
 /// Introduces `count` variables. There must be no variables before.
-fn begin(alloc: Global, parts: &mut SearchState, count: usize) -> Result<(), AllocError>
+fn begin(parts: &mut SearchState, count: usize) -> Result<(), AllocError>
     requires holds { SearchStateInvariant parts.old }
     requires none { parts.old.assignment.current ≡ [] }
     requires few { count ≤ var_limit }
     ensures { OnOk result (IsReady parts.new count) }
 {
-    set_var_count(alloc, parts, count)?;
+    set_var_count(parts, count)?;
     full_restart(parts);
     use_all(parts, count);
     Ok(())
@@ -138,7 +138,7 @@ pub fn loaded(
     requires few { count ≤ var_limit }
     ensures { OnOk result (IsReady parts.new count) }
 {
-    begin(alloc, parts, count)?;
+    begin(parts, count)?;
     let mut lits = Vec::new(alloc);
     let mut sorting = new_sorting(alloc);
     load_all(parts, count, &mut lits, &mut sorting, clauses)

@@ -57,7 +57,6 @@ fn fields(clauses: &ClauseAlloc, db: &ClauseDb, at: usize) -> Option<(Tier, bool
 
 /// Adds four clauses, one of each tier.
 pub fn four(
-    alloc: Global,
     clauses: &mut ClauseAlloc,
     db: &mut ClauseDb,
     watchlists: &mut Watchlists,
@@ -68,7 +67,7 @@ pub fn four(
     requires lists { watchlists.old.lists ≡ [] }
     ensures db { OnOk result (DbMatchesBuffer clauses.new db.new) }
 {
-    watchlists.set_var_count(alloc, 7)?;
+    watchlists.set_var_count(7)?;
     let _ = store_four(clauses, db, watchlists)?;
     Ok(())
 }
@@ -224,12 +223,11 @@ fn reason_row(
     requires none { live_refs clauses.old db.old.refs ≡ [] }
     requires lists { watchlists.old.lists ≡ [] }
 {
-    four(alloc, clauses, db, watchlists)?;
+    four(clauses, db, watchlists)?;
     Ok(reason_stays(alloc, clauses, db, watchlists)?)
 }
 
 fn activities_row(
-    alloc: Global,
     clauses: &mut ClauseAlloc,
     db: &mut ClauseDb,
     watchlists: &mut Watchlists,
@@ -239,7 +237,7 @@ fn activities_row(
     requires none { live_refs clauses.old db.old.refs ≡ [] }
     requires lists { watchlists.old.lists ≡ [] }
 {
-    four(alloc, clauses, db, watchlists)?;
+    four(clauses, db, watchlists)?;
     Ok(raised(clauses, db) == Some((2048, Some((Tier::Irred, false, 3072)))))
 }
 
@@ -254,7 +252,7 @@ fn cut_row(
     requires none { live_refs clauses.old db.old.refs ≡ [] }
     requires lists { watchlists.old.lists ≡ [] }
 {
-    four(alloc, clauses, db, watchlists)?;
+    four(clauses, db, watchlists)?;
     Ok(cut_and_tried(alloc, clauses, db, watchlists)?)
 }
 
@@ -269,12 +267,11 @@ fn passes_row(
     requires none { live_refs clauses.old db.old.refs ≡ [] }
     requires lists { watchlists.old.lists ≡ [] }
 {
-    four(alloc, clauses, db, watchlists)?;
+    four(clauses, db, watchlists)?;
     Ok(tiers_and_marks(alloc, clauses, db)?)
 }
 
 fn filter_row(
-    alloc: Global,
     clauses: &mut ClauseAlloc,
     db: &mut ClauseDb,
     watchlists: &mut Watchlists,
@@ -284,7 +281,7 @@ fn filter_row(
     requires none { live_refs clauses.old db.old.refs ≡ [] }
     requires lists { watchlists.old.lists ≡ [] }
 {
-    four(alloc, clauses, db, watchlists)?;
+    four(clauses, db, watchlists)?;
     keep_short(clauses, db, watchlists);
     Ok(counts(db) == [1, 1, 1, 0] && db.garbage_size() == 8 && !watchlists.enabled())
 }
@@ -306,7 +303,7 @@ fn clauses_are_filtered(rt: HostRuntime) {
     let mut clauses = ClauseAlloc::new(rt.alloc());
     let mut db = ClauseDb::new(rt.alloc());
     let mut watchlists = Watchlists::new(rt.alloc());
-    assert!(rt; filter_row(rt.alloc(), &mut clauses, &mut db, &mut watchlists) == Ok(true));
+    assert!(rt; filter_row(&mut clauses, &mut db, &mut watchlists) == Ok(true));
     drop(clauses);
     drop(db);
     drop(watchlists);
@@ -328,7 +325,7 @@ fn bumped_clause_is_raised(rt: HostRuntime) {
     let mut clauses = ClauseAlloc::new(rt.alloc());
     let mut db = ClauseDb::new(rt.alloc());
     let mut watchlists = Watchlists::new(rt.alloc());
-    assert!(rt; activities_row(rt.alloc(), &mut clauses, &mut db, &mut watchlists) == Ok(true));
+    assert!(rt; activities_row(&mut clauses, &mut db, &mut watchlists) == Ok(true));
     drop(clauses);
     drop(db);
     drop(watchlists);

@@ -4,7 +4,7 @@ ghost use Rattle.std.specs.Prelude.{◌≡◌, ◌<◌, length};
 use sat_base::Lit;
 use sat_parts::{Watch, Watchlists};
 use sat_store::{ClauseAlloc, ClauseHeader, ClauseRef, StoreError};
-use std::alloc::{AllocError, Global};
+use std::alloc::AllocError;
 
 /// Whether a literal has a single watch, with the clause `cref` and the literal `blocking`.
 fn is_watched(watchlists: &mut Watchlists, lit: Lit, cref: ClauseRef, blocking: Lit) -> bool
@@ -49,14 +49,10 @@ fn lent(watchlists: &mut Watchlists, cref: ClauseRef) -> Result<bool, AllocError
     Ok(there && !elsewhere && !is_watched(watchlists, first, cref, second))
 }
 
-fn row(
-    alloc: Global,
-    clauses: &mut ClauseAlloc,
-    watchlists: &mut Watchlists,
-) -> Result<bool, StoreError> {
+fn row(clauses: &mut ClauseAlloc, watchlists: &mut Watchlists) -> Result<bool, StoreError> {
     let lits = [Lit::from_code(0), Lit::from_code(3), Lit::from_code(4)];
     let cref = clauses.add_clause(ClauseHeader::new(), &lits)?;
-    watchlists.set_var_count(alloc, 2)?;
+    watchlists.set_var_count(2)?;
     Ok(lent(watchlists, cref)?)
 }
 
@@ -64,7 +60,7 @@ fn row(
 fn list_is_lent_and_written(rt: HostRuntime) {
     let mut clauses = ClauseAlloc::new(rt.alloc());
     let mut watchlists = Watchlists::new(rt.alloc());
-    assert!(rt; row(rt.alloc(), &mut clauses, &mut watchlists) == Ok(true));
+    assert!(rt; row(&mut clauses, &mut watchlists) == Ok(true));
     drop(clauses);
     drop(watchlists);
 }

@@ -14,7 +14,7 @@
 --   load_binary, load_long: AddsOriginalClause
 --   load: LoadEffect (Loading), which selects one of these by the result
 --   drop_clause: DropsLongClause if it deletes, otherwise nothing changes; delete_long: DropsLongClause
---   put_header, set_tier, reduce_middle, bump_activity, decay_clauses: ChangesHeaders
+--   put_header, set_tier, reduce_mids, bump_activity, decay_clauses: ChangesHeaders
 --   bump_variable, decay_variables: SameContents
 --   swap_unwatched: SwapsLits; shorten: ShortensLongClause; remove_binary: RemovesBinaries; collect: MovesLongClauses
 -- FreesVar describes how the solver frees a variable. At level 0, KeepsTo 0 follows from AddsNoUnit, which in turn

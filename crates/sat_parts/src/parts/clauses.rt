@@ -19,7 +19,7 @@ ghost use Rattle.sat_store.specs.clause.Full.{IfStoreFull};
 use crate::parts::SearchState;
 use crate::{
     ClauseActivity, bump_clause_activity, collect_garbage, decay_clause_activities, delete_clause,
-    reduce_mids, set_clause_tier, shorten_clause, try_delete_clause,
+    set_clause_tier, shorten_clause, try_delete_clause,
 };
 use sat_base::Var;
 use sat_store::{ClauseHeader, ClauseRef, StoreError, Tier};
@@ -67,7 +67,7 @@ pub fn delete_long(parts: &mut SearchState, cref: ClauseRef)
 }
 
 /// Moves to tier Local the clauses in tier Mid that have not been used since the last call.
-pub fn reduce_middle(parts: &mut SearchState)
+pub fn reduce_mids(parts: &mut SearchState)
     requires holds { SearchStateInvariant parts.old }
     ensures holds { SearchStateInvariant parts.new }
     ensures headers { PutsHeaders parts.old.clauses parts.new.clauses parts.old.db.refs
@@ -75,7 +75,7 @@ pub fn reduce_middle(parts: &mut SearchState)
     ensures headed { ChangesHeaders parts.old parts.new }
     ensures word { TrailWordExtends parts.old parts.new }
 {
-    reduce_mids(&mut parts.clauses, &mut parts.db);
+    crate::reduce_mids(&mut parts.clauses, &mut parts.db);
 }
 
 /// Collects garbage if deleted clauses take up more than half of the buffer.

@@ -179,7 +179,7 @@ impl Watchlists {
     }
 
     /// Sets the number of variables. New literals have no watches.
-    pub fn set_var_count(&mut self, alloc: Global, count: usize) -> Result<(), AllocError>
+    pub fn set_var_count(&mut self, count: usize) -> Result<(), AllocError>
         requires { count ≤ var_limit }
         ensures done { OnOk result (self.new ≡ with_lists (2 * count) self.old) }
         ensures same { OnErr result (self.new ≡ self.old) }
@@ -188,7 +188,6 @@ impl Watchlists {
         let more = literals.saturating_sub(self.watches.len());
         self.watches.reserve(more)?;
         self.watches.truncate(literals);
-        self.alloc = alloc;
         self.count = literals;
         Ok(())
     }

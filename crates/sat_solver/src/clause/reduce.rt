@@ -21,7 +21,7 @@ use crate::proof::Proof;
 use sat_base::{CountedWrite, DeleteClauseProof, Lit, ProofStep, Var};
 use sat_checker::ProofProcessor;
 use sat_parts::SearchState;
-use sat_parts::parts::clauses::{collect, drop_clause, reduce_middle};
+use sat_parts::parts::clauses::{self, collect, drop_clause};
 use sat_parts::parts::reduce::list_locals;
 use sat_store::{ClauseRef, StoreError};
 use std::alloc::AllocError;
@@ -123,7 +123,7 @@ fn reduce_mids(search: &mut Search, is_due: bool)
     if !is_due {
         return;
     }
-    reduce_middle(&mut search.parts);
+    clauses::reduce_mids(&mut search.parts);
 }
 
 /// Compacts the clause buffer if deleted clauses take up more than half of it.

@@ -83,7 +83,7 @@ pub fn new_indices(search: &mut Search, globals: &[Var], given: &[Given]) -> Res
         return Ok(());
     }
     let count = count_with(search.globals.len(), given);
-    set_var_count(search.alloc, &mut search.parts, count)?;
+    set_var_count(&mut search.parts, count)?;
     search.analysis.set_var_count(count)?;
     search.flags.set_var_count(count)?;
     search.globals.resize(count, Var::from_index(0))?;
