@@ -16,11 +16,11 @@ use Rattle.sat_solver.specs.declared.state.SatState.TheVariants as states
 use Rattle.sat_solver.specs.solver.Calls.{Refuses}
 use Rattle.sat_solver.specs.solver.View.{answer_in, assumed_in, has_failed, context_of, is_used, known_names, parameters_in, proof_in, schedule_in, reported_in}
 
--- that the search got the decay of variables from the parameters; besides it, only the scale of clause activities
--- may have changed
+-- that the search got the decays of variables and clauses from the parameters, and nothing else has changed
 pub record SetsDecays {W L : Type 0} {G : Ghosts L} (a b : Context W L G) : Type 0 where
   pub bumped : (s : Session) → SearchInvariant s a.search → BumpEffect s a.search b.search
   pub parts : b.search.parts ≡ record a.search.parts { vsids = record a.search.parts.vsids { decay = a.config.vsids_decay } }
+  pub activity : b.search.activity ≡ record a.search.activity { decay = a.config.clause_activity_decay }
   pub search : b.search ≡ record a.search { parts = b.search.parts; activity = b.search.activity }
   pub same : b ≡ record a { search = b.search }
 
