@@ -15,7 +15,7 @@ use Rattle.sat_solver.specs.session.Due.{kept_if}
 use Rattle.sat_solver.specs.proof.Listening.{AreJustListeners, Hears, HeardAll, HasHeard, FailedOf}
 use Rattle.sat_solver.specs.session.Session.{AreAllowedSteps}
 use Rattle.sat_solver.specs.proof.Counting.{width_change, written_for}
-use Rattle.sat_solver.specs.proof.Widths.{IsNarrowedTo, KeepsWidth}
+use Rattle.sat_solver.specs.proof.Widths.{IsNarrowedTo, KeepsWidth, narrowed}
 use Rattle.sat_solver.specs.declared.proof.checker.Checked.{Checked}
 use Rattle.sat_solver.specs.declared.proof.emitted.CheckFault.{CheckFault}
 use Rattle.sat_solver.specs.declared.proof.emitted.CheckFault.TheVariants as checks
@@ -53,9 +53,15 @@ pub record AreGivenAndWidth (steps given : List Step) (now : ℕ) : Type 0 where
 abbrev pub listeners_of_checked : {L : Type 0} → Checked L → Processing L Nobody
 listeners_of_checked own = (seen_of own.checker).listeners
 
--- The checker has received these steps except for some of the newest, at the widths that were set. Since these
--- processors were added, its listeners have heard what `Heard` says.
-pub record Listened {L : Type 0} (added : List L) (steps : List Step) (Heard : Processing L Nobody → List Step → Type 0) : Type 0 where
+-- the oldest of these steps, with its hashes at this width; the checker has it in hand if it has accepted none of them
+abbrev pub oldest_at : ℕ → List Step → Option Step
+oldest_at bits [] = None
+oldest_at bits (step ∷ []) = Some (narrowed bits step)
+oldest_at bits (step ∷ before ∷ earlier) = oldest_at bits (before ∷ earlier)
+
+-- The checker has accepted these steps except for some of the newest, at the widths that were set; the oldest of these
+-- may be in hand. Since these processors were added, its listeners have heard what `Heard` says.
+pub record Listened {L : Type 0} (added : List L) (steps : List Step) (Heard : Processing L Nobody → List Step → (in_hand : Option Step) → Type 0) : Type 0 where
   pub later : List Step
   pub taken : List Step
   pub all : steps ≡ later ++ taken
@@ -64,7 +70,7 @@ pub record Listened {L : Type 0} (added : List L) (steps : List Step) (Heard : P
   pub cut : IsNarrowedTo (unended taken) written bits
   pub begun : Processing L Nobody
   pub were : AreJustListeners added begun
-  pub heard : Heard begun written
+  pub heard : Heard begun written (oldest_at bits later)
 
 -- why the checker may fail at a step that it does not reject
 abbrev pub IsCause : CheckerError → Type 0
@@ -105,15 +111,16 @@ module _ {L : Type 0} (takes : L → Notice → Result Unit Error → L → Type
 
   -- the added processors have heard what the checker announced, possibly up to a fault, and are in this state
   abbrev pub Heard : (added : List L) (now : Listeners L Nobody) → List Step → Type 0
-  Heard added now steps = Listened added steps (λ begun written. (end : Processing L Nobody) × (listeners_of end ≡ now) × HasHeard takes begun end written)
+  Heard added now steps = Listened added steps (λ begun written in_hand. (end : Processing L Nobody) × (listeners_of end ≡ now) × HasHeard takes begun end written)
 
   -- the added processors have heard everything that the checker announced of all these steps, and are in this state
   abbrev pub HeardWhole : (added : List L) (now : Listeners L Nobody) → List Step → Type 0
-  HeardWhole added now steps = (h : Listened added steps (λ begun written. (end : Processing L Nobody) × (listeners_of end ≡ now) × HeardAll takes begun end written)) × (h.later ≡ [])
+  HeardWhole added now steps = (h : Listened added steps (λ begun written in_hand. (end : Processing L Nobody) × (listeners_of end ≡ now) × HeardAll takes begun end written)) × (h.later ≡ [])
 
-  -- the checker failed with this fault, and the added processors, which heard what it announced, are in this state
+  -- the checker failed with this fault, at the oldest step that it has not accepted or, if there is none, at a pending
+  -- unit conflict; the added processors, which heard what it announced, are in this state
   abbrev pub FailsWhileHeard : (added : List L) (now : Listeners L Nobody) → List Step → CheckFault → Type 0
-  FailsWhileHeard added now steps fault = Listened added steps (λ begun written. (end : Processing L Nobody) × (listeners_of end ≡ now) × FailedOf takes begun end written fault)
+  FailsWhileHeard added now steps fault = Listened added steps (λ begun written in_hand. (end : Processing L Nobody) × (listeners_of end ≡ now) × FailedOf takes begun end written in_hand fault)
 
   -- an allowed step is accepted; an error never means that the step is wrong
   abbrev pub TakesStep : Result (Unit {0}) CheckerError → Checked L → Step → Checked L → Type 0
@@ -133,7 +140,7 @@ module _ {L : Type 0} (takes : L → Notice → Result Unit Error → L → Type
   abbrev pub FeedsOwnChecker : Result (Unit {0}) CheckerError → CheckerView (Processing L Nobody) → Step → CheckerView (Processing L Nobody) → Type 0
   FeedsOwnChecker result old step new =
       (begun : Processing L Nobody) (written : List Step) → HasAccepted (Hears takes) [] begun old written → kernel_has_failed old.kernel ≡ false → AreAllowedSteps (step ∷ written)
-      → OkOrCause result (HasAccepted (Hears takes) [] begun new (step ∷ written) × (kernel_has_failed new.kernel ≡ false)) (λ fault. FailedOf takes begun new.listeners written fault ⊎ FailedOf takes begun new.listeners (step ∷ written) fault)
+      → OkOrCause result (HasAccepted (Hears takes) [] begun new (step ∷ written) × (kernel_has_failed new.kernel ≡ false)) (λ fault. FailedOf takes begun new.listeners written (Some step) fault ⊎ FailedOf takes begun new.listeners (step ∷ written) None fault)
 
   -- Without a checker, no processor was added. A checker that has missed no step has received all steps, and the added
   -- processors have heard what it announced.

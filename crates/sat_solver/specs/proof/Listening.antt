@@ -1,5 +1,5 @@
 -- What the listeners of a solver's own checker hear. Lists of steps have the newest first.
-use Rattle.std.specs.Prelude.{◌≡◌, ◌⊎◌, List, [], Result, Ok}
+use Rattle.std.specs.Prelude.{◌≡◌, ◌⊎◌, Option, None, Some, List, [], Result, Ok}
 use Rattle.anyhow.specs.declared.error.Error.{Error}
 use Rattle.sat_base.specs.steps.Steps.{Step}
 use Rattle.sat_checker.specs.Accepts.{stored_after, ready_after}
@@ -23,6 +23,12 @@ reads_nothing old said result new = (result ≡ Ok tt) × (new ≡ old)
 abbrev pub AreJustListeners : {L : Type 0} → List L → Processing L Nobody → Type 0
 AreJustListeners listed who = listeners_of who ≡ record { processors = listed; transcripts = [] }
 
+-- that ids or a counter are exhausted by the step in hand, which comes after these steps; without one, by the empty
+-- clause of a pending unit conflict
+abbrev pub ExhaustedBy : (in_hand : Option Step) → List Step → Type 0
+ExhaustedBy None written = CountersExhausted (ready_after written)
+ExhaustedBy (Some step) written = ExhaustsCounters step (stored_after written)
+
 module _ {L : Type 0} (takes : L → Notice → Result Unit Error → L → Type 0) where
   -- every processor hears the announcement, as its relation `takes` says
   abbrev pub Hears : Processing L Nobody → Notice → Result Unit ProcessingError → Processing L Nobody → Type 0
@@ -41,9 +47,10 @@ module _ {L : Type 0} (takes : L → Notice → Result Unit Error → L → Type
     abbrev pub HasHeard : Type 0
     HasHeard = HeardAll ⊎ ((e : ProcessingError) × HeardUpTo e)
 
-    -- Why the checker failed after these steps. `OutOfMemory`: memory ran out in the checker, or a listener returned
-    -- this fault. `CounterEnd`: ids or a counter are exhausted. `Processor`: a listener returned this error.
-    abbrev pub FailedOf : CheckFault → Type 0
-    FailedOf checks.OutOfMemory = HeardAll ⊎ HeardUpTo faults.OutOfMemory
-    FailedOf checks.CounterEnd = (((step : Step) × ExhaustsCounters step (stored_after written)) ⊎ CountersExhausted (ready_after written)) × HeardAll
-    FailedOf (checks.Processor cause) = HeardUpTo (faults.ProofProcessorError cause)
+    -- Why the checker failed after these steps, at the step in hand, if there is one. `OutOfMemory`: memory ran out in
+    -- the checker, or a listener returned this fault. `CounterEnd`: the step in hand exhausts the ids or a counter.
+    -- `Processor`: a listener returned this error.
+    abbrev pub FailedOf : (in_hand : Option Step) → CheckFault → Type 0
+    FailedOf in_hand checks.OutOfMemory = HeardAll ⊎ HeardUpTo faults.OutOfMemory
+    FailedOf in_hand checks.CounterEnd = ExhaustedBy in_hand written × HeardAll
+    FailedOf in_hand (checks.Processor cause) = HeardUpTo (faults.ProofProcessorError cause)

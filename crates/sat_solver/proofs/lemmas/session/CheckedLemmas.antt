@@ -7,7 +7,10 @@ use Rattle.std.proofs.Math.Bool.{Bool-set}
 use Rattle.std.proofs.Math.Logic.{∥∥₁_elim, ∥∥₁_prop}
 use Rattle.anyhow.specs.declared.error.Error.{Error}
 use Rattle.sat_base.specs.steps.Steps.{Step, ChangeHashBits}
+use Rattle.sat_checker.specs.Accepts.{Accepts, effect, ready_after}
 use Rattle.sat_checker.specs.CheckerView.{HasAccepted, ChecksDelayed, AddsListener, kernel_of, seen_of}
+use Rattle.sat_checker.specs.Counters.{CountersExhausted}
+use Rattle.sat_checker.specs.Stored.{Stored}
 use Rattle.sat_checker.specs.KernelView.{KernelIsSettled, kernel_has_failed}
 use Rattle.sat_checker.specs.KernelView as kernels
 use Rattle.sat_checker.specs.announcements.Announcements.{Notice}
@@ -24,7 +27,7 @@ use Rattle.sat_checker.proofs.lemmas.listeners.Heard.{nobody_fails}
 use Rattle.sat_checker.specs.declared.processing.ProofProcessor.{Ghosts}
 use Rattle.sat_solver.specs.declared.proof.emitted.CheckFault.{CheckFault}
 use Rattle.sat_solver.specs.declared.proof.emitted.CheckFault.TheVariants as checks
-use Rattle.sat_solver.specs.proof.Checked.{is_end, unended, has_begun, listeners_of_checked, AreGiven, none_given, one_given, end_given, AreGivenAndWidth, FedUnless, IsFed, IsFedBy, Heard, HeardWhole, FailsWhileHeard, IsCause, cause_in, OkOrCause, TakesStep, TakesWidth, TakesDelayed, FeedsOwnChecker, AddsOwnListener, CheckerRestarts}
+use Rattle.sat_solver.specs.proof.Checked.{is_end, unended, has_begun, listeners_of_checked, AreGiven, none_given, one_given, end_given, AreGivenAndWidth, oldest_at, FedUnless, IsFed, IsFedBy, Heard, HeardWhole, FailsWhileHeard, IsCause, cause_in, OkOrCause, TakesStep, TakesWidth, TakesDelayed, FeedsOwnChecker, AddsOwnListener, CheckerRestarts}
 use Rattle.sat_solver.specs.session.Due.{kept_if}
 use Rattle.sat_solver.specs.proof.Listening.{AreJustListeners, Hears, FailedOf, reads_nothing}
 use Rattle.sat_solver.specs.proof.EmittedView.{emitted_listeners, listed_in, EmittedReturnsListeners, ReturnsIfChecked, EmittedReturnsNotifiedListeners, ReturnsNotifiedIfChecked, HasListeners, AddedAfterHearing, AddedAfterHearingAll, MadeListenersAtRestart, emitted_without_listener_error}
@@ -88,6 +91,12 @@ given_ended : (steps written : List Step) (bits : ℕ) → AreGiven [] written b
 given_ended [] written bits g e = g
 given_ended (step ∷ steps) written bits g e = given_end step steps written bits (given_ended steps written bits g) e
 
+-- a new width changes no count and no id
+width_exhausts : (bits : ℕ) (f : Stored) → CountersExhausted f ⊎ (Accepts f (ChangeHashBits bits) × CountersExhausted (effect (ChangeHashBits bits) f)) → CountersExhausted f
+width_exhausts bits f (inl h) = h
+width_exhausts bits f (inr (a, inl h)) = inl h
+width_exhausts bits f (inr (a, inr h)) = inr (record { literals = h.literals; past = h.past })
+
 module _ {L : Type 0} (takes : L → Notice → Result Unit Error → L → Type 0) where
   -- a new checker with these listeners has received no steps
   pub fed_first : (own : Checked L) (added : List L) → own.bits ≡ 64 → kernels.HasAccepted (kernel_of own.checker) [] → kernel_has_failed (kernel_of own.checker) ≡ false → kernels.KernelIsSettled (kernel_of own.checker) → AreJustListeners added (listeners_of_checked own) → IsFed takes own added []
@@ -137,14 +146,27 @@ module _ {L : Type 0} (takes : L → Notice → Result Unit Error → L → Type
 
   -- the listeners have heard what was announced before the checker failed
   pub failed_heard : (added : List L) (now : Listeners L Nobody) (steps : List Step) (fault : CheckFault) → FailsWhileHeard takes added now steps fault → Heard takes added now steps
-  failed_heard added now steps fault f = record { later = f.later; taken = f.taken; all = f.all; written = f.written; bits = f.bits; cut = f.cut; begun = f.begun; were = f.were; heard = (f.heard.0, f.heard.1, has_heard takes f.begun f.heard.0 f.written fault f.heard.2) }
+  failed_heard added now steps fault f = record { later = f.later; taken = f.taken; all = f.all; written = f.written; bits = f.bits; cut = f.cut; begun = f.begun; were = f.were; heard = (f.heard.0, f.heard.1, has_heard takes f.begun f.heard.0 f.written (oldest_at f.bits f.later) fault f.heard.2) }
 
   -- one more step that the checker did not receive
   pub heard_later : (added : List L) (now : Listeners L Nobody) (step : Step) (steps : List Step) → Heard takes added now steps → Heard takes added now (step ∷ steps)
   heard_later added now step steps h = record { later = step ∷ h.later; taken = h.taken; all = ap (λ xs. step ∷ xs) h.all; written = h.written; bits = h.bits; cut = h.cut; begun = h.begun; were = h.were; heard = h.heard }
 
+  -- if a pending unit conflict exhausts the ids, so does the next step
+  in_hand_later : (begun now : Processing L Nobody) (written : List Step) (bits : ℕ) (step : Step) (later : List Step) (fault : CheckFault) → FailedOf takes begun now written (oldest_at bits later) fault → FailedOf takes begun now written (oldest_at bits (step ∷ later)) fault
+  in_hand_later begun now written bits step later checks.OutOfMemory h = h
+  in_hand_later begun now written bits step [] checks.CounterEnd h = (inl h.0, h.1)
+  in_hand_later begun now written bits step (before ∷ earlier) checks.CounterEnd h = h
+  in_hand_later begun now written bits step later (checks.Processor cause) h = h
+
+  -- a new width exhausts no counter that was not exhausted before
+  width_in_hand : (begun now : Processing L Nobody) (written : List Step) (bits : ℕ) (fault : CheckFault) → FailedOf takes begun now written (Some (ChangeHashBits bits)) fault → FailedOf takes begun now written None fault
+  width_in_hand begun now written bits checks.OutOfMemory h = h
+  width_in_hand begun now written bits checks.CounterEnd h = (width_exhausts bits (ready_after written) h.0, h.1)
+  width_in_hand begun now written bits (checks.Processor cause) h = h
+
   failed_later : (added : List L) (now : Listeners L Nobody) (step : Step) (steps : List Step) (fault : CheckFault) → FailsWhileHeard takes added now steps fault → FailsWhileHeard takes added now (step ∷ steps) fault
-  failed_later added now step steps fault h = record { later = step ∷ h.later; taken = h.taken; all = ap (λ xs. step ∷ xs) h.all; written = h.written; bits = h.bits; cut = h.cut; begun = h.begun; were = h.were; heard = h.heard }
+  failed_later added now step steps fault h = record { later = step ∷ h.later; taken = h.taken; all = ap (λ xs. step ∷ xs) h.all; written = h.written; bits = h.bits; cut = h.cut; begun = h.begun; were = h.were; heard = (h.heard.0, h.heard.1, in_hand_later h.begun h.heard.0 h.written h.bits step h.later fault h.heard.2) }
 
   -- the width is unchanged
   pub width_kept : (old : Checked L) (bits : ℕ) → old.bits ≡ bits → TakesWidth takes (Ok tt) old old
@@ -162,8 +184,8 @@ module _ {L : Type 0} (takes : L → Notice → Result Unit Error → L → Type
         changed : IsNarrowedTo (unended steps) (ChangeHashBits bits ∷ fed.written) bits
         changed = width_changes bits (given_narrowed fed.cut)
 
-        failed : (fault : CheckFault) → FailedOf takes fed.begun (listeners_of_checked new) fed.written fault ⊎ FailedOf takes fed.begun (listeners_of_checked new) (ChangeHashBits bits ∷ fed.written) fault → FailsWhileHeard takes added (listeners_of (listeners_of_checked new)) steps fault
-        failed fault (inl h) = record { later = []; taken = steps; all = refl; written = fed.written; bits = old.bits; cut = given_narrowed fed.cut; begun = fed.begun; were = fed.were; heard = (listeners_of_checked new, refl, h) }
+        failed : (fault : CheckFault) → FailedOf takes fed.begun (listeners_of_checked new) fed.written (Some (ChangeHashBits bits)) fault ⊎ FailedOf takes fed.begun (listeners_of_checked new) (ChangeHashBits bits ∷ fed.written) None fault → FailsWhileHeard takes added (listeners_of (listeners_of_checked new)) steps fault
+        failed fault (inl h) = record { later = []; taken = steps; all = refl; written = fed.written; bits = old.bits; cut = given_narrowed fed.cut; begun = fed.begun; were = fed.were; heard = (listeners_of_checked new, refl, width_in_hand fed.begun (listeners_of_checked new) fed.written bits fault h) }
         failed fault (inr h) = record { later = []; taken = steps; all = refl; written = ChangeHashBits bits ∷ fed.written; bits = bits; cut = changed; begun = fed.begun; were = fed.were; heard = (listeners_of_checked new, refl, h) }
 
     -- the pending unit conflict was reported
@@ -211,7 +233,7 @@ module _ {L : Type 0} (takes : L → Notice → Result Unit Error → L → Type
           going = h.1;
         }
 
-        failed : (fault : CheckFault) → FailedOf takes f.begun (listeners_of_checked new) f.written fault ⊎ FailedOf takes f.begun (listeners_of_checked new) (narrowed mid.bits step ∷ f.written) fault → FailsWhileHeard takes added (listeners_of (listeners_of_checked new)) (step ∷ steps) fault
+        failed : (fault : CheckFault) → FailedOf takes f.begun (listeners_of_checked new) f.written (Some (narrowed mid.bits step)) fault ⊎ FailedOf takes f.begun (listeners_of_checked new) (narrowed mid.bits step ∷ f.written) None fault → FailsWhileHeard takes added (listeners_of (listeners_of_checked new)) (step ∷ steps) fault
         failed fault (inl h) = record { later = step ∷ []; taken = steps; all = refl; written = f.written; bits = mid.bits; cut = then_narrowed f.cut; begun = f.begun; were = f.were; heard = (listeners_of_checked new, refl, h) }
         failed fault (inr h) = record { later = []; taken = step ∷ steps; all = refl; written = narrowed mid.bits step ∷ f.written; bits = mid.bits; cut = cut_all; begun = f.begun; were = f.were; heard = (listeners_of_checked new, refl, h) }
 

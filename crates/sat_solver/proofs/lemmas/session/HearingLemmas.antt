@@ -58,15 +58,15 @@ module _ {L : Type 0} (takes : L → Notice → Result Unit Error → L → Type
   heard_all now written None h = inr h
 
   -- what listeners have heard when the checker failed
-  pub has_heard : (now : Processing L Nobody) (written : List Step) (fault : CheckFault) → FailedOf takes begun now written fault → HasHeard takes begun now written
-  has_heard now written checks.OutOfMemory h = elim h [ inl a ↦ inl a | inr b ↦ inr (faults.OutOfMemory, b) ]
-  has_heard now written checks.CounterEnd h = inl h.1
-  has_heard now written (checks.Processor cause) h = inr (faults.ProofProcessorError cause, h)
+  pub has_heard : (now : Processing L Nobody) (written : List Step) (in_hand : Option Step) (fault : CheckFault) → FailedOf takes begun now written in_hand fault → HasHeard takes begun now written
+  has_heard now written in_hand checks.OutOfMemory h = elim h [ inl a ↦ inl a | inr b ↦ inr (faults.OutOfMemory, b) ]
+  has_heard now written in_hand checks.CounterEnd h = inl h.1
+  has_heard now written in_hand (checks.Processor cause) h = inr (faults.ProofProcessorError cause, h)
 
   module _ (old new : CheckerView (Processing L Nobody)) (written : List Step) (going : has_failed old ≡ false) where
     -- the checker failed before it announced the step, or while it did
     abbrev pub Broke : Step → CheckFault → Type 0
-    Broke step fault = FailedOf takes begun new.listeners written fault ⊎ FailedOf takes begun new.listeners (step ∷ written) fault
+    Broke step fault = FailedOf takes begun new.listeners written (Some step) fault ⊎ FailedOf takes begun new.listeners (step ∷ written) None fault
 
     up_to : (step : Step) (e : ProcessingError) → BreaksAt (Hears takes) [] begun e new step written → HeardUpTo takes begun new.listeners written e ⊎ HeardUpTo takes begun new.listeners (step ∷ written) e
     up_to step e (inl b) = inl (inr b.1.heard)
@@ -85,7 +85,7 @@ module _ {L : Type 0} (takes : L → Notice → Result Unit Error → L → Type
         → OkOrCause r (HasAccepted (Hears takes) [] begun new (step ∷ written) × (has_failed new ≡ false)) (Broke step)
     answered (Ok x) step may a = (a.1.valid, a.1.goes_on)
     answered (Err errors.OutOfMemory) step may a = (tt, starved_at step a.1)
-    answered (Err errors.CounterEnd) step may a = (tt, inl (inl (step, a.1), a.2.heard))
+    answered (Err errors.CounterEnd) step may a = (tt, inl (a.1, a.2.heard))
     answered (Err (errors.ProofProcessorError cause)) step may a = (tt, up_to step (faults.ProofProcessorError cause) a.1)
     answered (Err errors.CheckFailed) step may a = absurd (a.1 (sessions_are_accepted (step ∷ written) may).0.1)
     answered (Err errors.HasFailed) step may a = absurd (true≢false (sym a.0 ∙ going))
@@ -93,10 +93,10 @@ module _ {L : Type 0} (takes : L → Notice → Result Unit Error → L → Type
 
     -- the checker's answer when it reports a pending unit conflict
     pub answered_delayed : (r : Result (Unit {0}) CheckerError) → AnswersDelayed (Hears takes) [] begun r old new written
-        → OkOrCause r (HasAccepted (Hears takes) [] begun new written × (has_failed new ≡ false) × KernelIsSettled new.kernel) (FailedOf takes begun new.listeners written)
+        → OkOrCause r (HasAccepted (Hears takes) [] begun new written × (has_failed new ≡ false) × KernelIsSettled new.kernel) (FailedOf takes begun new.listeners written None)
     answered_delayed (Ok x) a = (a.2, a.3, a.4)
     answered_delayed (Err errors.OutOfMemory) a = (tt, inr (inr a.3.heard))
-    answered_delayed (Err errors.CounterEnd) a = (tt, (inr a.2, a.3.heard))
+    answered_delayed (Err errors.CounterEnd) a = (tt, (a.2, a.3.heard))
     answered_delayed (Err (errors.ProofProcessorError cause)) a = (tt, inr a.3.heard)
     answered_delayed (Err errors.HasFailed) a = absurd (true≢false (sym a.0 ∙ going))
     answered_delayed (Err e) a = absurd a
