@@ -1,3 +1,4 @@
+pub mod StoppingLemmas
 pub mod FormulaLemmas
 pub mod SpeltLemmas
 pub mod RenamedLemmas

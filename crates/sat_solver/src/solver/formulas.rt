@@ -1,7 +1,9 @@
 //! Adds formulas and texts of formulas, clause by clause.
-ghost use Rattle.std.specs.Prelude.{◌≡◌, ◌≤◌, ◌+◌, false};
+ghost use Rattle.std.specs.Io.{ReadsAtMost};
+ghost use Rattle.std.specs.Prelude.{◌≡◌, ◌<◌, ◌≤◌, ◌+◌, false, IfOk};
 ghost use Rattle.sat_base.specs.device.Device.{most_reads};
-ghost use Rattle.sat_base.specs.dimacs.Parsing.{all_taken, no_progress};
+ghost use Rattle.sat_base.specs.dimacs.Faults.{ReadsNext};
+ghost use Rattle.sat_base.specs.dimacs.Parsing.{all_taken, no_progress, ReportsEnded, StopsReading};
 ghost use Rattle.sat_solver.specs.solver.Formulas.{AddsFormula, AddsText, AddsFormulaRead, text_fault, is_solver_out_of_memory};
 ghost use Rattle.sat_solver.specs.solver.Whole.{IsSolver};
 
@@ -9,6 +11,7 @@ use crate::SolverError;
 use crate::solver::Solver;
 use sat_base::{CnfFormula, CountedRead, CountedWrite, DimacsError, DimacsParser};
 use sat_checker::ProofProcessor;
+use std::io;
 
 /// The number of bytes that are requested at a time.
 const PIECE: usize = 4096;
@@ -40,6 +43,22 @@ fn is_want(error: DimacsError) -> bool
         DimacsError::Read => false,
         DimacsError::HasFailed => false,
     }
+}
+
+/// Reads the next bytes of the text that `parser` receives, or none if a line that begins with `%` has ended the text.
+fn read_next<R: CountedRead>(
+    parser: &DimacsParser,
+    reader: &mut R,
+    room: &mut [u8],
+) -> io::Result<usize>
+    ensures bound { ReadsAtMost result room.new }
+    ensures reads { ReadsNext result room.new parser.now.fed (R.seen reader.old) (R.seen reader.new) }
+    ensures goes_on { IfOk result (λ n. 0 < n → ReportsEnded false parser.now) }
+{
+    if parser.has_ended() {
+        return Ok(0);
+    }
+    reader.read_counted(room)
 }
 
 impl<W: CountedWrite + Drop, P: ProofProcessor> Solver<W, P> {
@@ -91,11 +110,12 @@ impl<W: CountedWrite + Drop, P: ProofProcessor> Solver<W, P> {
         requires fresh { parser.old ≡ no_progress }
         ensures solver { IsSolver self.new }
         ensures adds { AddsText W.seen result self.old self.new (R.seen reader.old) (R.seen reader.new) }
+        ensures stops { StopsReading (R.seen reader.old) (R.seen reader.new) }
         ensures reads { (R.seen reader.new).calls ≤ (R.seen reader.old).calls + most_reads }
     {
         let mut piece = [0; PIECE];
         for _ in 0..MAX_READS {
-            match reader.read_counted(&mut piece) {
+            match read_next(parser, reader, &mut piece) {
                 Ok(0) => {
                     let answer = parser.finish();
                     return self.add_read(parser, answer);
@@ -113,8 +133,8 @@ impl<W: CountedWrite + Drop, P: ProofProcessor> Solver<W, P> {
     /// Adds the clauses of a text in DIMACS CNF, in order. The text is read in chunks of 4,096 bytes.
     ///
     /// The text may have one header, before its first clause; a header anywhere else is malformed. The numbers in the
-    /// header are ignored, and its variable count introduces no name. A line that begins with `%` ends the text: the
-    /// rest is read, but ignored. A text that ends inside a clause is malformed.
+    /// header are ignored, and its variable count introduces no name. A line that begins with `%` ends the text, and
+    /// nothing is read after it. A text that ends inside a clause is malformed.
     ///
     /// Clauses before an error, or before a clause that is refused, remain. The solver can still be used if the text is
     /// malformed (`Malformed`), has a number above the limit (`VariableLimit`), or cannot be read (`Read`).
@@ -122,6 +142,8 @@ impl<W: CountedWrite + Drop, P: ProofProcessor> Solver<W, P> {
         requires { IsSolver self.old }
         ensures solver { IsSolver self.new }
         ensures adds { AddsText W.seen result self.old self.new (R.seen reader.old) (R.seen reader.new) }
+        // Nothing is read after the line that ends the text.
+        ensures stops { StopsReading (R.seen reader.old) (R.seen reader.new) }
         ensures reads { (R.seen reader.new).calls ≤ (R.seen reader.old).calls + most_reads }
     {
         if self.failed {

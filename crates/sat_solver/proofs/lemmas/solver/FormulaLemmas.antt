@@ -2,16 +2,18 @@
 use Rattle.std.proofs.Common.{ℕ, ◌+◌, ◌≤◌, ◌≡◌, ◌⊎◌, ◌∙◌, Bool, true, false, Result, Ok, Err, List, [], ◌∷◌, ◌++◌, append_assoc, length, refl, sym, ap, subst, inl, inr}
 use Rattle.std.proofs.lemmas.Bool.{true≢false}
 use Rattle.std.proofs.lemmas.List.{append-nil}
-use Rattle.sat_base.specs.device.Device.{Reader, Writer, GaveAll, GaveEnough, GavePrefix, ReadFails}
+use Rattle.sat_base.specs.device.Device.{Reader, Writer, GaveEnough, GavePrefix, ReadFails}
 use Rattle.sat_base.specs.dimacs.Dimacs.{dimacs, up_to_last_blank}
 use Rattle.sat_base.specs.dimacs.Parsing.{Progress, with_fed, clauses_read, all_taken, FeedsPiece, Finishes, IsSoundSoFar, IsSoundText}
 use Rattle.sat_base.specs.declared.dimacs.error.DimacsError.{DimacsError}
 use Rattle.sat_base.specs.declared.dimacs.error.DimacsError.TheVariants as texts
-use Rattle.sat_base.proofs.lemmas.device.Given.{enough_all, enough_front}
+use Rattle.sat_base.proofs.lemmas.device.Given.{enough_front}
 use Rattle.sat_base.proofs.lemmas.dimacs.Parsed.{HasAccepted as HasFed}
+use Rattle.sat_base.proofs.lemmas.dimacs.ReadToEnd.{ReadToEnd}
 use Rattle.sat_checker.specs.DimacsView.{AreRead, FailsAfter}
 use Rattle.sat_checker.specs.ProofView.{NoReadFailed}
-use Rattle.sat_checker.proofs.lemmas.checker.Texts.{fed_more, open_read, read_by_piece, read_by_end, clean_by_end, fails_by_piece, fails_by_end}
+use Rattle.sat_checker.proofs.lemmas.checker.Texts.{fed_more, open_read, read_by_piece, fails_by_piece}
+use Rattle.sat_solver.proofs.lemmas.solver.StoppingLemmas.{read_at_end, clean_at_end, fails_at_end}
 use Rattle.sat_checker.specs.declared.processing.ProofProcessor.{Ghosts}
 use Rattle.sat_solver.specs.declared.error.SolverError.{SolverError}
 use Rattle.sat_solver.specs.declared.error.SolverError.TheVariants as errors
@@ -149,21 +151,21 @@ module _ {W L : Type 0} {G : Ghosts L} (seen : W → Writer) where
 
   -- the text has ended
   pub end_answers : (result : Result Unit SolverError) (answer : Result Unit DimacsError) (old cur new : Solver W L G) (from to : Reader) (text : List ℕ) (p q : Progress) → old.failed ≡ false → HasFed text p → Finishes answer p q → NoReadFailed from to
-      → GaveAll from to text → AddsAll seen old p.taken cur → AddsFormulaRead seen result answer q cur new → AddsText seen result old new from to
+      → ReadToEnd from to text text → AddsAll seen old p.taken cur → AddsFormulaRead seen result answer q cur new → AddsText seen result old new from to
   end_answers (Ok x) answer old cur new from to text p q going is f n g added a =
       let first : AddsAll seen old q.taken cur = subst (λ cs. AddsAll seen old cs cur) (sym (taken_by_end answer p q f)) added in
       record {
         going = going;
         quiet = n;
         clauses = clauses_read q;
-        read = enough_all from to _ text g (clean_by_end text p q is (subst (λ (z : Result Unit DimacsError). Finishes z p q) a.2.0 f));
+        read = clean_at_end from to text p q is (subst (λ (z : Result Unit DimacsError). Finishes z p q) a.2.0 f) g;
         added = subst (λ cs. AddsAll seen old cs new) (sym a.1) (adds_joined old cur new q.taken a.0 first a.2.1);
       }
   end_answers (Err e) answer old cur new from to text p q going is f n g added a =
       answers_text old cur going q (subst (λ cs. AddsAll seen old cs cur) (sym (taken_by_end answer p q f)) added) e answer new from to n
-      (λ d s. fails_by_end d from to text p q is (subst (λ (z : Result Unit DimacsError). Finishes z p q) s f) n g)
+      (λ d s. fails_at_end d from to text p q is (subst (λ (z : Result Unit DimacsError). Finishes z p q) s f) n g)
       (λ s. true≢false (sym (subst (λ (z : Result Unit DimacsError). Finishes z p q) s f).0 ∙ ap (λ (z : Progress). z.stopped) is))
-      (enough_all from to _ text g (read_by_end answer text p q is f))
+      (read_at_end answer from to text p q is f g)
       a
 
   -- a read failed
