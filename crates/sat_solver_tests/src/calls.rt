@@ -232,14 +232,10 @@ fn ask<W: CountedWrite + Drop, P: ProofProcessor>(solver: &mut Solver<W, P>, sat
     }
 }
 
-fn has_model<W: CountedWrite + Drop, P: ProofProcessor>(
-    alloc: Global,
-    solver: &Solver<W, P>,
-    line: &[i64],
-) -> Kind
+fn has_model<W: CountedWrite + Drop, P: ProofProcessor>(solver: &Solver<W, P>, line: &[i64]) -> Kind
     requires { IsSolver solver.now }
 {
-    match solver.model(alloc) {
+    match solver.model() {
         Ok(Some(lits)) => right_if(are(&lits, line)),
         Ok(None) => Kind::Wrong,
         Err(error) => kind_of(&error),
@@ -255,20 +251,16 @@ fn has_core<W: CountedWrite + Drop, P: ProofProcessor>(solver: &Solver<W, P>, co
     }
 }
 
-fn is_unknown<W: CountedWrite + Drop, P: ProofProcessor>(
-    alloc: Global,
-    solver: &Solver<W, P>,
-) -> Kind
+fn is_unknown<W: CountedWrite + Drop, P: ProofProcessor>(solver: &Solver<W, P>) -> Kind
     requires { IsSolver solver.now }
 {
-    match solver.model(alloc) {
+    match solver.model() {
         Ok(model) => right_if(model.is_none() && solver.failed_core().is_none()),
         Err(error) => kind_of(&error),
     }
 }
 
 fn ask_for_model<W: CountedWrite + Drop, P: ProofProcessor>(
-    alloc: Global,
     solver: &mut Solver<W, P>,
     lits: &mut Vec<Lit>,
     assumed: &[i64],
@@ -279,7 +271,7 @@ fn ask_for_model<W: CountedWrite + Drop, P: ProofProcessor>(
 {
     let under = assume(solver, lits, assumed);
     let answer = ask(solver, true);
-    let known = has_model(alloc, solver, line);
+    let known = has_model(solver, line);
     first_of(&[under, answer, known, assume(solver, lits, &[])])
 }
 
@@ -383,9 +375,9 @@ fn inspect<W: CountedWrite + Drop + Made, P: ProofProcessor + Made>(
     ensures { IsSolver solver.new }
 {
     match call {
-        Call::Model(line) => has_model(alloc, solver, *line),
+        Call::Model(line) => has_model(solver, *line),
         Call::Core(core) => has_core(solver, *core),
-        Call::Unknown => is_unknown(alloc, solver),
+        Call::Unknown => is_unknown(solver),
         Call::Counts(counts) => has_counts(solver.progress(), *counts),
         Call::Steps(rounds) => has_steps(solver.progress(), solver.steps(), *rounds),
         Call::Restarts(least, most) => has_restarts(solver.progress(), *least, *most),
@@ -420,7 +412,7 @@ fn make<W: CountedWrite + Drop + Made, P: ProofProcessor + Made>(
         Call::Set(update) => done(solver.config(update)),
         Call::Allow(rounds) => allow(solver, *rounds),
         Call::Solve(sat) => ask(solver, *sat),
-        Call::Sat(assumed, line) => ask_for_model(alloc, solver, lits, *assumed, *line),
+        Call::Sat(assumed, line) => ask_for_model(solver, lits, *assumed, *line),
         Call::Unsat(assumed, core) => ask_for_core(solver, lits, *assumed, *core),
         _ => inspect(alloc, solver, call),
     }

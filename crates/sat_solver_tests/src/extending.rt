@@ -18,13 +18,12 @@ fn add_unit<F: ExtendFormula>(formula: &mut F) -> Result<Lit, F::Error>
 
 /// Whether the model consists of the two literals `wanted`.
 fn is_model<W: CountedWrite + Drop>(
-    alloc: Global,
     solver: &Solver<W>,
     wanted: [Lit; 2],
 ) -> Result<bool, SolverError>
     requires { IsSolver solver.now }
 {
-    match solver.model(alloc)? {
+    match solver.model()? {
         Some(lits) => Ok(lits.as_slice() == wanted.as_slice()),
         None => Ok(false),
     }
@@ -35,11 +34,11 @@ fn is_model<W: CountedWrite + Drop>(
 struct Units;
 
 impl<W: CountedWrite + Drop> Play<Solver<W>, Result<bool, SolverError>> for Units {
-    fn play(self, alloc: Global, solver: &mut Solver<W>) -> Result<bool, SolverError> {
+    fn play(self, _alloc: Global, solver: &mut Solver<W>) -> Result<bool, SolverError> {
         let one = add_unit(solver)?;
         let two = add_unit(solver)?;
         let sat = solver.solve()?;
-        Ok(is_model(alloc, solver, [one, two])? && sat)
+        Ok(is_model(solver, [one, two])? && sat)
     }
 }
 

@@ -28,7 +28,7 @@ pub fn ask<W: CountedWrite + Drop>(
         Err(SolverError::Interrupted) => return Ok(None),
         Err(error) => return Err(error),
     }
-    if let Some(model) = solver.model(alloc)? {
+    if let Some(model) = solver.model()? {
         return Ok(Some(Ok(model)));
     }
     match solver.failed_core() {

@@ -16,7 +16,6 @@ use std::alloc::{AllocError, Global};
 fn push_model<C: CountedWrite + Drop>(
     text: &mut Vec<u8>,
     solver: &Solver<C>,
-    alloc: Global,
 ) -> Result<(), RunFault>
     requires ready { IsReadySolver solver.now }
     requires sat { AnswerIs solver.now.state Answer.Sat }
@@ -24,7 +23,7 @@ fn push_model<C: CountedWrite + Drop>(
     ensures right { OnOk result (IsReportedRight Answer.Sat solver.now) }
     ensures memory { IfErr result (λ e. e ≡ RunFault.OutOfMemory) }
 {
-    match solver.model(alloc) {
+    match solver.model() {
         Ok(Some(line)) => Ok(push_sat(text, &line)?),
         Ok(None) => unreachable!(),
         Err(_) => Err(RunFault::OutOfMemory),
@@ -54,7 +53,6 @@ fn push_core<C: CountedWrite + Drop>(
 /// A buffer for the texts of answers.
 #[derive(Drop)]
 pub struct Page {
-    alloc: Global,
     /// The literals of one core.
     core: Vec<Lit>,
     /// The text of one answer.
@@ -68,7 +66,6 @@ impl Page {
         ensures text { result.text.items ≡ [] }
     {
         Page {
-            alloc,
             core: Vec::new(alloc),
             text: Vec::new(alloc),
         }
@@ -88,7 +85,7 @@ impl Page {
     {
         self.text.clear();
         match answer {
-            Answer::Sat => push_model(&mut self.text, solver, self.alloc),
+            Answer::Sat => push_model(&mut self.text, solver),
             Answer::Unsat => Ok(push_core(&mut self.text, solver, &mut self.core)?),
             Answer::Unknown => Ok(push_unknown(&mut self.text)?),
         }

@@ -10,17 +10,16 @@ use crate::solver::Solver;
 use crate::state::SatState;
 use sat_base::{CountedWrite, Lit};
 use sat_checker::ProofProcessor;
-use std::alloc::Global;
 
 impl<W: CountedWrite + Drop, P: ProofProcessor> Solver<W, P> {
     /// Returns the literals of a model, one for every name in use, in increasing order.
-    fn model_lits(&self, alloc: Global) -> Result<Vec<Lit>, SolverError>
+    fn model_lits(&self) -> Result<Vec<Lit>, SolverError>
         requires solver { IsSolver self.now }
         requires going { self.now.failed ≡ false }
         ensures line { IfOk result (λ lits. lits.items ≡ line_in self.now) }
         ensures memory { IfErr result (λ e. e ≡ errors.OutOfMemory) }
     {
-        let mut lits = Vec::new(alloc);
+        let mut lits = Vec::new(self.core.search.alloc);
         let values = self.core.search.parts.assignment.assignment();
         named_lits(&self.names, values, &mut lits)?;
         Ok(lits)
@@ -31,7 +30,7 @@ impl<W: CountedWrite + Drop, P: ProofProcessor> Solver<W, P> {
     /// There is a model only after a `solve` that returned true, and only until a clause or assumptions are accepted.
     /// Names that were introduced after this `solve` are false, except those that `observe_internal_vars` introduced,
     /// which have the values of their variables. The solver can still be used after `OutOfMemory`.
-    pub fn model(&self, alloc: Global) -> Result<Option<Vec<Lit>>, SolverError>
+    pub fn model(&self) -> Result<Option<Vec<Lit>>, SolverError>
         requires { IsSolver self.now }
         ensures model { IfOk result (λ o. MatchOption o (HasNone self.now) (λ lits. IsModel self.now lits.items)) }
         ensures fails { IfErr result (λ e. ModelFails e self.now) }
@@ -43,7 +42,7 @@ impl<W: CountedWrite + Drop, P: ProofProcessor> Solver<W, P> {
             SatState::Unknown => Ok(None),
             SatState::UnsatUnderAssumptions => Ok(None),
             SatState::Unsat => Ok(None),
-            SatState::Sat => Ok(Some(self.model_lits(alloc)?)),
+            SatState::Sat => Ok(Some(self.model_lits()?)),
         }
     }
 
