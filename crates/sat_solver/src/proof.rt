@@ -40,15 +40,19 @@ use sat_base::{CountedWrite, ProofStep};
 use sat_checker::{Nobody, ProofProcessor};
 use std::alloc::Global;
 use std::{io, mem};
+use thiserror::Error;
 
 /// Why a step was not written, or not checked.
-#[derive(Drop)]
+#[derive(Debug, Drop, Error)]
 pub enum ProofError {
     /// A call to the target failed. The underlying error is stored with the proof.
+    #[error("a call to the proof's target failed")]
     Write(Kept<io::Error>),
     /// The memory for the step's text or its shortened hashes could not be allocated. The step was not made.
+    #[error("out of memory")]
     OutOfMemory,
     /// The solver's own checker failed. If it failed at a step, the step was made.
+    #[error("the solver's own checker failed")]
     Check(CheckFault),
 }
 

@@ -13,22 +13,30 @@ use sat_store::StoreError;
 use std::alloc::AllocError;
 use std::io;
 use std::marker::Model;
+use thiserror::Error;
 
 /// The kind of a fault.
-#[derive(Drop)]
+#[derive(Debug, Drop, Error)]
 pub enum FaultKind {
     /// A call to the target failed.
+    #[error("a call to the proof's target failed")]
     Write(Kept<io::Error>),
     /// A listener returned a fault.
+    #[error("a listener returned an error")]
     Processor(Kept<anyhow::Error>),
+    #[error("out of memory")]
     OutOfMemory,
+    #[error("the store of clauses is full")]
     StoreFull,
+    #[error("no variable is left")]
     VariableLimit,
+    #[error("a counter is at its end")]
     CounterEnd,
 }
 
 /// Why a call failed. Contracts describe a fault as the error that the solver reports.
-#[derive(Drop)]
+#[derive(Debug, Drop, Error)]
+#[error("{kind}")]
 pub struct Fault {
     kind: FaultKind,
 }

@@ -13,14 +13,18 @@ use crate::session::roll::Roll;
 use sat_base::{HashBits, ProofStep};
 use sat_checker::{CheckerError, Nobody, ProofProcessor};
 use std::alloc::Global;
+use thiserror::Error;
 
 /// Why a solver's own checker failed.
-#[derive(Drop)]
+#[derive(Debug, Drop, Error)]
 pub enum CheckFault {
+    #[error("out of memory")]
     OutOfMemory,
     /// No id is left, or the count of a clause has reached its maximum.
+    #[error("a counter is at its end")]
     CounterEnd,
     /// A listener returned a fault, which is stored with the steps.
+    #[error("a listener returned an error")]
     Processor(Kept<anyhow::Error>),
 }
 

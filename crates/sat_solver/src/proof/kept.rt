@@ -2,6 +2,7 @@
 ghost use Rattle.std.specs.Prelude.{◌≡◌};
 ghost use Rattle.std.specs.Borrow.{ftrue};
 
+use std::fmt;
 use std::marker::{Model, PhantomData};
 
 /// An error as a ghost. The error itself is stored elsewhere.
@@ -17,6 +18,13 @@ impl<T> Model for Kept<T> {
     ghost view = { λ k. k.cause };
 
     ghost also_owns = { λ _. ftrue };
+}
+
+impl<T> fmt::Debug for Kept<T> {
+    /// Writes the name of the type. The error itself is stored elsewhere.
+    fn fmt<W: fmt::Write>(&self, f: &mut fmt::Formatter<W>) -> fmt::Result {
+        write!(f, "Kept")
+    }
 }
 
 impl<T> Kept<T> {

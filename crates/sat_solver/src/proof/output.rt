@@ -12,13 +12,16 @@ use crate::proof::native::{try_write_at, write_at};
 use sat_base::{CountedWrite, HashBits, ProofStep, StepWriter};
 use std::alloc::AllocError;
 use std::io;
+use thiserror::Error;
 
 /// Why the text of a step was not written.
-#[derive(Drop)]
+#[derive(Debug, Drop, Error)]
 pub enum OutputError {
     /// A call to the writer failed.
+    #[error("a call to the writer failed")]
     Write(io::Error),
     /// Memory ran out, and nothing of the step's text was written.
+    #[error("out of memory")]
     OutOfMemory,
 }
 

@@ -4,18 +4,23 @@ use crate::proof::emitted::CheckFault;
 use crate::proof::kept::Kept;
 use std::alloc::{AllocError, AllocFailed};
 use std::io;
+use thiserror::Error;
 
 /// Why an operation on names failed.
-#[derive(Drop)]
+#[derive(Debug, Drop, Error)]
 pub enum NameError {
     /// No variable is left.
+    #[error("no variable is left")]
     VariableLimit,
+    #[error("out of memory")]
     OutOfMemory,
 
     /// A call to the proof's target failed. The underlying error is stored with the proof.
+    #[error("a call to the proof's target failed")]
     Write(Kept<io::Error>),
 
     /// The solver's own checker failed.
+    #[error("the solver's own checker failed")]
     Check(CheckFault),
 }
 
