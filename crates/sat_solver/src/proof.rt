@@ -73,8 +73,7 @@ impl From<CheckFault> for ProofError {
 pub struct Proof<W, P: ProofProcessor = Nobody> {
     alloc: Global,
     made: EmittedSteps<P>,
-    /// The counts that determine the width of hashes. They are updated only while a target is open or there is
-    /// a checker.
+    /// The counts that determine the width of hashes, whether a target is open or not.
     counting: Counting,
     lists: CutLists,
     /// The buffer in which DRAT lines are assembled.
@@ -92,7 +91,7 @@ impl<W: CountedWrite + Drop, P: ProofProcessor> Proof<W, P> {
         ensures checked { is_checked result ≡ false }
         ensures taking { has_missed_step result ≡ false }
         ensures asked { has_asked result ≡ false }
-        ensures target { target_of W.seen result ≡ Closed }
+        ensures target { target_of W.seen result ≡ Closed nothing_counted }
     {
         Proof {
             alloc,
@@ -406,6 +405,18 @@ impl<W: CountedWrite + Drop, P: ProofProcessor> Proof<W, P> {
         }
     }
 
+    /// Counts a step that is not written because no target is open.
+    #[inline(always)]
+    fn count(&mut self, step: &ProofStep<'_>)
+        requires shut { is_open (target_of W.seen self.old) ≡ false }
+        requires width { KeepsWidth (step_of step.now) }
+        ensures made { self.new.made ≡ self.old.made }
+        ensures asked { has_asked self.new ≡ has_asked self.old }
+        ensures takes { TargetTakes (target_of W.seen self.old) (step_of step.now ∷ []) (target_of W.seen self.new) }
+    {
+        self.counting = self.counting.with(step);
+    }
+
     /// Makes a step, which the session must allow: writes the step to the open target, if any, and passes it to the
     /// checker, if any. If the memory for the step's text or its hashes cannot be allocated, the step is not made.
     #[inline(always)]
@@ -417,6 +428,7 @@ impl<W: CountedWrite + Drop, P: ProofProcessor> Proof<W, P> {
         ensures records { EmitsAsAnswered W.seen result (step_of step.now ∷ []) self.old self.new }
     {
         if !self.made.is_checked() && !self.is_open() {
+            self.count(step);
             return self.take(step, &ProofStep::End);
         }
         if has_hashes(step) {

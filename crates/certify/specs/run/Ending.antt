@@ -4,6 +4,7 @@ use Rattle.sat_base.specs.device.Device.{Writer, WriterAccepts}
 use Rattle.sat_base.specs.steps.Steps.{End}
 use Rattle.sat_base.specs.device.Sink.{empty_sink}
 use Rattle.sat_solver.specs.declared.proof.format.ProofFormat.TheVariants.{Varisat}
+use Rattle.sat_solver.specs.declared.proof.hash_bits.Counting.{Counting}
 use Rattle.sat_solver.specs.proof.Counting.{nothing_counted as uncounted}
 use Rattle.sat_solver.specs.session.Making.{ComesBySteps, BreaksEmitting}
 use Rattle.sat_solver.specs.proof.ProofView.{Closed, Open, GivesWriter, TakesAll, is_open, target_of}
@@ -21,7 +22,7 @@ use Rattle.certify.specs.run.Quiet.{Proof, Solver}
 
 -- that the proof has a target, open or broken
 abbrev pub HasTarget : {C : Type 0} → (C → Writer) → Solver C → Type 0
-HasTarget seen s = target_of seen (proof_in s) ≡ Closed → ⊥
+HasTarget seen s = (c : Counting) → target_of seen (proof_in s) ≡ Closed c → ⊥
 
 -- that the target of the proof is open
 abbrev pub HasOpenTarget : {C : Type 0} → (C → Writer) → Solver C → Type 0

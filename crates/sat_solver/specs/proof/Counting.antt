@@ -63,8 +63,13 @@ width_change before now = if nat_eq before now then [] else ChangeHashBits now �
 abbrev pub written_for : ℕ → ℕ → Step → List Step
 written_for before now step = narrowed now step ∷ width_change before now
 
--- Steps that were made, what was written for them, and how the count changed. Lists have the newest step first.
+-- Steps that were made, what is written for them in the format `Varisat`, and how the count changed. Lists have the newest step first.
 pub data TruncatesHashes : Counting → List Step → List Step → Counting → Type 0 where
   none_made : {c : Counting} → TruncatesHashes c [] [] c
   ask_begun : {c d : Counting} {made written : List Step} → TruncatesHashes c made written d → TruncatesHashes c made written (record d { solving = true })
   one_made : {c d : Counting} {made written : List Step} (step : Step) → KeepsWidth step → TruncatesHashes c made written d → TruncatesHashes c (step ∷ made) (written_for d.bits (counted step d).bits step ++ written) (counted step d)
+
+-- the second counts are those after these steps, if they were the first before
+pub record CountsSteps (c : Counting) (made : List Step) (d : Counting) : Type 0 where
+  pub written : List Step
+  pub cuts : TruncatesHashes c made written d

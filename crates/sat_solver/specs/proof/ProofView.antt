@@ -4,7 +4,7 @@ use Rattle.sat_base.specs.device.Device.{Writer, WriterAccepts, WriterFails}
 use Rattle.sat_base.specs.device.Sink.{Sink, SinkIsFlushed}
 use Rattle.sat_base.specs.steps.Steps.{Step, End}
 use Rattle.sat_checker.specs.declared.processing.ProofProcessor.{Ghosts}
-use Rattle.sat_solver.specs.proof.Counting.{TruncatesHashes}
+use Rattle.sat_solver.specs.proof.Counting.{TruncatesHashes, CountsSteps}
 use Rattle.sat_solver.specs.proof.ListenerErrors.{IsListenerError}
 use Rattle.sat_solver.specs.proof.EmittedView as mades
 use Rattle.sat_solver.specs.proof.OutputView.{is_lines, text_in, AreSpeltInFormat, SendsSteps, output_format, output_sink}
@@ -18,9 +18,9 @@ use Rattle.sat_solver.specs.declared.proof.Proof.{Proof}
 use Rattle.sat_solver.specs.declared.proof.ProofError.{ProofError}
 use Rattle.sat_solver.specs.declared.proof.ProofError.TheVariants.{Write, OutOfMemory, Check}
 
--- where the text of the steps is written
+-- where the text of the steps is written, and the counts that determine the width of the next step's hashes
 pub data Target : Type 0 where
-  Closed : Target
+  Closed : Counting → Target  -- nowhere; the counts are those that a target would have
   Open : ProofFormat → Counting → Sink → Target
   Broken : Writer → Target  -- a call of it failed, and it is not used again
 
@@ -29,9 +29,9 @@ abbrev pub with_fault : Bool → ProofFormat → Counting → Sink → Target
 with_fault false f c s = Open f c s
 with_fault true f c s = Broken s.writer
 
--- the target of an output, given whether a call of it failed, and the count that determines its width
+-- the target of an output, given whether a call of it failed, and the counts that determine the width
 abbrev pub target_in : {W : Type 0} → (W → Writer) → Option (ProofOutput W) → Bool → Counting → Target
-target_in seen None broken c = Closed
+target_in seen None broken c = Closed c
 target_in seen (Some o) broken c = with_fault broken (output_format o) c (output_sink seen o)
 
 -- where the text of the proof's steps is written
@@ -40,13 +40,13 @@ target_of seen p = target_in seen p.output p.broken p.counting
 
 -- whether the target is open: steps are written to it
 abbrev pub is_open : Target → Bool
-is_open Closed = false
+is_open (Closed c) = false
 is_open (Open f c s) = true
 is_open (Broken w) = false
 
 -- whether steps are written to the target as DRAT lines
 abbrev pub is_drat : Target → Bool
-is_drat Closed = false
+is_drat (Closed c) = false
 is_drat (Open f c s) = is_lines f
 is_drat (Broken w) = false
 
@@ -126,9 +126,10 @@ pub record Carried (f : ProofFormat) (c : Counting) (s : Sink) (steps : List Ste
   pub cuts : TruncatesHashes c steps written d
   pub wrote : SendsSteps f written s t
 
--- an open target receives the text of these steps, as above; a closed or broken one is unchanged
+-- an open target receives the text of these steps, as above; without a target, they are only counted; a broken one is
+-- unchanged
 abbrev pub TargetTakes : Target → List Step → Target → Type 0
-TargetTakes Closed steps new = new ≡ Closed
+TargetTakes (Closed c) steps new = (d : Counting) × (new ≡ Closed d) × CountsSteps c steps d
 TargetTakes (Open f c s) steps new = (d : Counting) × (t : Sink) × (new ≡ Open f d t) × Carried f c s steps d t
 TargetTakes (Broken w) steps new = new ≡ Broken w
 
@@ -142,7 +143,7 @@ pub record SinkFailsAt (f : ProofFormat) (c : Counting) (s : Sink) (steps : List
 
 -- one call of an open target failed while writing the text of these steps
 abbrev pub TargetFails : Target → List Step → Target → Type 0
-TargetFails Closed steps new = ⊥
+TargetFails (Closed c) steps new = ⊥
 TargetFails (Open f c s) steps new = (w : Writer) × (new ≡ Broken w) × SinkFailsAt f c s steps w
 TargetFails (Broken w) steps new = ⊥
 
@@ -201,9 +202,9 @@ EmitsAsAnswered seen (Err (Write e)) steps old new = FailsToEmit seen steps old 
 EmitsAsAnswered seen (Err OutOfMemory) steps old new = EmitsChecked seen [] old new
 EmitsAsAnswered seen (Err (Check fault)) steps old new = FailsCheck seen fault steps old new × IsListenerError fault new.made.complaint
 
--- an open target was flushed, and nothing is pending for it; a closed or broken one is unchanged
+-- an open target was flushed, and nothing is pending for it; otherwise nothing changed
 abbrev pub Flushed : Target → Target → Type 0
-Flushed Closed new = new ≡ Closed
+Flushed (Closed c) new = new ≡ Closed c
 Flushed (Open f c s) new = (t : Sink) × (new ≡ Open f c t) × SinkIsFlushed s t
 Flushed (Broken w) new = new ≡ Broken w
 
@@ -248,9 +249,15 @@ pub record TookAll (f : ProofFormat) (c : Counting) (s : Sink) (steps : List Ste
 
 -- the same for any target; only an open one can be returned so
 abbrev pub TakesAll : Target → List Step → Writer → Type 0
-TakesAll Closed steps given = ⊥
+TakesAll (Closed c) steps given = ⊥
 TakesAll (Open f c s) steps given = TookAll f c s steps given
 TakesAll (Broken w) steps given = ⊥
+
+-- an open target was closed after these steps, which were counted
+abbrev pub ClosesAfter : Target → List Step → Target → Type 0
+ClosesAfter (Closed c) steps new = ⊥
+ClosesAfter (Open f c s) steps new = (d : Counting) × (new ≡ Closed d) × CountsSteps c steps d
+ClosesAfter (Broken w) steps new = ⊥
 
 -- no target was open: no step was made, and nothing has changed
 pub record ClosesNone {W L : Type 0} {G : Ghosts L} (seen : W → Writer) (old new : Proof W L G) : Type 0 where
@@ -269,7 +276,7 @@ pub record ClosesOne {W L : Type 0} {G : Ghosts L} (seen : W → Writer) (given 
   pub taking : has_missed_step new ≡ has_missed_step old
   pub asked : has_asked new ≡ has_asked old
   pub takes : TakesAll (target_of seen old) (End ∷ []) (seen given)
-  pub target : target_of seen new ≡ Closed
+  pub target : ClosesAfter (target_of seen old) (End ∷ []) (target_of seen new)
   pub reported : AllStepsReported new
 
 -- the result of closing a proof: none was open, or the target is returned, or the target, memory or the checker
@@ -283,7 +290,7 @@ ClosesTarget seen (Err (Check fault)) old new = EmitsExactly seen (End ∷ []) o
 
 -- the writer of a returned target, if there is one; pending bytes are lost
 abbrev pub GivesWriter : Target → Option Writer → Type 0
-GivesWriter Closed given = given ≡ None
+GivesWriter (Closed c) given = given ≡ None
 GivesWriter (Open f c s) given = given ≡ Some s.writer
 GivesWriter (Broken w) given = given ≡ Some w
 
@@ -292,13 +299,19 @@ abbrev pub returned_writer : {W : Type 0} → (W → Writer) → Option W → Op
 returned_writer seen None = None
 returned_writer seen (Some w) = Some (seen w)
 
+-- there is no target anymore, and the counts have not changed
+abbrev pub IsTakenFrom : Target → Target → Type 0
+IsTakenFrom (Closed c) new = new ≡ Closed c
+IsTakenFrom (Open f c s) new = new ≡ Closed c
+IsTakenFrom (Broken w) new = (c : Counting) × (new ≡ Closed c)
+
 -- the target is returned, and no step was made; pending bytes are lost
 pub record ReturnsTarget {W L : Type 0} {G : Ghosts L} (seen : W → Writer) (given : Option W) (old new : Proof W L G) : Type 0 where
   pub history : steps_of new ≡ steps_of old
   pub made : new.made ≡ old.made
   pub asked : has_asked new ≡ has_asked old
   pub gives : GivesWriter (target_of seen old) (returned_writer seen given)
-  pub target : target_of seen new ≡ Closed
+  pub target : IsTakenFrom (target_of seen old) (target_of seen new)
 
 -- the checker, which has missed no step, has one more listener
 pub record HasOneMoreListener {W L : Type 0} {G : Ghosts L} (processor : L) (old new : Proof W L G) : Type 0 where

@@ -97,7 +97,7 @@ learned_of states.Unsat rounds = rounds - 1
 
 -- that an open target has no pending bytes, and its last call was a flush
 abbrev pub IsFlushed : Target → Type 0
-IsFlushed Closed = Unit {0}
+IsFlushed (Closed c) = Unit {0}
 IsFlushed (Open f c s) = (s.waiting ≡ []) × (s.writer.flushed ≡ true)
 IsFlushed (Broken w) = Unit {0}
 

@@ -6,6 +6,7 @@ use Rattle.sat_base.specs.script.ScriptState.{ScriptState, initial_state}
 use Rattle.sat_base.specs.steps.Steps.{Step}
 use Rattle.sat_checker.specs.matching.Bridge.{LiveVariables}
 use Rattle.sat_checker.specs.declared.processing.ProofProcessor.{Ghosts}
+use Rattle.sat_solver.specs.proof.Counting.{nothing_counted}
 use Rattle.sat_solver.specs.proof.ProofView as proofs
 use Rattle.sat_solver.specs.proof.ProofView.{Target, Closed, target_of}
 use Rattle.sat_solver.specs.variables.Calls.{NamesAgree}
@@ -134,7 +135,7 @@ empty_view = record {
   restarts = 0;
   parameters = defaults;
   steps = [];
-  target = Closed;
+  target = Closed nothing_counted;
   listeners = None;
   asked = false;
 }

@@ -16,7 +16,7 @@ alike a b (Some o) false c = refl
 alike a b (Some o) true c = refl
 
 carried : (t : Target) (steps : List Step) (u : Target) → TargetTakes t steps u → is_drat u ≡ is_drat t
-carried Closed steps u e = ap is_drat e
+carried (Closed c) steps u e = ap is_drat e.1
 carried (Open f c s) steps u h = ap is_drat h.2
 carried (Broken w) steps u e = ap is_drat e
 

@@ -12,6 +12,7 @@ use Rattle.sat_checker.specs.matching.Expected.{Finish, expected, finish}
 use Rattle.sat_checker.specs.matching.ProofChecking.{checker_rules}
 use Rattle.sat_solver.specs.declared.proof.format.ProofFormat.TheVariants.{Varisat}
 use Rattle.sat_solver.specs.proof.Counting.{nothing_counted as uncounted}
+use Rattle.sat_solver.specs.declared.proof.hash_bits.Counting.{Counting}
 use Rattle.sat_solver.specs.session.Making.{ComesBySteps, BreaksEmitting}
 use Rattle.sat_solver.specs.proof.OutputView.{text_in}
 use Rattle.sat_solver.specs.proof.ProofTexts.{TookText}
@@ -89,11 +90,11 @@ module _ {C : Type 0} (seen : C → Writer) (w : Writer) (p q : Proof C) (opened
   pub took_open_target : ComesBySteps seen p q → is_open (target_of seen q) ≡ true
   took_open_target t = ap is_open (carried t).2
 
-  pub took_target : ComesBySteps seen p q → target_of seen q ≡ Closed → ⊥
-  took_target t e = let x : is_open (target_of seen q) ≡ true = took_open_target t in let y : is_open Closed ≡ true = subst (λ z. is_open z ≡ true) e x in absurd (cc)
+  pub took_target : ComesBySteps seen p q → (c : Counting) → target_of seen q ≡ Closed c → ⊥
+  took_target t c e = let x : is_open (target_of seen q) ≡ true = took_open_target t in let y : is_open (Closed c) ≡ true = subst (λ z. is_open z ≡ true) e x in absurd (cc)
 
-  pub broke_target : BreaksEmitting seen p q → target_of seen q ≡ Closed → ⊥
-  broke_target t e = let x : Broken (stopped t).0 ≡ Closed = sym (stopped t).1 ∙ e in absurd (cc)
+  pub broke_target : BreaksEmitting seen p q → (c : Counting) → target_of seen q ≡ Closed c → ⊥
+  broke_target t c e = let x : Broken (stopped t).0 ≡ Closed c = sym (stopped t).1 ∙ e in absurd (cc)
 
   -- if all steps were written, no call of the returned writer failed
   pub given_none : (given : Writer) → ComesBySteps seen p q → GivesWriter (target_of seen q) (Some given) → NoneFailed w given

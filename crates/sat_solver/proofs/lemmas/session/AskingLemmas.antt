@@ -13,7 +13,7 @@ use Rattle.sat_solver.proofs.lemmas.session.ProofLemmas.{flushed_carries}
 
 -- if the target is open, its counts record that an ask has begun
 abbrev IsNoted : Target → Type 0
-IsNoted Closed = Unit {0}
+IsNoted (Closed c) = Unit {0}
 IsNoted (Open f c s) = c.solving ≡ true
 IsNoted (Broken w) = Unit {0}
 
@@ -23,7 +23,7 @@ cuts_noted (ask_begun k) e = refl
 cuts_noted (one_made step w k) e = cuts_noted k e
 
 carries_noted : (a b : Target) (steps : List Step) → TargetTakes a steps b → IsNoted a → IsNoted b
-carries_noted Closed b steps k n = subst IsNoted (sym k) tt
+carries_noted (Closed c) b steps k n = subst IsNoted (sym k.1) tt
 carries_noted (Open f c s) b steps k n = subst IsNoted (sym k.2) (cuts_noted k.3.cuts n)
 carries_noted (Broken w) b steps k n = subst IsNoted (sym k) tt
 

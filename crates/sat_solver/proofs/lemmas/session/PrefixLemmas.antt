@@ -122,7 +122,7 @@ follows_more a b c xs ys p q = elim p [
 ]
   where
     stays : (t : Target) (first : List Step) → TargetFails t first b → TargetTakesPrefix b ys c → TargetFails t first c
-    stays Closed first s n = absurd s
+    stays (Closed n) first s r = absurd s
     stays (Open f n z) first s r =
         let e : c ≡ Faulty s.0 = broken_follows s.0 ys c (subst (λ (z : Target). TargetTakesPrefix z ys c) s.1 r) in
         (s.0, e, s.2)

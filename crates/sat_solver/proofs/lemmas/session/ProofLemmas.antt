@@ -12,10 +12,10 @@ use Rattle.sat_base.specs.steps.StepText.{SpellsStep, SpellsSteps}
 use Rattle.sat_base.proofs.lemmas.device.Sending.{sent_none, sent_more}
 use Rattle.sat_base.proofs.lemmas.device.Writes.{took_more as took_both, breaks_later}
 use Rattle.sat_checker.specs.declared.processing.ProofProcessor.{Ghosts}
-use Rattle.sat_solver.specs.proof.Counting.{TruncatesHashes, none_made, ask_begun, one_made, written_for, counted}
+use Rattle.sat_solver.specs.proof.Counting.{TruncatesHashes, none_made, ask_begun, one_made, written_for, counted, CountsSteps}
 use Rattle.sat_solver.specs.proof.ProofTexts.{ClosedIsText, BrokenIsPrefix, WroteSince, TookSince}
 use Rattle.sat_solver.specs.proof.OutputView.{step_text, text_in, AreSpeltInFormat, SendsSteps}
-use Rattle.sat_solver.specs.proof.ProofView.{IsAtWidth, Target, Closed, Open, Broken as Faulty, is_open, Carried, TargetTakes, TargetFails, Flushed, TakesAll, GivesWriter, target_of, steps_of, has_asked, EmitsExactly, EmitsChecked, FailsToEmit, FailsCheck, CheckerFailed, is_checked, has_missed_step, EmitsAsAnswered, Drains, FlushesAndNotifies, FlushesOrFails, ClosesTarget, ClosesOne, ReturnsTarget}
+use Rattle.sat_solver.specs.proof.ProofView.{IsAtWidth, Target, Closed, Open, Broken as Faulty, is_open, Carried, TargetTakes, TargetFails, Flushed, TakesAll, ClosesAfter, IsTakenFrom, GivesWriter, target_of, steps_of, has_asked, EmitsExactly, EmitsChecked, FailsToEmit, FailsCheck, CheckerFailed, is_checked, has_missed_step, EmitsAsAnswered, Drains, FlushesAndNotifies, FlushesOrFails, ClosesTarget, ClosesOne, ReturnsTarget}
 use Rattle.sat_solver.specs.proof.ListenerErrors.{IsListenerError}
 use Rattle.sat_solver.specs.proof.EmittedView as mades
 use Rattle.sat_solver.specs.session.Making.{ComesByCheckedSteps}
@@ -94,9 +94,13 @@ cuts_one c step k = subst (λ (z : List Step). TruncatesHashes c (step ∷ []) z
 
 -- TARGETS
 
+-- no step was counted
+counts_none : (c : Counting) → CountsSteps c [] c
+counts_none c = record { written = []; cuts = none_made }
+
 -- no step
 pub carries_none : (t : Target) → TargetTakes t [] t
-carries_none Closed = refl
+carries_none (Closed c) = (c, refl, counts_none c)
 carries_none (Open f c s) = (c, s, refl, record { written = []; cuts = none_made; wrote = wrote_none f s })
 carries_none (Faulty w) = refl
 
@@ -106,7 +110,9 @@ carried_more f c d e s t u xs ys p q = record { written = q.written ++ p.written
 
 -- steps, and then later ones
 pub carries_more : (a b c : Target) (xs ys : List Step) → TargetTakes a xs b → TargetTakes b ys c → TargetTakes a (ys ++ xs) c
-carries_more Closed b c xs ys p q = subst (λ (z : Target). TargetTakes z ys c) p q
+carries_more (Closed n) b c xs ys p q =
+    let k = subst (λ (z : Target). TargetTakes z ys c) p.1 q in
+    (k.0, k.1, record { written = k.2.written ++ p.2.written; cuts = cuts_more p.2.cuts k.2.cuts })
 carries_more (Open f n s) b c xs ys p q =
     let k = subst (λ (z : Target). TargetTakes z ys c) p.2 q in
     (k.0, k.1, k.2, carried_more f n p.0 k.0 s p.1 k.1 xs ys p.3 k.3)
@@ -114,7 +120,7 @@ carries_more (Faulty w) b c xs ys p q = subst (λ (z : Target). TargetTakes z ys
 
 -- steps were written, and a call failed at later ones
 pub stops_later : (a b c : Target) (xs ys : List Step) → TargetTakes a xs b → TargetFails b ys c → TargetFails a (ys ++ xs) c
-stops_later Closed b c xs ys p q = subst (λ (z : Target). TargetFails z ys c) p q
+stops_later (Closed n) b c xs ys p q = absurd (subst (λ (z : Target). TargetFails z ys c) p.1 q)
 stops_later (Open f n s) b c xs ys p q =
     let k = subst (λ (z : Target). TargetFails z ys c) p.2 q in (
       k.0,
@@ -130,13 +136,13 @@ stops_later (Faulty w) b c xs ys p q = subst (λ (z : Target). TargetFails z ys 
 
 -- a flush writes no step
 pub flushed_carries : (a b : Target) → Flushed a b → TargetTakes a [] b
-flushed_carries Closed b h = h
+flushed_carries (Closed c) b h = (c, h, counts_none c)
 flushed_carries (Open f c s) b h = (c, h.0, h.1, record { written = []; cuts = none_made; wrote = record { spelt = tt; sent = h.2.sent } })
 flushed_carries (Faulty w) b h = h
 
 -- steps were written and flushed, and the target is returned
 pub takes_all : (a b c : Target) (given : Option Writer) (w : Writer) (xs : List Step) → is_open a ≡ true → TargetTakes a xs b → Flushed b c → GivesWriter c given → given ≡ Some w → TakesAll a xs w
-takes_all Closed b c given w xs o p f g e = cc
+takes_all (Closed n) b c given w xs o p f g e = cc
 takes_all (Open a n s) b c given w xs o p f g e =
     let k = subst (λ (z : Target). Flushed z c) p.2 f in
     let q = subst (λ (z : Target). GivesWriter z given) k.1 g in
@@ -154,6 +160,14 @@ takes_all (Open a n s) b c given w xs o p f g e =
       flushed = subst (λ (z : Writer). z.flushed ≡ true) is k.2.flushed;
     }
 takes_all (Faulty w) b c given v xs o p f g e = cc
+
+-- steps were written and flushed, and the target is closed
+closes_after : (a b c d : Target) (xs : List Step) → is_open a ≡ true → TargetTakes a xs b → Flushed b c → IsTakenFrom c d → ClosesAfter a xs d
+closes_after (Closed n) b c d xs o p f g = absurd (true≢false (sym o))
+closes_after (Open a n s) b c d xs o p f g =
+    let k = subst (λ (z : Target). Flushed z c) p.2 f in
+    (p.0, subst (λ (z : Target). IsTakenFrom z d) k.1 g, record { written = p.3.written; cuts = p.3.cuts })
+closes_after (Faulty w) b c d xs o p f g = absurd (true≢false (sym o))
 
 -- the bytes encode the steps
 spells : (f : ProofFormat) (steps : List Step) → AreSpeltInFormat f steps → f ≡ Varisat → SpellsSteps (reverse steps) (text_in f steps)
@@ -281,7 +295,7 @@ close_fails seen OutOfMemory a b c p q = absurd q
 close_fails seen (Check fault) a b c p q = (adds_more seen (End ∷ []) [] a b c (gains_adds seen (End ∷ []) a b p) (drained seen b c q.0), elim q.1 [ inl k ↦ inl k | inr k ↦ inr (sym p.taking ∙ k.0, k.1) ])
 
 gives_none : (a b c : Target) (xs : List Step) → is_open a ≡ true → TargetTakes a xs b → Flushed b c → GivesWriter c None → ⊥
-gives_none Closed b c xs o p f g = absurd (true≢false (sym o))
+gives_none (Closed n) b c xs o p f g = absurd (true≢false (sym o))
 gives_none (Open a n s) b c xs o p f g =
     let k = subst (λ (z : Target). Flushed z c) p.2 f in
     let q : None ≡ Some k.0.writer = subst (λ (z : Target). GivesWriter z None) k.1 g in
@@ -297,7 +311,7 @@ close_gives seen (Some w) a b c d open_yet p q h = record {
   taking = ap mades.emitted_has_missed_step h.made ∙ q.taking ∙ p.taking;
   asked = h.asked ∙ q.asked ∙ p.asked;
   takes = takes_all (target_of seen a) (target_of seen b) (target_of seen c) (Some (seen w)) (seen w) (End ∷ []) open_yet p.target q.target h.gives refl;
-  target = h.target;
+  target = closes_after (target_of seen a) (target_of seen b) (target_of seen c) (target_of seen d) (End ∷ []) open_yet p.target q.target h.target;
   reported = subst (λ (m : EmittedSteps _ _). mades.EmittedIsReported m) (sym h.made) q.reported;
 }
 

@@ -2,7 +2,7 @@
 use Rattle.std.proofs.Common.{ℕ, Bool, ◌≡◌, ◌∙◌, true, false, Option, None, Some, Err, List, [], ◌∷◌, ◌++◌, append_assoc, refl, sym, ap, subst}
 use Rattle.sat_base.specs.device.Device.{Writer, WriterFails}
 use Rattle.sat_base.specs.device.Sink.{Sink, AddsToSink}
-use Rattle.std.proofs.lemmas.Bool.{eq-eqb}
+use Rattle.std.proofs.lemmas.Bool.{true≢false, eq-eqb}
 use Rattle.std.specs.Prelude.{cond}
 use Rattle.sat_base.specs.steps.Steps.{Step, ChangeHashBits}
 use Rattle.sat_base.specs.steps.StepBytes.{step_bytes}
@@ -10,9 +10,9 @@ use Rattle.sat_base.specs.steps.StepText.{SpellsStep}
 use Rattle.sat_solver.specs.declared.proof.format.ProofFormat.TheVariants.{Varisat}
 use Rattle.sat_base.proofs.lemmas.device.Writes.{breaks_within}
 use Rattle.sat_checker.specs.declared.processing.ProofProcessor.{Ghosts}
-use Rattle.sat_solver.specs.proof.Counting.{width_change, written_for, counted}
+use Rattle.sat_solver.specs.proof.Counting.{width_change, written_for, counted, CountsSteps}
 use Rattle.sat_solver.specs.proof.OutputView.{step_text, SpellsIn, text_in, SendsSteps, PutsSteps, output_format, output_sink}
-use Rattle.sat_solver.specs.proof.ProofView.{TargetTakes, TargetFails, Open, Broken as Faulty, with_fault, target_in, target_of, EmitsExactly, FailsToEmit}
+use Rattle.sat_solver.specs.proof.ProofView.{TargetTakes, TargetFails, Closed, Open, Broken as Faulty, IsTakenFrom, is_open, with_fault, target_in, target_of, EmitsExactly, FailsToEmit}
 use Rattle.sat_solver.specs.proof.Widths.{narrowed, KeepsWidth}
 use Rattle.sat_solver.specs.declared.proof.hash_bits.Counting.{Counting}
 use Rattle.sat_solver.specs.declared.proof.output.ProofOutput.{ProofOutput}
@@ -49,6 +49,26 @@ carries_step f c s t step k w = (counted step c, t, refl, record { written = wri
 pub stops_step : (f : ProofFormat) (c : Counting) (s t : Sink) (step : Step) → KeepsWidth step → WriterFails s.writer t.writer (s.waiting ++ text_in f (written_for c.bits (counted step c).bits step)) → TargetFails (Open f c s) (step ∷ []) (Faulty t.writer)
 stops_step f c s t step k b = (t.writer, refl, record { written = written_for c.bits (counted step c).bits step; counting = counted step c; cuts = cuts_one c step k; breaks = b })
 
+-- a step was counted, and nothing was written
+pub counts_one : {W : Type 0} (seen : W → Writer) (o : Option (ProofOutput W)) (b : Bool) (c d : Counting) (step : Step) → is_open (target_in seen o b c) ≡ false → KeepsWidth step → d ≡ counted step c → TargetTakes (target_in seen o b c) (step ∷ []) (target_in seen o b d)
+counts_one seen None b c d step e k is = (d, refl, subst (CountsSteps c (step ∷ [])) (sym is) (record { written = written_for c.bits (counted step c).bits step; cuts = cuts_one c step k }))
+counts_one seen (Some o) false c d step e k is = absurd (true≢false e)
+counts_one seen (Some o) true c d step e k is = refl
+
+-- nothing is open without an output, or after a fault
+pub shut_none : {W : Type 0} (seen : W → Writer) (o : Option (ProofOutput W)) (b : Bool) (c : Counting) → o ≡ None → is_open (target_in seen o b c) ≡ false
+shut_none seen o b c e = ap (λ x. is_open (target_in seen x b c)) e
+
+pub shut_broken : {W : Type 0} (seen : W → Writer) (o : Option (ProofOutput W)) (b : Bool) (c : Counting) → b ≡ true → is_open (target_in seen o b c) ≡ false
+shut_broken seen None b c e = refl
+shut_broken seen (Some o) b c e = ap (λ x. is_open (with_fault x (output_format o) c (output_sink seen o))) e
+
+-- the output was taken, and the counts are unchanged
+pub taken_from : {W : Type 0} (seen : W → Writer) (o : Option (ProofOutput W)) (b : Bool) (c : Counting) → IsTakenFrom (target_in seen o b c) (Closed c)
+taken_from seen None b c = refl
+taken_from seen (Some o) false c = refl
+taken_from seen (Some o) true c = (c, refl)
+
 module _ {W L : Type 0} {G : Ghosts L} (seen : W → Writer) (p : Proof W L G) where
   abbrev pub begun : Proof W L G
   begun = record p { counting = record p.counting { solving = true } }
@@ -58,7 +78,7 @@ module _ {W L : Type 0} {G : Ghosts L} (seen : W → Writer) (p : Proof W L G) w
   adds_begun = record { history = refl; listening = refl; target = go p.output p.broken }
     where
       go : (o : Option (ProofOutput W)) (b : Bool) → TargetTakes (target_in seen o b p.counting) [] (target_in seen o b (record p.counting { solving = true }))
-      go None b = refl
+      go None b = (record p.counting { solving = true }, refl, record { written = []; cuts = ask_begun none_made })
       go (Some o) false = (record p.counting { solving = true }, output_sink seen o, refl, record { written = []; cuts = ask_begun none_made; wrote = wrote_none (output_format o) (output_sink seen o) })
       go (Some o) true = refl
 

@@ -442,7 +442,7 @@ pub flushed_by : {W L : Type 0} {G : Ghosts L} (seen : W → Writer) (p q : Proo
 flushed_by seen p q f = go (target_of seen p) (target_of seen q) f.target
   where
     go : (a b : Target) → Flushed a b → IsFlushed b
-    go Closed b e = subst IsFlushed (sym e) tt
+    go (Closed c) b e = subst IsFlushed (sym e) tt
     go (Open x c s) b e = subst IsFlushed (sym e.1) (e.2.none, e.2.flushed)
     go (Broken w) b e = subst IsFlushed (sym e) tt
 
