@@ -54,7 +54,7 @@ fn refute<W: CountedWrite + Drop, P: ProofProcessor>(
         clause: &[],
         propagation_hashes: &scratch.hashes,
     };
-    proof.step(&step)?;
+    proof.add_step(&step)?;
     Ok(())
 }
 

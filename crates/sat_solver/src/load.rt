@@ -43,7 +43,7 @@ pub fn delete_satisfied<W: CountedWrite + Drop, P: ProofProcessor>(
         clause,
         proof: DeleteClauseProof::Satisfied,
     };
-    proof.step(&step)?;
+    proof.add_step(&step)?;
     Ok(())
 }
 

@@ -420,7 +420,7 @@ impl<W: CountedWrite + Drop, P: ProofProcessor> Proof<W, P> {
     /// Makes a step, which the session must allow: writes the step to the open target, if any, and passes it to the
     /// checker, if any. If the memory for the step's text or its hashes cannot be allocated, the step is not made.
     #[inline(always)]
-    pub fn step(&mut self, step: &ProofStep<'_>) -> Result<(), ProofError>
+    pub fn add_step(&mut self, step: &ProofStep<'_>) -> Result<(), ProofError>
         requires keeps { HasAllowedSteps self.old }
         requires may { IsAllowedStep (session_of self.old) (step_of step.now) }
         requires width { KeepsWidth (step_of step.now) }
@@ -489,7 +489,7 @@ impl<W: CountedWrite + Drop, P: ProofProcessor> Proof<W, P> {
 
     /// Writes pending bytes to the open target, if any, and flushes it. Then makes the checker, if any, announce what
     /// is pending.
-    pub fn flush(&mut self) -> Result<(), ProofError>
+    pub fn flush_proof(&mut self) -> Result<(), ProofError>
         ensures keeps { HasAllowedSteps self.old → HasAllowedSteps self.new }
         ensures flushes { FlushesOrFails W.seen result self.old self.new }
     {
@@ -499,7 +499,7 @@ impl<W: CountedWrite + Drop, P: ProofProcessor> Proof<W, P> {
 
     /// Writes the `End` step, flushes the target and returns it. Returns `None` if no target is open. After an error,
     /// the proof keeps the target.
-    pub fn close(&mut self) -> Result<Option<W>, ProofError>
+    pub fn close_proof(&mut self) -> Result<Option<W>, ProofError>
         requires { HasAllowedSteps self.old }
         ensures keeps { HasAllowedSteps self.new }
         ensures closes { ClosesTarget W.seen result self.old self.new }
@@ -507,8 +507,8 @@ impl<W: CountedWrite + Drop, P: ProofProcessor> Proof<W, P> {
         if !self.is_open() {
             return Ok(None);
         }
-        self.step(&ProofStep::End)?;
-        self.flush()?;
+        self.add_step(&ProofStep::End)?;
+        self.flush_proof()?;
         Ok(self.take_target())
     }
 

@@ -15,8 +15,8 @@ fn write_owned<W: CountedWrite + Drop>(
 {
     let mut proof: Proof<W> = Proof::new(alloc);
     proof.open(ProofFormat::Varisat, target);
-    let written = match proof.step(&ProofStep::Assumptions { assumptions: &[] }) {
-        Ok(()) => match proof.close() {
+    let written = match proof.add_step(&ProofStep::Assumptions { assumptions: &[] }) {
+        Ok(()) => match proof.close_proof() {
             Ok(target) => (target, Ok(())),
             Err(error) => (proof.take_target(), Err(error)),
         },

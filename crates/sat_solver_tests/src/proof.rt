@@ -28,9 +28,9 @@ fn make_two<W: CountedWrite + Drop>(proof: &mut Proof<W>) -> bool
         global: Var::from_index(3),
         solver: Some(Var::from_index(0)),
     };
-    let first = proof.step(&name).is_ok();
+    let first = proof.add_step(&name).is_ok();
     let ask = ProofStep::Assumptions { assumptions: &[] };
-    proof.step(&ask).is_ok() && first
+    proof.add_step(&ask).is_ok() && first
 }
 
 /// Returns what a target saw, or `NOTHING` if there is no target.
@@ -50,7 +50,7 @@ fn seen(target: Option<Counted<ByFew>>, text: &[u8]) -> Seen {
 fn closed(mut proof: Proof<Counted<ByFew>>, text: &[u8]) -> (Option<bool>, Seen)
     requires { HasAllowedSteps proof }
 {
-    let (came, target) = match proof.close() {
+    let (came, target) = match proof.close_proof() {
         Ok(Some(target)) => (Some(true), Some(target)),
         Ok(None) => (Some(false), proof.take_target()),
         Err(_) => (None, proof.take_target()),
@@ -65,7 +65,7 @@ fn written(alloc: Global, device: Device) -> (bool, bool, (Option<bool>, Seen)) 
     let mut proof: Proof<Counted<ByFew>> = Proof::new(alloc);
     proof.open(ProofFormat::Varisat, by_few(alloc, device.0, device.1));
     let first = make_two(&mut proof);
-    let flushed = proof.flush().is_ok();
+    let flushed = proof.flush_proof().is_ok();
     let second = make_two(&mut proof);
     (first && second, flushed, closed(proof, TEXT))
 }
@@ -79,7 +79,7 @@ fn long_written(
     let lits: Vec<Lit> = vec![in alloc; Var::from_index(0).positive(); 20_000]?;
     let mut proof: Proof<Counted<ByFew>> = Proof::new(alloc);
     proof.open(ProofFormat::Varisat, by_few(alloc, device.0, device.1));
-    let long = proof.step(&ProofStep::Assumptions { assumptions: &lits });
+    let long = proof.add_step(&ProofStep::Assumptions { assumptions: &lits });
     let long = long.is_ok();
     let more = make_two(&mut proof);
     Ok((long, more, closed(proof, &[11, 160, 156, 1, 0])))
@@ -88,7 +88,7 @@ fn long_written(
 /// Makes steps without a target. Returns whether they succeed, and what `closed` returns.
 fn unwritten(alloc: Global) -> (bool, (Option<bool>, Seen)) {
     let mut proof: Proof<Counted<ByFew>> = Proof::new(alloc);
-    let made = make_two(&mut proof) && proof.flush().is_ok();
+    let made = make_two(&mut proof) && proof.flush_proof().is_ok();
     (made && !proof.is_open(), closed(proof, &[]))
 }
 

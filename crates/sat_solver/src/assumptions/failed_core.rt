@@ -85,6 +85,6 @@ pub fn write_core<W: CountedWrite + Drop, P: ProofProcessor>(
         failed_core: &search.scratch.clause,
         propagation_hashes: &search.scratch.hashes,
     };
-    proof.step(&step)?;
+    proof.add_step(&step)?;
     Ok(())
 }

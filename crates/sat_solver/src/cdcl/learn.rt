@@ -160,7 +160,7 @@ fn learn_clause<W: CountedWrite + Drop, P: ProofProcessor>(
         clause: &search.scratch.clause,
         propagation_hashes: &search.scratch.hashes,
     };
-    proof.step(&step)?;
+    proof.add_step(&step)?;
     take_in(search, header, level)?;
     search.assumptions.cut(level);
     Ok(())

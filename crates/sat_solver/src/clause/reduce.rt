@@ -73,7 +73,7 @@ fn delete_learned<W: CountedWrite + Drop, P: ProofProcessor>(
         clause: &search.scratch.clause,
         proof: DeleteClauseProof::Redundant,
     };
-    proof.step(&step)?;
+    proof.add_step(&step)?;
     Ok(true)
 }
 

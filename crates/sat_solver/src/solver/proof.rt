@@ -98,7 +98,7 @@ impl<W: CountedWrite + Drop, P: ProofProcessor> Solver<W, P> {
         if self.failed {
             return Err(SolverError::HasFailed);
         }
-        match self.core.proof.close() {
+        match self.core.proof.close_proof() {
             Ok(target) => Ok(target),
             Err(error) => Err(self.fail(Fault::from(error))),
         }

@@ -58,7 +58,7 @@ pub fn show_model<W: CountedWrite + Drop, P: ProofProcessor>(
     let values = core.search.parts.assignment.assignment();
     reconstruct_global_model(names, values, model)?;
     let step = ProofStep::Model { assignment: model };
-    core.proof.step(&step)?;
+    core.proof.add_step(&step)?;
     Ok(())
 }
 

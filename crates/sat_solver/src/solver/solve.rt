@@ -62,7 +62,7 @@ impl<W: CountedWrite + Drop, P: ProofProcessor> Solver<W, P> {
         if let Err(fault) = self.find_where_unknown() {
             return Err(self.fail(fault));
         }
-        if let Err(error) = self.core.proof.flush() {
+        if let Err(error) = self.core.proof.flush_proof() {
             return Err(self.fail(Fault::from(error)));
         }
         match self.state {

@@ -23,7 +23,7 @@ use sat_parts::parts::unused::mark_used;
 
 /// Removes the index of the variable `global`, whose unit must already be stored. If the variable is hidden and not
 /// assumed, deletes it.
-fn give_up<S: StepLog>(
+fn remove_var<S: StepLog>(
     variables: &mut Variables,
     writer: &mut S,
     global: Var,
@@ -86,7 +86,7 @@ fn release_unused<S: StepLog>(
         return Ok(());
     }
     variables.set_unit(global, search.parts.assignment.var_value(index));
-    give_up(variables, writer, global, index)?;
+    remove_var(variables, writer, global, index)?;
     Ok(())
 }
 

@@ -43,7 +43,7 @@ fn delete_true<W: CountedWrite + Drop, P: ProofProcessor>(
         clause: &search.scratch.clause,
         proof: deletion_for(redundant, DeleteClauseProof::Satisfied),
     };
-    proof.step(&step)?;
+    proof.add_step(&step)?;
     Ok(())
 }
 

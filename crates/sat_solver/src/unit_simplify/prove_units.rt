@@ -37,7 +37,7 @@ pub fn write_units<W: CountedWrite + Drop, P: ProofProcessor>(
     if units.is_empty() {
         return Ok(());
     }
-    proof.step(&ProofStep::UnitClauses { units })?;
+    proof.add_step(&ProofStep::UnitClauses { units })?;
     Ok(())
 }
 

@@ -50,11 +50,11 @@ pub fn write_cut<W: CountedWrite + Drop, P: ProofProcessor>(
         clause: part,
         propagation_hashes: &scratch.hashes,
     };
-    proof.step(&derived)?;
+    proof.add_step(&derived)?;
     let deleted = ProofStep::DeleteClause {
         clause: &scratch.clause,
         proof: deletion_for(redundant, DeleteClauseProof::Simplified),
     };
-    proof.step(&deleted)?;
+    proof.add_step(&deleted)?;
     Ok(())
 }

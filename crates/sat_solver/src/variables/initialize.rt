@@ -17,7 +17,7 @@ use std::alloc::AllocError;
 
 /// Adds an index at level 0. If its variable has a unit, the index takes the value of the unit; otherwise it may be
 /// picked, with activity 0. Its saved phase is the last value of the index.
-fn take_index(parts: &mut SearchState, given: &Given)
+fn initialize_var(parts: &mut SearchState, given: &Given)
     requires holds { SearchStateInvariant parts.old }
     requires bottom { parts.old.trail.starts ≡ [] }
     requires vacant { IsVacant parts.old (length parts.old.assignment.current) given.now }
@@ -38,7 +38,7 @@ fn take_indices(parts: &mut SearchState, given: &[Given])
     ensures { ActivatesIndices given.now parts.old parts.new }
 {
     for at in 0..given.len() {
-        take_index(parts, &given[at]);
+        initialize_var(parts, &given[at]);
     }
 }
 

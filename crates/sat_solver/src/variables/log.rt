@@ -52,7 +52,7 @@ impl<W: CountedWrite + Drop, P: ProofProcessor> StepLog for Proof<W, P> {
 
     #[inline(always)]
     fn step(&mut self, step: &ProofStep<'_>) -> Result<(), NameError> {
-        match self.step(step) {
+        match self.add_step(step) {
             Ok(()) => Ok(()),
             Err(ProofError::Write(cause)) => Err(NameError::Write(cause)),
             Err(ProofError::OutOfMemory) => Err(NameError::OutOfMemory),

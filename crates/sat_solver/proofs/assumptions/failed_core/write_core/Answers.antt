@@ -16,8 +16,8 @@ use Rattle.sat_solver.proofs.assumptions.failed_core.write_core.Goals as goal
 pub returns-in_err-find_core : goal.returns-in_err-find_core
 returns-in_err-find_core g c = grind (arith, common_steps, err_from_is_err_and, reports_starved)
 
-pub step-requires-clause-may : goal.step-requires-clause-may
-step-requires-clause-may g c =
+pub add_step-requires-clause-may : goal.add_step-requires-clause-may
+add_step-requires-clause-may g c =
     let s = c.args.search.now in
     let x = c.in_ok-find_core.ensures in
     let core : c.deref.result.now ≡ map (with_var (global_in c.args.search.now)) c.find_core.new.search.analysis.core = c.deref.ensures.value ∙ x.clause in
@@ -31,10 +31,10 @@ step-requires-clause-may g c =
 pub returns : goal.returns
 returns g c =
     let x = c.in_ok-find_core.ensures in
-    reports_core g.W.CountedWrite.seen c.args.proof.now c.step.new.self c.args.search.now c.find_core.new.search c.in_ok-step.ensures.keeps
-    c.deref.result.now (c.deref.ensures.value ∙ x.clause) c.deref-2.result.now (c.deref-2.ensures.value ∙ x.hashes) c.in_ok-step.ensures.records
+    reports_core g.W.CountedWrite.seen c.args.proof.now c.add_step.new.self c.args.search.now c.find_core.new.search c.in_ok-add_step.ensures.keeps
+    c.deref.result.now (c.deref.ensures.value ∙ x.clause) c.deref-2.result.now (c.deref-2.ensures.value ∙ x.hashes) c.in_ok-add_step.ensures.records
     c.requires.search c.requires.failing x.fails x.free
     (ap (λ (s : Search). s.parts) x.same) (ap (λ (s : Search). s.globals) x.same) (ap (λ (s : Search). s.assumptions) x.same)
 
-pub returns-in_err-step : goal.returns-in_err-step
-returns-in_err-step g c = grind (arith, common_steps, err_from_is_err_and, reports_broken)
+pub returns-in_err-add_step : goal.returns-in_err-add_step
+returns-in_err-add_step g c = grind (arith, common_steps, err_from_is_err_and, reports_broken)

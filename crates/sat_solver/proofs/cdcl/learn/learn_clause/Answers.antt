@@ -23,20 +23,20 @@ returns-in_err-level g c =
     let p = err_from_is_err_and c.from_residual.result c.from_residual.ensures.1 in
     rw (p.1, p.2) (record { learned = goes_starved g.W.CountedWrite.seen c.args.proof.now _ c.requires.keeps; seen = tt; rated = tt })
 
-pub step-requires-clause-may : goal.step-requires-clause-may
-step-requires-clause-may g c =
+pub add_step-requires-clause-may : goal.add_step-requires-clause-may
+add_step-requires-clause-may g c =
     let x = c.in_ok-level.ensures in
     learned_allowed c.args.search.now.parts c.args.conflict.now c.analyze.new.search.analysis c.in_ok-level.level (steps_of c.args.proof.now) (global_in c.args.search.now) c.requires.stopped.refuted c.requires.above c.requires.stopped.fits (ready_names (session_of c.args.proof.now) c.args.search.now c.requires.stopped.ready) x.learns
     c.deref.result.now c.deref-2.result.now (c.deref.ensures.value ∙ x.clause) (c.deref-2.ensures.value ∙ x.hashes)
 
-pub returns-in_err-step : goal.returns-in_err-step
-returns-in_err-step g c =
+pub returns-in_err-add_step : goal.returns-in_err-add_step
+returns-in_err-add_step g c =
     let x = c.in_ok-level.ensures in
-    let p = err_from_is_err_and c.from_residual-in_err-step.result c.from_residual-in_err-step.ensures.1 in
+    let p = err_from_is_err_and c.from_residual-in_err-add_step.result c.from_residual-in_err-add_step.ensures.1 in
     rw (p.1, p.2)
     (record {
-      learned = goes_broken g.W.CountedWrite.seen c.in_err-step.field-0.0 c.args.proof.now c.step.new.self (AtClause c.says_redundant.result c.deref.result.now c.deref-2.result.now) _
-          (learned_named c.args.search.now.parts c.args.conflict.now c.analyze.new.search.analysis c.in_ok-level.level (session_of c.args.proof.now) (global_in c.args.search.now) (ready_names (session_of c.args.proof.now) c.args.search.now c.requires.stopped.ready) x.learns c.deref.result.now (c.deref.ensures.value ∙ x.clause)) c.in_err-step.ensures.keeps c.in_err-step.ensures.records;
+      learned = goes_broken g.W.CountedWrite.seen c.in_err-add_step.field-0.0 c.args.proof.now c.add_step.new.self (AtClause c.says_redundant.result c.deref.result.now c.deref-2.result.now) _
+          (learned_named c.args.search.now.parts c.args.conflict.now c.analyze.new.search.analysis c.in_ok-level.level (session_of c.args.proof.now) (global_in c.args.search.now) (ready_names (session_of c.args.proof.now) c.args.search.now c.requires.stopped.ready) x.learns c.deref.result.now (c.deref.ensures.value ∙ x.clause)) c.in_err-add_step.ensures.keeps c.in_err-add_step.ensures.records;
       seen = tt;
       rated = tt;
     })
@@ -52,8 +52,8 @@ returns-in_err-take_in g c =
     let p = err_from_is_err_and c.from_residual-in_err-take_in.result c.from_residual-in_err-take_in.ensures.1 in
     let x = c.in_ok-level.ensures in
     rw (p.1, p.2) (record {
-      learned = goes_refused g.W.CountedWrite.seen c.in_err-take_in.field-0.0 c.args.proof.now c.step.new.self (AtClause c.says_redundant.result c.deref.result.now c.deref-2.result.now) _
-          (learned_named c.args.search.now.parts c.args.conflict.now c.analyze.new.search.analysis c.in_ok-level.level (session_of c.args.proof.now) (global_in c.args.search.now) (ready_names (session_of c.args.proof.now) c.args.search.now c.requires.stopped.ready) x.learns c.deref.result.now (c.deref.ensures.value ∙ x.clause)) c.in_ok-step.ensures.keeps c.in_ok-step.ensures.records
+      learned = goes_refused g.W.CountedWrite.seen c.in_err-take_in.field-0.0 c.args.proof.now c.add_step.new.self (AtClause c.says_redundant.result c.deref.result.now c.deref-2.result.now) _
+          (learned_named c.args.search.now.parts c.args.conflict.now c.analyze.new.search.analysis c.in_ok-level.level (session_of c.args.proof.now) (global_in c.args.search.now) (ready_names (session_of c.args.proof.now) c.args.search.now c.requires.stopped.ready) x.learns c.deref.result.now (c.deref.ensures.value ∙ x.clause)) c.in_ok-add_step.ensures.keeps c.in_ok-add_step.ensures.records
           (λ e. c.take_in.ensures.full (c.in_err-take_in.was ∙ ap Err e));
       seen = tt;
       rated = tt;
@@ -75,11 +75,11 @@ returns-clause-learned g c =
     let placed = c.cut.ensures.placed (state c.args.search.now.parts) (state c.take_in.new.search.parts) before (omega (arith, x.learns.below)) taken.keeps taken.starts in
     let moved : SameVarsAndAssumptions c.analyze.new.search (record c.take_in.new.search { assumptions = c.cut.new.self }) =
     record { globals = ap (λ (s : Search). s.globals) y.same; lits = c.cut.ensures.lits ∙ ap (λ (s : Search). s.assumptions.lits) y.same; size = y.taken.size } in
-    goes_learned g.W.CountedWrite.seen tt c.args.proof.now c.step.new.self (AtClause c.says_redundant.result c.deref.result.now c.deref-2.result.now) _
-    (learned_named c.args.search.now.parts c.args.conflict.now c.analyze.new.search.analysis c.in_ok-level.level (session_of c.args.proof.now) (global_in c.args.search.now) (ready_names (session_of c.args.proof.now) c.args.search.now c.requires.stopped.ready) x.learns c.deref.result.now (c.deref.ensures.value ∙ x.clause)) c.in_ok-step.ensures.keeps c.in_ok-step.ensures.records
-    (learned_whole (steps_of c.args.proof.now) (steps_of c.step.new.self) (AtClause c.says_redundant.result c.deref.result.now c.deref-2.result.now) c.args.search.now _ r.ready refl c.in_ok-step.ensures.records.history
+    goes_learned g.W.CountedWrite.seen tt c.args.proof.now c.add_step.new.self (AtClause c.says_redundant.result c.deref.result.now c.deref-2.result.now) _
+    (learned_named c.args.search.now.parts c.args.conflict.now c.analyze.new.search.analysis c.in_ok-level.level (session_of c.args.proof.now) (global_in c.args.search.now) (ready_names (session_of c.args.proof.now) c.args.search.now c.requires.stopped.ready) x.learns c.deref.result.now (c.deref.ensures.value ∙ x.clause)) c.in_ok-add_step.ensures.keeps c.in_ok-add_step.ensures.records
+    (learned_whole (steps_of c.args.proof.now) (steps_of c.add_step.new.self) (AtClause c.says_redundant.result c.deref.result.now c.deref-2.result.now) c.args.search.now _ r.ready refl c.in_ok-add_step.ensures.records.history
     (learned_stands c.args.search.now.parts c.args.conflict.now c.analyze.new.search.analysis c.in_ok-level.level (steps_of c.args.proof.now) (global_in c.args.search.now) r.refuted c.requires.above r.fits (ready_names (session_of c.args.proof.now) c.args.search.now r.ready) x.learns
-    c.take_in.new.search.parts c.in_ok-level.header c.deref.result.now c.deref-2.result.now c.says_redundant.result (steps_of c.step.new.self) (c.deref.ensures.value ∙ x.clause) flags c.in_ok-step.ensures.records.history taken.holds taken.fits)
+    c.take_in.new.search.parts c.in_ok-level.header c.deref.result.now c.deref-2.result.now c.says_redundant.result (steps_of c.add_step.new.self) (c.deref.ensures.value ∙ x.clause) flags c.in_ok-add_step.ensures.records.history taken.holds taken.fits)
     taken.rises taken.size
     (learned_last c.args.search.now.parts c.args.conflict.now c.analyze.new.search.analysis c.in_ok-level.level (steps_of c.args.proof.now) (global_in c.args.search.now) r.refuted c.requires.above r.fits (ready_names (session_of c.args.proof.now) c.args.search.now r.ready) x.learns
     c.deref.result.now c.deref-2.result.now c.says_redundant.result (c.deref.ensures.value ∙ x.clause))

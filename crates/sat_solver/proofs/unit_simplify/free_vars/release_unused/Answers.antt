@@ -19,23 +19,23 @@ returns-then-is_marked-clause-frees g c = frees_marked c.args.used.now.items c.a
 pub set_unit-requires : goal.set_unit-requires
 set_unit-requires g c = record { within = within_free c.args.variables.now (g.S.StepLog.steps c.args.writer.now) (freed_search c.args.used.now.items c.args.index c.args.search.now) c.requires.may c.args.index c.in-Some.global (ap (λ m. target m c.args.index) (sym c.bwd.ensures.map) ∙ sym c.get.ensures ∙ c.in-Some.is) }
 
-pub give_up-requires-clause-valid : goal.give_up-requires-clause-valid
-give_up-requires-clause-valid g c =
+pub remove_var-requires-clause-valid : goal.remove_var-requires-clause-valid
+remove_var-requires-clause-valid g c =
     let k = freed_search c.args.used.now.items c.args.index c.args.search.now in
     let there : global_at c.args.variables.now c.args.index ≡ Some c.in-Some.global = ap (λ m. target m c.args.index) (sym c.bwd.ensures.map) ∙ sym c.get.ensures ∙ c.in-Some.is in
     noted_stands c.args.variables.now (g.S.StepLog.steps c.args.writer.now) k c.requires.may c.args.index c.in-Some.global there c.set_unit.new.self
     (subst (λ (o : Option Bool). PutsUnit c.args.variables.now c.set_unit.new.self c.in-Some.global o) (c.var_value.ensures ∙ sym (same_value c.args.used.now.items c.args.search.now c.args.index)) c.set_unit.ensures)
 
-pub give_up-requires-clause-unit : goal.give_up-requires-clause-unit
-give_up-requires-clause-unit g c =
+pub remove_var-requires-clause-unit : goal.remove_var-requires-clause-unit
+remove_var-requires-clause-unit g c =
     let k = freed_search c.args.used.now.items c.args.index c.args.search.now in
     let there : global_at c.args.variables.now c.args.index ≡ Some c.in-Some.global = ap (λ m. target m c.args.index) (sym c.bwd.ensures.map) ∙ sym c.get.ensures ∙ c.in-Some.is in
     noted_unit c.args.variables.now (g.S.StepLog.steps c.args.writer.now) k c.requires.may c.args.index c.in-Some.global there c.set_unit.new.self
     (subst (λ (o : Option Bool). PutsUnit c.args.variables.now c.set_unit.new.self c.in-Some.global o) (c.var_value.ensures ∙ sym (same_value c.args.used.now.items c.args.search.now c.args.index)) c.set_unit.ensures)
     (same_unused c.args.used.now.items c.args.search.now c.args.index c.requires.unused)
 
-pub give_up-requires-clause-unused : goal.give_up-requires-clause-unused
-give_up-requires-clause-unused g c =
+pub remove_var-requires-clause-unused : goal.remove_var-requires-clause-unused
+remove_var-requires-clause-unused g c =
     let k = freed_search c.args.used.now.items c.args.index c.args.search.now in
     let there : global_at c.args.variables.now c.args.index ≡ Some c.in-Some.global = ap (λ m. target m c.args.index) (sym c.bwd.ensures.map) ∙ sym c.get.ensures ∙ c.in-Some.is in
     noted_unused c.args.variables.now (g.S.StepLog.steps c.args.writer.now) k c.requires.may c.args.index c.in-Some.global there c.set_unit.new.self
@@ -48,12 +48,12 @@ returns-clause-frees g c =
     frees_here c.args.used.now.items c.args.search.now c.args.index c.args.variables.now (g.S.StepLog.steps c.args.writer.now) c.requires.may c.in-Some.global there c.set_unit.new.self
     (subst (λ (o : Option Bool). PutsUnit c.args.variables.now c.set_unit.new.self c.in-Some.global o) (c.var_value.ensures ∙ sym (same_value c.args.used.now.items c.args.search.now c.args.index)) c.set_unit.ensures)
     (same_unused c.args.used.now.items c.args.search.now c.args.index c.requires.unused)
-    c.give_up.new.variables (g.S.StepLog.steps c.give_up.new.writer) c.in_ok-give_up.ensures.gone (sym c.is_marked.ensures ∙ c.if-is_marked.false) c.requires.unmarked
+    c.remove_var.new.variables (g.S.StepLog.steps c.remove_var.new.writer) c.in_ok-remove_var.ensures.gone (sym c.is_marked.ensures ∙ c.if-is_marked.false) c.requires.unmarked
     (same_there c.args.used.now.items c.args.search.now c.args.index c.requires.there)
 
 pub returns-clause-left : goal.returns-clause-left
 returns-clause-left g c = λ v e.
     (let there : global_at c.args.variables.now c.args.index ≡ Some c.in-Some.global = ap (λ m. target m c.args.index) (sym c.bwd.ensures.map) ∙ sym c.get.ensures ∙ c.in-Some.is in
     let put : PutsUnit c.args.variables.now c.set_unit.new.self c.in-Some.global _ = c.set_unit.ensures in
-    absurd (global_gone c.args.variables.now c.give_up.new.variables c.in-Some.global c.args.index v c.requires.may.valid.tidy c.in_ok-give_up.ensures.gone.does.valid.tidy
-    (λ w. c.in_ok-give_up.ensures.gone.solvers w ∙ ap (λ m. cond (eqb w c.in-Some.global) None (target m.fwd w)) put.maps.solvers) there e))
+    absurd (global_gone c.args.variables.now c.remove_var.new.variables c.in-Some.global c.args.index v c.requires.may.valid.tidy c.in_ok-remove_var.ensures.gone.does.valid.tidy
+    (λ w. c.in_ok-remove_var.ensures.gone.solvers w ∙ ap (λ m. cond (eqb w c.in-Some.global) None (target m.fwd w)) put.maps.solvers) there e))

@@ -21,8 +21,8 @@ returns-in_err-collect_units g c = grind (arith, common_steps, err_from_is_err_a
 pub returns-then-is_empty : goal.returns-then-is_empty
 returns-then-is_empty g c = grind (arith, common_steps, common_steps, goes_none, units_none, none_left)
 
-pub step-requires-clause-may : goal.step-requires-clause-may
-step-requires-clause-may g c =
+pub add_step-requires-clause-may : goal.add_step-requires-clause-may
+add_step-requires-clause-may g c =
     let p = c.args.parts.now in
     let same : c.deref.result.now ≡ written_units c.args.parts.now.clauses (state c.args.parts.now) 64 (global_of_index c.args.globals.now) c.args.parts.now.trail.lits =
     c.deref.ensures.value ∙ c.in_ok-collect_units.ensures in
@@ -33,16 +33,16 @@ pub returns : goal.returns
 returns g c =
     let same : c.deref.result.now ≡ written_units c.args.parts.now.clauses (state c.args.parts.now) 64 (global_of_index c.args.globals.now) c.args.parts.now.trail.lits =
     c.deref.ensures.value ∙ c.in_ok-collect_units.ensures in
-    goes_step g.W.CountedWrite.seen tt c.args.proof.now c.step.new.self (UnitClauses c.deref.result.now) (λ _ _. AllUnits c.args.parts.now (session_of c.step.new.self) (global_of_index c.args.globals.now))
-    (units_named c.args.parts.now (session_of c.args.proof.now) (global_of_index c.args.globals.now) c.requires.named c.requires.orderly c.deref.result.now same) refl c.in_ok-step.ensures.keeps c.in_ok-step.ensures.records
-    (subst (λ ss. AllUnits c.args.parts.now (session_after ss) (global_of_index c.args.globals.now)) (sym c.in_ok-step.ensures.records.history ∙ refl)
+    goes_step g.W.CountedWrite.seen tt c.args.proof.now c.add_step.new.self (UnitClauses c.deref.result.now) (λ _ _. AllUnits c.args.parts.now (session_of c.add_step.new.self) (global_of_index c.args.globals.now))
+    (units_named c.args.parts.now (session_of c.args.proof.now) (global_of_index c.args.globals.now) c.requires.named c.requires.orderly c.deref.result.now same) refl c.in_ok-add_step.ensures.keeps c.in_ok-add_step.ensures.records
+    (subst (λ ss. AllUnits c.args.parts.now (session_after ss) (global_of_index c.args.globals.now)) (sym c.in_ok-add_step.ensures.records.history ∙ refl)
     (rw same (units_step c.args.parts.now (session_of c.args.proof.now) (global_of_index c.args.globals.now) c.requires.orderly c.requires.bottom c.requires.fits c.requires.named)))
 
-pub returns-in_err-step : goal.returns-in_err-step
-returns-in_err-step g c =
+pub returns-in_err-add_step : goal.returns-in_err-add_step
+returns-in_err-add_step g c =
     let same : c.deref.result.now ≡ written_units c.args.parts.now.clauses (state c.args.parts.now) 64 (global_of_index c.args.globals.now) c.args.parts.now.trail.lits =
     c.deref.ensures.value ∙ c.in_ok-collect_units.ensures in
-    let p = err_from_is_err_and c.from_residual-in_err-step.result c.from_residual-in_err-step.ensures.1 in
+    let p = err_from_is_err_and c.from_residual-in_err-add_step.result c.from_residual-in_err-add_step.ensures.1 in
     rw (p.1, p.2)
-    (goes_broken g.W.CountedWrite.seen c.in_err-step.field-0.0 c.args.proof.now c.step.new.self (UnitClauses c.deref.result.now) (λ _ _. AllUnits c.args.parts.now (session_of c.step.new.self) (global_of_index c.args.globals.now))
-    (units_named c.args.parts.now (session_of c.args.proof.now) (global_of_index c.args.globals.now) c.requires.named c.requires.orderly c.deref.result.now same) c.in_err-step.ensures.keeps c.in_err-step.ensures.records)
+    (goes_broken g.W.CountedWrite.seen c.in_err-add_step.field-0.0 c.args.proof.now c.add_step.new.self (UnitClauses c.deref.result.now) (λ _ _. AllUnits c.args.parts.now (session_of c.add_step.new.self) (global_of_index c.args.globals.now))
+    (units_named c.args.parts.now (session_of c.args.proof.now) (global_of_index c.args.globals.now) c.requires.named c.requires.orderly c.deref.result.now same) c.in_err-add_step.ensures.keeps c.in_err-add_step.ensures.records)

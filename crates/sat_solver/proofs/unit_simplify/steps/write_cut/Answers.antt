@@ -11,20 +11,20 @@ use Rattle.sat_solver.proofs.lemmas.fits.QuietLemmas.{few_quiet}
 use Rattle.sat_solver.specs.unit_simplify.Cuts.{deleted_step, derived_step}
 use Rattle.sat_solver.proofs.unit_simplify.steps.write_cut.Goals as goal
 
-pub step-requires-clause-may : goal.step-requires-clause-may
-step-requires-clause-may g c = rw c.deref.ensures.value c.requires.may.derive
+pub add_step-requires-clause-may : goal.add_step-requires-clause-may
+add_step-requires-clause-may g c = rw c.deref.ensures.value c.requires.may.derive
 
-pub returns-in_err-step : goal.returns-in_err-step
-returns-in_err-step g c =
+pub returns-in_err-add_step : goal.returns-in_err-add_step
+returns-in_err-add_step g c =
     let p = err_from_is_err_and c.from_residual.result c.from_residual.ensures.1 in
     rw (p.1, p.2)
-    (goes_broken g.W.CountedWrite.seen c.in_err-step.field-0.0 c.args.proof.now c.step.new.self (AtClause c.left_redundant.result c.args.part.now c.deref.result.now) _ c.requires.named c.in_err-step.ensures.keeps c.in_err-step.ensures.records)
+    (goes_broken g.W.CountedWrite.seen c.in_err-add_step.field-0.0 c.args.proof.now c.add_step.new.self (AtClause c.left_redundant.result c.args.part.now c.deref.result.now) _ c.requires.named c.in_err-add_step.ensures.keeps c.in_err-add_step.ensures.records)
 
 pub returns : goal.returns
 returns g c =
     let p = c.args.proof.now in
-    let q = c.step.new.self in
-    let z = c.step-2.new.self in
+    let q = c.add_step.new.self in
+    let z = c.add_step-2.new.self in
     let one : Step = derived_step c.args.redundant c.args.part.now c.args.scratch.now.hashes.items in
     let two : Step = deleted_step c.args.redundant Simplified c.args.scratch.now.clause.items in
     let one_is : AtClause c.left_redundant.result c.args.part.now c.deref.result.now ≡ derived_step c.args.redundant c.args.part.now c.args.scratch.now.hashes.items =
@@ -33,19 +33,19 @@ returns g c =
     let two_is : DeleteClause c.deref-2.result.now (deletion_of c.deletion_for.result) ≡ deleted_step c.args.redundant Simplified c.args.scratch.now.clause.items =
     ap (λ ls. DeleteClause ls (deletion_of c.deletion_for.result)) c.deref-2.ensures.value ∙ ap (λ x. DeleteClause c.args.scratch.now.clause.items x) c.deletion_for.ensures in
     goes_then g.W.CountedWrite.seen tt (Ok tt) p q z (λ (_ : Unit {0}) _. steps_of q ≡ one ∷ steps_of p) (λ (_ : Unit {0}) _. steps_of z ≡ two ∷ steps_of q) _
-    (goes_step g.W.CountedWrite.seen tt p q (AtClause c.left_redundant.result c.args.part.now c.deref.result.now) (λ _ _. steps_of q ≡ one ∷ steps_of p) c.requires.named (few_quiet c.left_redundant.result c.args.part.now c.deref.result.now (ap are_few c.deref.ensures.value ∙ c.requires.few)) c.in_ok-step.ensures.keeps c.in_ok-step.ensures.records
-    (c.in_ok-step.ensures.records.history ∙ ap (λ x. x ∷ steps_of p) one_is))
-    (goes_step g.W.CountedWrite.seen tt q z (DeleteClause c.deref-2.result.now (deletion_of c.deletion_for.result)) (λ _ _. steps_of z ≡ two ∷ steps_of q) tt refl c.in_ok-step-2.ensures.keeps c.in_ok-step-2.ensures.records
-    (c.in_ok-step-2.ensures.records.history ∙ ap (λ x. x ∷ steps_of q) two_is))
+    (goes_step g.W.CountedWrite.seen tt p q (AtClause c.left_redundant.result c.args.part.now c.deref.result.now) (λ _ _. steps_of q ≡ one ∷ steps_of p) c.requires.named (few_quiet c.left_redundant.result c.args.part.now c.deref.result.now (ap are_few c.deref.ensures.value ∙ c.requires.few)) c.in_ok-add_step.ensures.keeps c.in_ok-add_step.ensures.records
+    (c.in_ok-add_step.ensures.records.history ∙ ap (λ x. x ∷ steps_of p) one_is))
+    (goes_step g.W.CountedWrite.seen tt q z (DeleteClause c.deref-2.result.now (deletion_of c.deletion_for.result)) (λ _ _. steps_of z ≡ two ∷ steps_of q) tt refl c.in_ok-add_step-2.ensures.keeps c.in_ok-add_step-2.ensures.records
+    (c.in_ok-add_step-2.ensures.records.history ∙ ap (λ x. x ∷ steps_of q) two_is))
     (λ xs ys y a b. b ∙ ap (λ ss. two ∷ ss) a)
 
-pub returns-in_err-step-2 : goal.returns-in_err-step-2
-returns-in_err-step-2 g c =
+pub returns-in_err-add_step-2 : goal.returns-in_err-add_step-2
+returns-in_err-add_step-2 g c =
     let p = c.args.proof.now in
-    let q = c.step.new.self in
-    let z = c.step-2.new.self in
-    let r = err_from_is_err_and c.from_residual-in_err-step-2.result c.from_residual-in_err-step-2.ensures.1 in
+    let q = c.add_step.new.self in
+    let z = c.add_step-2.new.self in
+    let r = err_from_is_err_and c.from_residual-in_err-add_step-2.result c.from_residual-in_err-add_step-2.ensures.1 in
     rw (r.1, r.2)
-    (goes_then_fails g.W.CountedWrite.seen tt (proof_fault c.in_err-step-2.field-0.0) p q z (λ (_ : Unit {0}) _. Unit {0}) (λ (_ : Unit {0}) _. Unit {0}) _
-    (goes_step g.W.CountedWrite.seen tt p q (AtClause c.left_redundant.result c.args.part.now c.deref.result.now) (λ _ _. Unit {0}) c.requires.named (few_quiet c.left_redundant.result c.args.part.now c.deref.result.now (ap are_few c.deref.ensures.value ∙ c.requires.few)) c.in_ok-step.ensures.keeps c.in_ok-step.ensures.records tt)
-    (goes_broken g.W.CountedWrite.seen c.in_err-step-2.field-0.0 q z (DeleteClause c.deref-2.result.now (deletion_of c.deletion_for.result)) _ tt c.in_err-step-2.ensures.keeps c.in_err-step-2.ensures.records))
+    (goes_then_fails g.W.CountedWrite.seen tt (proof_fault c.in_err-add_step-2.field-0.0) p q z (λ (_ : Unit {0}) _. Unit {0}) (λ (_ : Unit {0}) _. Unit {0}) _
+    (goes_step g.W.CountedWrite.seen tt p q (AtClause c.left_redundant.result c.args.part.now c.deref.result.now) (λ _ _. Unit {0}) c.requires.named (few_quiet c.left_redundant.result c.args.part.now c.deref.result.now (ap are_few c.deref.ensures.value ∙ c.requires.few)) c.in_ok-add_step.ensures.keeps c.in_ok-add_step.ensures.records tt)
+    (goes_broken g.W.CountedWrite.seen c.in_err-add_step-2.field-0.0 q z (DeleteClause c.deref-2.result.now (deletion_of c.deletion_for.result)) _ tt c.in_err-add_step-2.ensures.keeps c.in_err-add_step-2.ensures.records))

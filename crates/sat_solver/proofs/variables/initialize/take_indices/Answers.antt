@@ -10,8 +10,8 @@ pub loop-at-preserved : goal.loop-at-preserved
 loop-at-preserved c =
     let i = c.loop-at.invariant in
     let p = c.loop-at.parts in
-    let q = c.take_index.new.parts in
-    let x = c.take_index.ensures in
+    let q = c.initialize_var.new.parts in
+    let x = c.initialize_var.ensures in
     let g : Given = c.index-given-at.result in
     let rest : List Given = drop (c.loop-at.at + 1) c.args.given.now in
     let e : drop c.loop-at.at c.args.given.now ≡ c.index-given-at.result ∷ drop (c.loop-at.at + 1) c.args.given.now = drop_next c.args.given.now c.loop-at.at c.index-given-at.result c.loop-at-test.true (sym c.index-given-at.is) in
@@ -21,7 +21,7 @@ loop-at-preserved c =
       bottom = x.bottom;
       size = x.size ∙ i.size;
       left = record {
-        each = subst (λ n. AllByRecursion (IsVacant c.take_index.new.parts n) (drop (c.loop-at.at + 1) c.args.given.now)) (sym x.size) (vacant_on g rest p q (length c.loop-at.parts.assignment.current) left.apart.0 x left.each.1);
+        each = subst (λ n. AllByRecursion (IsVacant c.initialize_var.new.parts n) (drop (c.loop-at.at + 1) c.args.given.now)) (sym x.size) (vacant_on g rest p q (length c.loop-at.parts.assignment.current) left.apart.0 x left.each.1);
         apart = left.apart.1;
       };
       goes = λ r h. i.goes r (subst (λ gs. ActivatesIndices gs c.loop-at.parts r) (sym e) (takes_cons g rest p q r left.apart.0 x h));
