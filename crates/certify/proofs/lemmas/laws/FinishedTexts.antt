@@ -1,17 +1,17 @@
 -- What a finished run wrote is confirmed, with any readers and for texts in memory.
-use Rattle.std.proofs.Common.{ℕ, ◌+◌, ◌*◌, ◌^◌, ◌≤◌, ◌≡◌, ◌∙◌, List, ◌++◌, Option, None, Some, Result, Ok, Err, IfOk, sym, ap, subst, arith, length, length-append, append-nil, []}
+use Rattle.std.proofs.Common.{ℕ, ◌+◌, ◌*◌, ◌^◌, ◌≤◌, ◌≡◌, ◌∙◌, List, ◌++◌, Option, None, Some, Result, Ok, Err, IfOk, sym, ap, subst, arith, length, length-append, append-nil}
 use Rattle.std.specs.Prelude.{IfSome, ◌↔◌}
-use Rattle.std.specs.Io.KnownBytes.{Appends, Consumes, IsAtEnd}
+use Rattle.std.specs.Io.KnownBytes.{Consumes, IsAtEnd}
 use Rattle.std.proofs.lemmas.List.{append_cancel_left}
 use Rattle.std.proofs.Math.Nat.{mul-le-mul, mul-one, pow-succ', pow-zero}
-use Rattle.sat_base.specs.device.Device.{Reader, Writer, GaveEnough, WriterAccepts}
+use Rattle.sat_base.specs.device.Device.{Reader, GaveEnough}
 use Rattle.sat_base.specs.script.Language.{reading}
 use Rattle.sat_base.proofs.lemmas.device.Given.{enough_known}
 use Rattle.sat_checker.specs.matching.ProofChecking.{checker_rules}
 use Rattle.certify.specs.confirm.Matches.{Matches, TextsMatch}
 use Rattle.certify.specs.confirm.VerdictPromises.{AreRightAnswers, Exact, GaveTextWith, IsSoundVerdict, TakesLooks}
 use Rattle.certify.specs.laws.EndToEnd.{CanBe, FinishedIsConfirmed, VerdictGuarantee, most_looks_over}
-use Rattle.certify.specs.run.FinishedRun.{CertificateGuarantee, TookCertificate, rounds_of_asks}
+use Rattle.certify.specs.run.FinishedRun.{CertificateGuarantee, rounds_of_asks}
 use Rattle.certify.specs.declared.summary.Summary.{Summary}
 use Rattle.certify.specs.declared.verdict.ConfirmFault.{ConfirmFault}
 use Rattle.certify.specs.declared.verdict.Verdict.{Verdict}
@@ -82,24 +82,6 @@ looks_within c z u from to e k =
     let few = consumed c.to_come z.to_come u k.text e k.front.known_bytes in
     let up = squares_rise (length k.text + 1) (length u + 1) (omega (arith, few)) in
     omega (arith, up, k.bound)
-
--- WHAT A RUN WROTE IN MEMORY
-appended : (o p : Option (List ℕ)) (text items : List ℕ) → Appends o p text → o ≡ Some [] → p ≡ Some items → items ≡ text
-appended None p text items h e f = absurd (let g = e in cc)
-appended (Some xs) None text items h e f = absurd (let g = f in cc)
-appended (Some xs) (Some ys) text items h e f =
-    let no : xs ≡ [] = cc in
-    let same : ys ≡ items = cc in
-    sym same ∙ h ∙ ap (λ (zs : List ℕ). zs ++ text) no
-
-pub run_finished : (budget : ℕ) (summary : Summary) (x y : Reader) (a b c d : Writer) (text answers certificate : List ℕ) → x.to_come ≡ Some text
-    → a.contents ≡ Some [] → b.contents ≡ Some answers → c.contents ≡ Some [] → d.contents ≡ Some certificate
-    → TookCertificate budget summary (x, y) (a, b) (c, d) → CertificateGuarantee text budget summary answers certificate
-run_finished budget summary x y a b c d text answers certificate e f g h i took =
-    let p = of_known_text x y (λ t. (answered : List ℕ) × (certified : List ℕ) × WriterAccepts a b answered × WriterAccepts c d certified × CertificateGuarantee t budget summary answered certified) text e took in
-    let is_answered : answers ≡ p.0 = appended a.contents b.contents p.0 answers p.2.known_bytes f g in
-    let is_certified : certificate ≡ p.1 = appended c.contents d.contents p.1 certificate p.3.known_bytes h i in
-    subst (λ s. CertificateGuarantee text budget summary answers s) (sym is_certified) (subst (λ s. CertificateGuarantee text budget summary s p.1) (sym is_answered) p.4)
 
 -- a verdict on what a finished run wrote is `Yes`
 pub guaranteed_yes : (budget : ℕ) (summary : Summary) (script answers certificate : List ℕ) (v : Verdict) → CertificateGuarantee script budget summary answers certificate → VerdictGuarantee script answers certificate v → v ≡ Yes
