@@ -1,6 +1,8 @@
+pub mod Failures
 pub mod Printing
 pub mod HintPrinting
 pub mod Calls
 pub mod Copies
-pub mod Program
+pub mod Effects
 pub mod FileCalls
+pub mod Program

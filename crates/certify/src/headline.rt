@@ -2,8 +2,10 @@
 //! the script.
 ghost use Rattle.std.specs.Prelude.{◌≡◌, ◌≤◌, ◌+◌, IfOk, OnOk};
 ghost use Rattle.sat_base.specs.device.Device.{GaveEnough};
+ghost use Rattle.certify.specs.Devices.{reader_before_after};
 ghost use Rattle.certify.specs.laws.EndToEnd.{Certified, VerdictGuarantee, most_looks_over};
 ghost use Rattle.certify.specs.laws.Headline.{Headline};
+ghost use Rattle.certify.specs.program.Failures.{ReadsToFailure};
 ghost use Rattle.certify.specs.run.FinishedRun.{CertificateGuarantee, rounds_of_asks};
 
 use crate::confirm::confirm;
@@ -47,6 +49,8 @@ pub(crate) fn run_in_memory<S: CountedRead>(
     ensures wrote { IfOk result (λ w. GaveEnough (S.seen script.old) (S.seen script.new)
         (λ text. CertificateGuarantee text budget w.summary w.answers.items w.certificate.items)) }
     ensures kept { OnOk result ((S.seen script.new).failures ≡ (S.seen script.old).failures) }
+    ensures reads { ReadsToFailure (reader_before_after S.seen script.old script.new) }
+    ensures loans { (S.seen script.new).loans ≡ (S.seen script.old).loans }
 {
     let mut answers = Counted::new(Vec::new(alloc));
     let mut certificate = Counted::new(Vec::new(alloc));

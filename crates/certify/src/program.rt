@@ -1,10 +1,11 @@
 //! What the program does with its arguments and its standard streams.
-ghost use Rattle.std.specs.Prelude.{MatchResult, [], map};
+ghost use Rattle.std.specs.Prelude.{MatchResult, map};
 ghost use Rattle.std.specs.String.{string_bytes};
 ghost use Rattle.certify.specs.Devices.{reader_before_after, writer_before_after};
 ghost use Rattle.certify.specs.program.Calls.{status_of};
-ghost use Rattle.certify.specs.program.FileCalls.{DoesCall, files_of};
-ghost use Rattle.certify.specs.program.Program.{ObeysWithFiles, Unread, effect};
+ghost use Rattle.certify.specs.program.Effects.{Unread, effect};
+ghost use Rattle.certify.specs.program.FileCalls.{DoesCall};
+ghost use Rattle.certify.specs.program.Program.{Obeys};
 
 mod call;
 mod fault;
@@ -43,11 +44,12 @@ use std::io::{Read, Write};
 /// - `check H`: checks the hint text in H, and writes `proved empty=E cores=K lines=L`, where E is 0 or 1, or `bad LINE
 ///   WHY` to `output`.
 ///
-/// An output must not be the input or the other output: the two arguments must not be equal, and must not refer to the
-/// same regular file. Otherwise the call is refused like invalid arguments. This happens before any file is opened for
-/// writing, unless only the creation of the first output shows that both outputs are the same file. The two outputs may
-/// be the same file if it is not regular. Files are opened in the order of the arguments. After a finished run, one
-/// line with the solver's counts is written to `errors`.
+/// An output must not overwrite the input or the other output. So a call is refused, like invalid arguments, in three
+/// cases: the argument for an output equals the argument for the input, byte for byte; two of these paths lead to the
+/// same regular file; or the arguments for both outputs are equal, and no file is found there yet. The outputs may be
+/// the same file if it is not regular, such as a terminal. A call is refused before any file is opened for writing,
+/// unless only the creation of the first output shows that both outputs are the same file. Files are opened in the
+/// order of the arguments. After a finished run, one line with the solver's counts is written to `errors`.
 ///
 /// Returns the status:
 ///
@@ -65,12 +67,12 @@ pub fn program<R: AllocGlobal + Files, I: CountedRead, O: CountedWrite, E: Count
     output: &mut O,
     errors: &mut E,
 ) -> u8
-    // The call that the arguments ask for is made: `DoesRequest` has one line for each call. Other arguments change nothing.
+    // The call that the arguments ask for is made: `DoesCall` has one line for each call. Other arguments change nothing.
     ensures { MatchResult arguments
-        (λ words. ObeysWithFiles (map string_bytes words.items)
+        (λ words. Obeys R.File.remaining R.File.contents (map string_bytes words.items)
         (effect result (reader_before_after I.seen input.old input.new) (writer_before_after O.seen output.old output.new)))
         (λ error. Unread error
-        (effect result (reader_before_after I.seen input.old input.new) (writer_before_after O.seen output.old output.new) [])) }
+        (effect result (reader_before_after I.seen input.old input.new) (writer_before_after O.seen output.old output.new))) }
 {
     match arguments {
         Ok(words) => obey(rt, &words, input, output, errors),
@@ -91,7 +93,7 @@ fn obey<R: AllocGlobal + Files, I: CountedRead, O: CountedWrite, E: CountedWrite
     output: &mut O,
     errors: &mut E,
 ) -> u8
-    ensures { ObeysWithFiles (map string_bytes words.now)
+    ensures { Obeys R.File.remaining R.File.contents (map string_bytes words.now)
         (effect result (reader_before_after I.seen input.old input.new) (writer_before_after O.seen output.old output.new)) }
 {
     let Some(call) = call_of(words) else {
@@ -105,15 +107,15 @@ fn obey<R: AllocGlobal + Files, I: CountedRead, O: CountedWrite, E: CountedWrite
 }
 
 /// Carries out a call whose files are open, and does nothing else. Returns the status.
-pub fn carry_out<F: Read + Write, I: CountedRead, O: CountedWrite, E: CountedWrite>(
+pub fn carry_out<F: Read, G: Write, I: CountedRead, O: CountedWrite, E: CountedWrite>(
     alloc: Global,
-    call: &mut OpenCall<'_, F>,
+    call: &mut OpenCall<'_, F, G>,
     input: &mut I,
     output: &mut O,
     errors: &mut E,
 ) -> u8
-    ensures { DoesCall call.old (effect result (reader_before_after I.seen input.old input.new) (writer_before_after O.seen output.old output.new)
-        (files_of F.remaining F.contents call.old call.new)) }
+    ensures { DoesCall F.remaining G.contents call.old call.new
+        (effect result (reader_before_after I.seen input.old input.new) (writer_before_after O.seen output.old output.new)) }
 {
     match make_call(alloc, call, input, output, errors) {
         Ok(status) => status,
@@ -122,15 +124,15 @@ pub fn carry_out<F: Read + Write, I: CountedRead, O: CountedWrite, E: CountedWri
 }
 
 /// Carries out a call whose files are open. Returns the status, or a fault.
-fn make_call<F: Read + Write, I: CountedRead, O: CountedWrite, E: CountedWrite>(
+fn make_call<F: Read, G: Write, I: CountedRead, O: CountedWrite, E: CountedWrite>(
     alloc: Global,
-    call: &mut OpenCall<'_, F>,
+    call: &mut OpenCall<'_, F, G>,
     input: &mut I,
     output: &mut O,
     errors: &mut E,
 ) -> Result<u8, ProgramFault>
-    ensures { DoesCall call.old (effect (status_of result) (reader_before_after I.seen input.old input.new)
-        (writer_before_after O.seen output.old output.new) (files_of F.remaining F.contents call.old call.new)) }
+    ensures { DoesCall F.remaining G.contents call.old call.new
+        (effect (status_of result) (reader_before_after I.seen input.old input.new) (writer_before_after O.seen output.old output.new)) }
 {
     match call {
         OpenCall::Standard => answer(alloc, input, output, errors),

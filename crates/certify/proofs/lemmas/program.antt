@@ -1,4 +1,5 @@
 pub mod Copying
+pub mod Failing
 pub mod PrintedVerdicts
 pub mod Requests
 pub mod Words

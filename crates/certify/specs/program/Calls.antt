@@ -47,6 +47,11 @@ AsksFor words request = IsUsage words request × KeepsInput request
 abbrev pub AsksNothing : List (List ℕ) → Type 0
 AsksNothing words = (request : Request) → AsksFor words request → ⊥
 
+-- `NamesFiles request` holds unless the request is that without arguments.
+abbrev pub NamesFiles : Request → Type 0
+NamesFiles Standard = ⊥
+NamesFiles request = Unit {0}
+
 -- that the call writes files
 abbrev pub WritesFiles : Request → Type 0
 WritesFiles Standard = ⊥

@@ -1,5 +1,5 @@
 -- A reader that keeps a copy of the bytes that another reader gives.
-use Rattle.std.specs.Prelude.{ℕ, ◌≡◌, ◌+◌, ◌-◌, Bool, true, false, if◌then◌else◌, Some, List, [], ◌∷◌, length, drop}
+use Rattle.std.specs.Prelude.{ℕ, ◌≡◌, ◌+◌, ◌-◌, true, false, if◌then◌else◌, nat_lt, Some, List, [], ◌∷◌, length, drop}
 use Rattle.sat_base.specs.device.Counting.{reader_of}
 use Rattle.sat_base.specs.device.Device.{Reader, GaveEnough}
 use Rattle.sat_base.specs.declared.device.counted.Counted.{Counted}
@@ -18,12 +18,12 @@ refusal_count c = (reader_of (λ _. Some (0 ∷ [])) c).failures
 
 -- What contracts see of a reader that keeps the bytes given by `r`. Besides the reads of `r`, it counts those that failed because memory ran out.
 -- The number of bytes that `r` gave before the first one kept never changes, and is the latest loan.
-abbrev pub kept_reader : Reader → List ℕ → ℕ → Bool → Reader
-kept_reader r kept refusals refused = record {
+abbrev pub kept_reader : Reader → List ℕ → ℕ → Reader
+kept_reader r kept refusals = record {
   to_come = r.to_come;
   given = r.given;
-  ended = if refused then false else r.ended;
-  failed = if refused then true else r.failed;
+  ended = if nat_lt 0 refusals then false else r.ended;
+  failed = if nat_lt 0 refusals then true else r.failed;
   failures = r.failures + refusals;
   calls = r.calls + refusals;
   loans = given_before r.given kept ∷ r.loans;

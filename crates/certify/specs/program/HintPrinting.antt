@@ -9,7 +9,8 @@ use Rattle.sat_hints.specs.declared.answer.HintVerdict.{HintVerdict}
 use Rattle.sat_hints.specs.declared.answer.HintVerdict.TheVariants.{Proved, Bad}
 use Rattle.sat_hints.specs.declared.answer.HintWhy.{HintWhy}
 use Rattle.sat_hints.specs.declared.answer.HintWhy.TheVariants as why
-use Rattle.certify.specs.program.Printing.{NoReadFailed, PrintsLine}
+use Rattle.certify.specs.program.Failures.{NoReadFailed}
+use Rattle.certify.specs.program.Printing.{PrintsLine}
 
 -- the word for each reason
 abbrev pub hint_why_text : HintWhy → List ℕ
@@ -52,11 +53,12 @@ pub record PrintsHintVerdict (status : ℕ) (input : Reader × Reader) (output :
   pub printed : PrintsLine status (hint_verdict_text verdict) (is_proved verdict ≡ true) output.0 output.1
   pub read : NoReadFailed input
 
--- that printing this line failed after a prefix
+-- `CutsHintVerdict input output` holds if no read failed, and writing the line for a correct verdict failed after a prefix.
 pub record CutsHintVerdict (input : Reader × Reader) (output : Writer × Writer) : Type 0 where
   pub verdict : HintVerdict
   pub judges : GaveEnough input.0 input.1 (VerdictHolds verdict)
   pub printed : WriterFails output.0 output.1 (hint_verdict_text verdict)
+  pub read : NoReadFailed input
 
 -- the status for a result of `convert`, or `None` for a device or allocation failure
 abbrev pub status_after : Result (Unit {0}) HintError → Option ℕ

@@ -1,8 +1,9 @@
 -- What the program prints.
-use Rattle.std.specs.Prelude.{ℕ, ◌≡◌, ◌↔◌, ◌⊎◌, true, Bool, false, None, is_some, List, ◌∷◌, ◌++◌, codes, decimal, []}
+use Rattle.std.specs.Prelude.{ℕ, ◌≡◌, ◌<◌, ◌^◌, ◌↔◌, ◌⊎◌, true, Bool, false, None, is_some, List, ◌∷◌, ◌++◌, codes, decimal, length, []}
 use Rattle.sat_base.specs.device.Device.{Reader, Writer, GaveEnough, WriterAccepts, WriterFails}
 use Rattle.sat_base.specs.script.Script.{ScriptEnding, Clean, Malformed}
 use Rattle.certify.specs.confirm.VerdictPromises.{Exact}
+use Rattle.certify.specs.program.Failures.{NoReadFailed}
 use Rattle.sat_base.specs.script.Language.{reading}
 use Rattle.certify.specs.run.FinishedRun.{CertificateGuarantee, TookCertificate}
 use Rattle.certify.specs.run.RoundsLeft.{most_rounds}
@@ -83,15 +84,12 @@ abbrev pub is_malformed : ScriptEnding → Bool
 is_malformed Clean = false
 is_malformed Malformed = true
 
--- that no read failed
-abbrev pub NoReadFailed : Reader × Reader → Type 0
-NoReadFailed r = r.1.failures ≡ r.0.failures
-
--- a run of a text with at most `budget` rounds for each ask: its summary, answers and certificate
+-- A run of a text with at most `budget` rounds for each ask: its summary, answers and certificate. The certificate is small enough for memory.
 pub record RunOf (text : List ℕ) (budget : ℕ) : Type 0 where
   pub summary : Summary
   pub answers : List ℕ
   pub certificate : List ℕ
+  pub fits : length certificate < 2 ^ 63
   pub guarantee : CertificateGuarantee text budget summary answers certificate
 
 -- that a run with the largest budget wrote correct answers to a text in memory, and their certificate
@@ -125,9 +123,10 @@ pub record CutsRun (text : List ℕ) (old new : Writer) : Type 0 where
   pub run : RunOf text most_rounds
   pub printed : WriterAccepts old new run.answers ⊎ WriterFails old new (run.answers ++ verdict_text Yes)
 
--- that `CutsRun` holds for the text that a reader gave, whatever bytes could follow
-abbrev pub PrintsCut : Reader × Reader → Writer × Writer → Type 0
-PrintsCut input output = GaveEnough input.0 input.1 (λ text. CutsRun text output.0 output.1)
+-- `PrintsCut input output` holds if `CutsRun` holds for the text that the reader gave, whatever bytes could follow, and no read failed.
+pub record PrintsCut (input : Reader × Reader) (output : Writer × Writer) : Type 0 where
+  pub given : GaveEnough input.0 input.1 (λ text. CutsRun text output.0 output.1)
+  pub read : NoReadFailed input
 
 -- That a line was printed. The status is 0 exactly when `IsSo` holds.
 pub record PrintsLine (status : ℕ) (line : List ℕ) (IsSo : Type 0) (old new : Writer) : Type 0 where
@@ -142,11 +141,12 @@ pub record PrintsYesOrNo (status : ℕ) (script answers certificate : Reader × 
   pub printed : PrintsLine status (yes_or_no_text verdict) (verdict ≡ Yes) output.0 output.1
   pub read : NoReadFailed script × NoReadFailed answers × NoReadFailed certificate
 
--- that printing this line failed after a prefix
+-- `CutsYesOrNo script answers certificate output` holds if no read failed, and writing the line for a correct verdict failed after a prefix.
 pub record CutsYesOrNo (script answers certificate : Reader × Reader) (output : Writer × Writer) : Type 0 where
   pub verdict : Verdict
   pub exact : Exact script answers certificate verdict
   pub printed : WriterFails output.0 output.1 (yes_or_no_text verdict)
+  pub read : NoReadFailed script × NoReadFailed answers × NoReadFailed certificate
 
 -- That the answers to the text that a reader gave were written, and their certificate. The status is 0 exactly when the text is not malformed.
 pub record Ran (status budget : ℕ) (script : Reader × Reader) (answers certificate : Writer × Writer) : Type 0 where

@@ -133,15 +133,15 @@ impl<R: CountedRead> Read for Keeping<R> {
         ensures bound { ReadsAtMost result buf.new }
         ensures bytes { ReadConsumes (R.remaining self.old.reader) (R.remaining self.new.reader) result buf.new }
         ensures once { ReadsOnce result buf.new
-            (kept_reader (R.seen self.old.reader) self.old.kept.items (refusal_count self.old.refusals) self.old.is_refused)
-            (kept_reader (R.seen self.new.reader) self.new.kept.items (refusal_count self.new.refusals) self.new.is_refused) }
+            (kept_reader (R.seen self.old.reader) self.old.kept.items (refusal_count self.old.refusals))
+            (kept_reader (R.seen self.new.reader) self.new.kept.items (refusal_count self.new.refusals)) }
     {
         self.read_counted(buf)
     }
 }
 
 impl<R: CountedRead> CountedRead for Keeping<R> {
-    ghost seen = { λ k. kept_reader (R.seen k.reader) k.kept.items (refusal_count k.refusals) k.is_refused };
+    ghost seen = { λ k. kept_reader (R.seen k.reader) k.kept.items (refusal_count k.refusals) };
 
     ghost known_bytes = { λ k. R.known_bytes k.reader };
 

@@ -1,7 +1,7 @@
 //! Opens the files of a call, in the order of the arguments.
-ghost use Rattle.std.specs.Prelude.{IfOk, MatchOption};
-ghost use Rattle.certify.specs.program.Calls.{Check, Hints, WritesFiles, confirming, request_of, running};
-ghost use Rattle.certify.specs.program.FileCalls.{IsNew, IsOpenedFor};
+ghost use Rattle.std.specs.Prelude.{IfOk, MatchOption, MatchResult};
+ghost use Rattle.certify.specs.program.Calls.{Check, Hints, NamesFiles, WritesFiles, confirming, request_of, running};
+ghost use Rattle.certify.specs.program.FileCalls.{IsOpenedFor, IsUnread, IsUnwritten};
 
 use crate::fault::RunFault;
 use crate::program::call::{Call, RunFiles};
@@ -26,33 +26,33 @@ pub struct OpenTexts<'a, F> {
     pub certificate: OpenFile<'a, F>,
 }
 
-/// The files of a run, and its budget.
+/// The files of a run, and its budget. `F` is read, and `G` is written.
 #[derive(Drop)]
-pub struct OpenRun<'a, F> {
+pub struct OpenRun<'a, F, G> {
     pub script: OpenFile<'a, F>,
-    pub answers: OpenFile<'a, F>,
-    pub certificate: OpenFile<'a, F>,
+    pub answers: OpenFile<'a, G>,
+    pub certificate: OpenFile<'a, G>,
     pub budget: u64,
 }
 
 /// A certificate and its hint text, open.
 #[derive(Drop)]
-pub struct OpenHints<'a, F> {
+pub struct OpenHints<'a, F, G> {
     pub certificate: OpenFile<'a, F>,
-    pub hints: OpenFile<'a, F>,
+    pub hints: OpenFile<'a, G>,
 }
 
-/// A call whose files are open.
+/// A call whose files are open. Files of the type `F` are read, and those of the type `G` are written.
 #[derive(Drop)]
-pub enum OpenCall<'a, F> {
+pub enum OpenCall<'a, F, G> {
     /// Without arguments.
     Standard,
     /// `run S A C [STEPS]`
-    Run(OpenRun<'a, F>),
+    Run(OpenRun<'a, F, G>),
     /// `confirm S A C`
     Confirm(OpenTexts<'a, F>),
     /// `hints C H`
-    Hints(OpenHints<'a, F>),
+    Hints(OpenHints<'a, F, G>),
     /// `check H`
     Check(OpenFile<'a, F>),
 }
@@ -63,7 +63,7 @@ fn open<'a, R: Files>(
     path: &'a str,
     fault: ProgramFault,
 ) -> Result<OpenFile<'a, R::File>, ProgramFault>
-    ensures { IfOk result (IsNew R.File.remaining R.File.contents path.now) }
+    ensures { IfOk result (IsUnread R.File.remaining path.now) }
 {
     match File::open(rt, path) {
         Ok(file) => Ok(OpenFile {
@@ -80,7 +80,7 @@ fn make<'a, R: Files>(
     path: &'a str,
     fault: ProgramFault,
 ) -> Result<OpenFile<'a, R::File>, ProgramFault>
-    ensures { IfOk result (IsNew R.File.remaining R.File.contents path.now) }
+    ensures { IfOk result (IsUnwritten R.File.contents path.now) }
 {
     match File::create(rt, path) {
         Ok(file) => Ok(OpenFile {
@@ -97,7 +97,7 @@ fn open_run<'a, R: Files>(
     rt: &R,
     files: RunFiles<'a>,
     budget: u64,
-) -> Result<Option<OpenCall<'a, R::File>>, ProgramFault>
+) -> Result<Option<OpenCall<'a, R::File, R::File>>, ProgramFault>
     ensures { IfOk result (λ made. MatchOption made (WritesFiles (running files.entry budget))
         (IsOpenedFor R.File.remaining R.File.contents (running files.entry budget))) }
 {
@@ -126,7 +126,7 @@ fn open_run<'a, R: Files>(
 fn open_confirm<'a, R: Files>(
     rt: &R,
     files: RunFiles<'a>,
-) -> Result<OpenCall<'a, R::File>, ProgramFault>
+) -> Result<OpenCall<'a, R::File, R::File>, ProgramFault>
     ensures { IfOk result (IsOpenedFor R.File.remaining R.File.contents (confirming files.entry)) }
 {
     let script = open(
@@ -156,7 +156,7 @@ fn open_hints<'a, R: Files>(
     rt: &R,
     certificate: &'a str,
     hints: &'a str,
-) -> Result<Option<OpenCall<'a, R::File>>, ProgramFault>
+) -> Result<Option<OpenCall<'a, R::File, R::File>>, ProgramFault>
     ensures { IfOk result (λ made. MatchOption made (WritesFiles (Hints certificate.now hints.now))
         (IsOpenedFor R.File.remaining R.File.contents (Hints certificate.now hints.now))) }
 {
@@ -169,20 +169,24 @@ fn open_hints<'a, R: Files>(
 }
 
 /// Opens a hint text.
-fn open_check<'a, R: Files>(rt: &R, hints: &'a str) -> Result<OpenCall<'a, R::File>, ProgramFault>
+fn open_check<'a, R: Files>(
+    rt: &R,
+    hints: &'a str,
+) -> Result<OpenCall<'a, R::File, R::File>, ProgramFault>
     ensures { IfOk result (IsOpenedFor R.File.remaining R.File.contents (Check hints.now)) }
 {
     let hints = open(rt, hints, ProgramFault::Hints(HintCallFault::Read))?;
     Ok(OpenCall::Check(hints))
 }
 
-/// Opens the files of a call, and does nothing else. Returns `None` if an output is another file of the call.
+/// Opens the files of a call, and does nothing else. Returns `None` if an output is another file of the call. If the
+/// call names no files, this doesn't fail.
 pub(super) fn open_call<'a, R: Files>(
     rt: &R,
     call: &Call<'a>,
-) -> Result<Option<OpenCall<'a, R::File>>, ProgramFault>
-    ensures { IfOk result (λ made. MatchOption made (WritesFiles (request_of call.now))
-        (IsOpenedFor R.File.remaining R.File.contents (request_of call.now))) }
+) -> Result<Option<OpenCall<'a, R::File, R::File>>, ProgramFault>
+    ensures { MatchResult result (λ made. MatchOption made (WritesFiles (request_of call.now))
+        (IsOpenedFor R.File.remaining R.File.contents (request_of call.now))) (λ _. NamesFiles (request_of call.now)) }
 {
     match *call {
         Call::Standard => Ok(Some(OpenCall::Standard)),

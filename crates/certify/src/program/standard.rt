@@ -4,6 +4,7 @@ ghost use Rattle.std.specs.Prelude.{◌≡◌, ◌⊎◌, [], IfOk, OnErr, false
 ghost use Rattle.certify.specs.Devices.{reader_before_after, writer_before_after};
 ghost use Rattle.certify.specs.program.Calls.{HasStatus};
 ghost use Rattle.certify.specs.program.Copies.{GaveKept};
+ghost use Rattle.certify.specs.program.Failures.{ReadsToFailure};
 ghost use Rattle.certify.specs.program.Printing.{CutsWritten, IsWritten, Prints, PrintsCut, PrintsWritten};
 
 use crate::fault::RunFault;
@@ -55,8 +56,10 @@ fn fault_in_memory(fault: RunFault, is_refused: bool) -> ProgramFault {
 fn run_kept<R: CountedRead>(alloc: Global, script: &mut Keeping<R>) -> Result<Written, ProgramFault>
     requires nothing { script.old.kept.items ≡ [] }
     requires enough { script.old.is_refused ≡ false }
-    ensures { IfOk result (λ w. GaveKept (R.seen script.old.reader) (R.seen script.new.reader) script.new.kept.items
+    ensures gave { IfOk result (λ w. GaveKept (R.seen script.old.reader) (R.seen script.new.reader) script.new.kept.items
         (λ text. IsWritten text w)) }
+    ensures reads { ReadsToFailure (reader_before_after R.seen script.old.reader script.new.reader) }
+    ensures loans { (R.seen script.new.reader).loans ≡ (R.seen script.old.reader).loans }
 {
     match run_in_memory(alloc, script, u64::MAX) {
         Ok(written) => {
@@ -84,6 +87,8 @@ fn answer_kept<R: CountedRead, O: CountedWrite, E: CountedWrite>(
     ensures cut { OnErr result ((O.seen output.new ≡ O.seen output.old)
         ⊎ PrintsCut (reader_before_after R.seen script.old.reader script.new.reader)
         (writer_before_after O.seen output.old output.new)) }
+    ensures reads { ReadsToFailure (reader_before_after R.seen script.old.reader script.new.reader) }
+    ensures loans { (R.seen script.new.reader).loans ≡ (R.seen script.old.reader).loans }
 {
     let written = run_kept(alloc, script)?;
     report_progress(errors, &written.summary.progress);
@@ -102,6 +107,8 @@ fn answer_and_return<R: CountedRead + Drop, O: CountedWrite, E: CountedWrite>(
         (λ s. Prints s (R.seen input, R.seen result.0) (writer_before_after O.seen output.old output.new)) }
     ensures cut { OnErr result.1 ((O.seen output.new ≡ O.seen output.old)
         ⊎ PrintsCut (R.seen input, R.seen result.0) (writer_before_after O.seen output.old output.new)) }
+    ensures reads { ReadsToFailure (R.seen input, R.seen result.0) }
+    ensures loans { (R.seen result.0).loans ≡ (R.seen input).loans }
 {
     let mut script = Keeping::new(alloc, input);
     let result = answer_kept(alloc, &mut script, output, errors);
@@ -121,6 +128,7 @@ pub(super) fn answer<I: CountedRead, O: CountedWrite, E: CountedWrite>(
         (writer_before_after O.seen output.old output.new)) }
     ensures cut { OnErr result ((O.seen output.new ≡ O.seen output.old)
         ⊎ PrintsCut (reader_before_after I.seen input.old input.new) (writer_before_after O.seen output.old output.new)) }
+    ensures reads { ReadsToFailure (reader_before_after I.seen input.old input.new) }
 {
     let (lent, result) = answer_and_return(alloc, input, output, errors);
     let _input: &mut I = lent;

@@ -4,6 +4,7 @@ ghost use Rattle.sat_base.specs.device.Device.{WriterFails, WriterAccepts};
 ghost use Rattle.certify.specs.Devices.{reader_before_after, writer_before_after};
 ghost use Rattle.certify.specs.declared.verdict.Verdict.TheVariants.{Yes};
 ghost use Rattle.certify.specs.program.Calls.{HasStatus};
+ghost use Rattle.certify.specs.program.Failures.{ConfirmsToFailure, ReadsToFailure, RunsToFailure};
 ghost use Rattle.certify.specs.program.HintPrinting.{CutsHintVerdict, CutsHints, PrintsHintVerdict, WritesHints};
 ghost use Rattle.certify.specs.program.HintPrinting.{hint_verdict_text, is_proved};
 ghost use Rattle.certify.specs.program.Printing.{CutsYesOrNo, PrintsLine, PrintsYesOrNo, Ran, yes_or_no_text};
@@ -49,6 +50,8 @@ pub(super) fn run_text<S: CountedRead, A: CountedWrite, C: CountedWrite, E: Coun
     ensures unfinished { OnErr result
         (Unfinished budget (reader_before_after S.seen script.old script.new) (writer_before_after A.seen answers.old answers.new)) }
     ensures steps { TookSteps (writer_before_after C.seen certificate.old certificate.new) }
+    ensures calls { RunsToFailure (reader_before_after S.seen script.old script.new)
+        (writer_before_after A.seen answers.old answers.new) (writer_before_after C.seen certificate.old certificate.new) }
 {
     match run(alloc, script, answers, certificate, budget) {
         Ok(summary) => {
@@ -94,6 +97,8 @@ pub(super) fn confirm_given<S: CountedRead, A: CountedRead, C: CountedRead, O: C
     ensures cut { OnErr result ((O.seen output.new ≡ O.seen output.old)
         ⊎ CutsYesOrNo (reader_before_after S.seen script.old script.new) (reader_before_after A.seen answers.old answers.new)
         (reader_before_after C.seen certificate.old certificate.new) (writer_before_after O.seen output.old output.new)) }
+    ensures calls { ConfirmsToFailure (reader_before_after S.seen script.old script.new)
+        (reader_before_after A.seen answers.old answers.new) (reader_before_after C.seen certificate.old certificate.new) }
 {
     let mut looks = Looks::new();
     let verdict = confirm(alloc, script, answers, certificate, &mut looks)?;
@@ -174,6 +179,7 @@ pub(super) fn check_text<H: CountedRead, O: CountedWrite>(
         (writer_before_after O.seen output.old output.new)) }
     ensures cut { OnErr result ((O.seen output.new ≡ O.seen output.old)
         ⊎ CutsHintVerdict (reader_before_after H.seen text.old text.new) (writer_before_after O.seen output.old output.new)) }
+    ensures calls { ReadsToFailure (reader_before_after H.seen text.old text.new) }
 {
     let verdict = check(alloc, text)?;
     print_hint_verdict(alloc, verdict, output)

@@ -1,9 +1,10 @@
 -- What a reader gave through one that keeps it.
 use Rattle.std.proofs.Common.{ℕ, ◌≡◌, ◌+◌, ◌-◌, ◌≤◌, ◌<◌, Bool, true, false, List, [], ◌∷◌, ◌++◌, length, length-append, length-drop, drop, take, Result, Ok, Err, IfOk, append_assoc, refl, sym, ap, subst, ◌∙◌, arith}
-use Rattle.std.specs.Prelude.{OnOk}
+use Rattle.std.specs.Prelude.{OnOk, if◌then◌else◌, nat_lt}
 use Rattle.std.proofs.lemmas.List.{append-nil, drop_all}
 use Rattle.sat_base.specs.device.Device.{Reader, CanFollow, FewReads, GavePrefix, GaveEnough, lent_reader}
 use Rattle.certify.specs.program.Copies.{GaveKept, IsCopy, given_before, kept_reader}
+use Rattle.certify.specs.program.Failures.{ReadsToFailure}
 
 -- nothing kept
 pub copy_none : (given : List ℕ) → IsCopy given []
@@ -16,13 +17,13 @@ behind (x ∷ xs) ys = behind xs ys
 
 module _ (a b : Reader) (kept : List ℕ) where
   -- all that a reader gave was kept
-  kept_text : (text : List ℕ) → IsCopy b.given kept → GavePrefix (kept_reader a [] 0 false) (kept_reader b kept 0 false) text → text ≡ kept
+  kept_text : (text : List ℕ) → IsCopy b.given kept → GavePrefix (kept_reader a [] 0) (kept_reader b kept 0) text → text ≡ kept
   kept_text text c g =
       let n : given_before b.given kept ≡ length a.given = let e : given_before b.given kept ≡ given_before a.given [] = cc (g.loans) in omega (arith, e) in
       sym (behind a.given text) ∙ ap (λ (z : List ℕ). drop (length a.given) z) (sym g.gave) ∙ ap (λ (k : ℕ). drop k b.given) (sym n) ∙ c
 
   -- what a reader gave through one that keeps it
-  pub gave_kept : (P : List ℕ → Type 0) → IsCopy b.given kept → b.failures ≡ a.failures → GaveEnough (kept_reader a [] 0 false) (kept_reader b kept 0 false) P
+  pub gave_kept : (P : List ℕ → Type 0) → IsCopy b.given kept → b.failures ≡ a.failures → GaveEnough (kept_reader a [] 0) (kept_reader b kept 0) P
       → GaveKept a b kept P
   gave_kept P c f g =
       let few : FewReads a b = omega (arith, g.few) in
@@ -42,18 +43,33 @@ module _ (a b : Reader) (kept : List ℕ) where
 -- what a reader gave to a run, if memory for the copy has not run out
 pub run_keeps : (a b : Reader) (kept : List ℕ) (n m : ℕ) (early late : Bool) (k : List ℕ) (P : List ℕ → Type 0)
     → IsCopy b.given kept → k ≡ [] → early ≡ false → late ≡ false → (early ≡ false → n ≡ 0) → (late ≡ false → m ≡ 0)
-    → GaveEnough (kept_reader a k n early) (kept_reader b kept m late) P → (kept_reader b kept m late).failures ≡ (kept_reader a k n early).failures
+    → GaveEnough (kept_reader a k n) (kept_reader b kept m) P → (kept_reader b kept m).failures ≡ (kept_reader a k n).failures
     → GaveKept a b kept P
 run_keeps a b kept n m early late k P c none e l en ln g f =
-    let old : kept_reader a k n early ≡ kept_reader a [] 0 false = rw (none, e, en e) refl in
-    let new : kept_reader b kept m late ≡ kept_reader b kept 0 false = rw (l, ln l) refl in
+    let old : kept_reader a k n ≡ kept_reader a [] 0 = rw (none, en e) refl in
+    let new : kept_reader b kept m ≡ kept_reader b kept 0 = rw (ln l) refl in
     let fs : b.failures ≡ a.failures = omega (arith, f, en e, ln l) in
     gave_kept a b kept P c fs
-    (subst (λ (z : Reader). GaveEnough z (kept_reader b kept 0 false) P) old (subst (λ (z : Reader). GaveEnough (kept_reader a k n early) z P) new g))
+    (subst (λ (z : Reader). GaveEnough z (kept_reader b kept 0) P) old (subst (λ (z : Reader). GaveEnough (kept_reader a k n) z P) new g))
+
+-- the failed reads of a reader, seen through one that keeps what it gives
+pub keeps_to_failure : (a b : Reader) (k kept : List ℕ) (n m : ℕ) → n ≡ 0 → ReadsToFailure (kept_reader a k n, kept_reader b kept m) → ReadsToFailure (a, b)
+keeps_to_failure a b k kept n m none h = record {
+  failures = omega (arith, none, h.failures);
+  last = λ one.
+      let no : m ≡ 0 = omega (arith, none, one, h.failures) in
+      let failed : (if nat_lt 0 m then true else b.failed) ≡ true = h.last (omega (arith, none, no, one)) in
+      rw no at failed;
+  reads = omega (arith, none, h.reads);
+}
+
+-- a reader is lent as it was before, if it is seen so through one that keeps what it gives
+pub keeps_loans : (a b : Reader) (k kept : List ℕ) (n m : ℕ) → (kept_reader b kept m).loans ≡ (kept_reader a k n).loans → b.loans ≡ a.loans
+keeps_loans a b k kept n m h = let e : ◌≡◌ {A = List ℕ} (given_before b.given kept ∷ b.loans) (given_before a.given k ∷ a.loans) = h in cc
 
 -- a reader that was lent came back through the same loan
-pub same_loan : (a b : Reader) (given back : ℕ) (P : List ℕ → Type 0) → GaveEnough (lent_reader given a) (lent_reader back b) P → given ≡ back
-same_loan a b given back P g = let h : ◌≡◌ {A = List ℕ} (back ∷ b.loans) (given ∷ a.loans) = g.front.loans in cc
+pub same_loan : (a b : Reader) (given back : ℕ) → (lent_reader back b).loans ≡ (lent_reader given a).loans → given ≡ back
+same_loan a b given back e = let h : ◌≡◌ {A = List ℕ} (back ∷ b.loans) (given ∷ a.loans) = e in cc
 
 -- what a reader that was lent gave
 pub enough_unlent : (a b : Reader) (given back : ℕ) (P : List ℕ → Type 0) → GaveEnough (lent_reader given a) (lent_reader back b) P → GaveEnough a b P

@@ -1,11 +1,12 @@
 -- What is printed for texts in memory.
-use Rattle.std.proofs.Common.{ℕ, ◌≡◌, ◌+◌, ◌⊎◌, List, ◌++◌, Result, Ok, Err, IfOk, OnOk, inl, inr, length, refl, subst, sym, ◌∙◌, ap, append_assoc}
+use Rattle.std.proofs.Common.{ℕ, ◌≡◌, ◌+◌, ◌<◌, ◌^◌, ◌⊎◌, Vec, Global, arith, List, ◌++◌, Result, Ok, Err, IfOk, OnOk, inl, inr, length, refl, subst, sym, ◌∙◌, ap, append_assoc}
 use Rattle.std.specs.Prelude.{OnErr, is_ok, is_some, if◌then◌else◌}
-use Rattle.sat_base.specs.device.Device.{Reader, Writer, GaveEnough, lent_reader}
+use Rattle.sat_base.specs.device.Device.{Reader, Writer, lent_reader}
 use Rattle.sat_base.specs.script.Language.{reading}
 use Rattle.sat_base.proofs.lemmas.device.Given.{enough_as}
 use Rattle.sat_base.specs.script.Script.{ScriptEnding, Clean, Malformed}
 use Rattle.certify.specs.program.Copies.{GaveKept}
+use Rattle.certify.specs.program.Failures.{ReadsToFailure}
 use Rattle.certify.specs.program.Printing.{CutsRun, CutsWritten, IsWritten, Prints, PrintsCut, PrintsRun, PrintsWritten, RunOf, is_malformed}
 use Rattle.certify.specs.run.FinishedRun.{malformed_at}
 use Rattle.certify.specs.run.RoundsLeft.{most_rounds}
@@ -34,9 +35,13 @@ pub malformed_is : (n : ℕ) (ending : ScriptEnding) → is_some (malformed_at n
 malformed_is n Clean = refl
 malformed_is n Malformed = refl
 
+-- a list in memory has fewer than 2^63 elements
+fits_memory : (v : Vec ℕ Global) → length v.items < 2 ^ 63
+fits_memory v = omega (arith, v.ok, v.small)
+
 -- the run that wrote these answers
 abbrev run_of : (text : List ℕ) (w : Written) → IsWritten text w → RunOf text most_rounds
-run_of text w is = record { summary = w.summary; answers = w.answers.items; certificate = w.certificate.items; guarantee = is }
+run_of text w is = record { summary = w.summary; answers = w.answers.items; certificate = w.certificate.items; fits = fits_memory w.certificate; guarantee = is }
 
 -- the answers of a run and the line for the verdict are what the table says
 prints_run : (s : ℕ) (text : List ℕ) (w : Written) (a b : Writer) → PrintsWritten s w a b → IsWritten text w → PrintsRun s text a b
@@ -61,25 +66,24 @@ prints_given (Err e) x y a b kept w g p = tt
 pub cut_given : {A E : Type 0} (r : Result A E) (x y : Reader) (a b : Writer) (kept : List ℕ) (w : Written) → GaveKept x y kept (λ text. IsWritten text w)
     → OnErr r (CutsWritten w a b) → OnErr r ((b ≡ a) ⊎ PrintsCut (x, y) (a, b))
 cut_given (Ok s) x y a b kept w g p = tt
-cut_given (Err e) x y a b kept w g p = inr (enough_as x y (λ text. IsWritten text w) (λ text. CutsRun text a b) (λ text. cuts_run text w a b p) g.gave)
+cut_given (Err e) x y a b kept w g p = inr (record { given = enough_as x y (λ text. IsWritten text w) (λ text. CutsRun text a b) (λ text. cuts_run text w a b p) g.gave; read = g.read })
 
 -- A READER THAT IS LENT
 
-module _ {I : Type 0} (seen : I → Reader) (x c v : I) (given back : ℕ) (a b : Writer) (same : given ≡ back → c ≡ v) where
-  came_back : (P : List ℕ → Type 0) → GaveEnough (lent_reader given (seen x)) (lent_reader back (seen v)) P → GaveEnough (seen x) (seen c) P
-  came_back P g =
-      let is : c ≡ v = same (same_loan (seen x) (seen v) given back P g) in
-      subst (λ (k : _). GaveEnough (seen x) (seen k) P) (sym is) (enough_unlent (seen x) (seen v) given back P g)
+module _ {I : Type 0} (seen : I → Reader) (x c v : I) (given back : ℕ) (same : given ≡ back → c ≡ v) (loans : (lent_reader back (seen v)).loans ≡ (lent_reader given (seen x)).loans) where
+  came_back : (P : I → Type 0) → P v → P c
+  came_back P p = subst P (sym (same (same_loan (seen x) (seen v) given back loans))) p
 
-  kept_back : (P : List ℕ → Type 0) → GaveEnough (lent_reader given (seen x)) (lent_reader back (seen v)) P → (seen v).failures ≡ (seen x).failures → (seen c).failures ≡ (seen x).failures
-  kept_back P g f = subst (λ (k : _). (seen k).failures ≡ (seen x).failures) (sym (same (same_loan (seen x) (seen v) given back P g))) f
+  -- once a lent reader is returned, so are its failed reads
+  pub reads_lent : ReadsToFailure (lent_reader given (seen x), lent_reader back (seen v)) → ReadsToFailure (seen x, seen c)
+  reads_lent h = came_back (λ k. ReadsToFailure (seen x, seen k)) (record { failures = h.failures; last = h.last; reads = h.reads })
 
   -- once a lent reader is returned, what was printed holds for it
-  pub prints_lent : {E : Type 0} (r : Result ℕ E) → IfOk r (λ s. Prints s (lent_reader given (seen x), lent_reader back (seen v)) (a, b)) → IfOk r (λ s. Prints s (seen x, seen c) (a, b))
-  prints_lent (Ok s) p = record { given = came_back (λ text. PrintsRun s text a b) p.given; read = kept_back (λ text. PrintsRun s text a b) p.given p.read }
-  prints_lent (Err e) p = tt
+  pub prints_lent : {E : Type 0} (a b : Writer) (r : Result ℕ E) → IfOk r (λ s. Prints s (lent_reader given (seen x), lent_reader back (seen v)) (a, b)) → IfOk r (λ s. Prints s (seen x, seen c) (a, b))
+  prints_lent a b (Ok s) p = came_back (λ k. Prints s (seen x, seen k) (a, b)) (record { given = enough_unlent (seen x) (seen v) given back (λ text. PrintsRun s text a b) p.given; read = p.read })
+  prints_lent a b (Err e) p = tt
 
-  pub cut_lent : {E : Type 0} (r : Result ℕ E) → OnErr r ((b ≡ a) ⊎ PrintsCut (lent_reader given (seen x), lent_reader back (seen v)) (a, b)) → OnErr r ((b ≡ a) ⊎ PrintsCut (seen x, seen c) (a, b))
-  cut_lent (Ok s) p = tt
-  cut_lent (Err e) (inl none) = inl none
-  cut_lent (Err e) (inr p) = inr (came_back (λ text. CutsRun text a b) p)
+  pub cut_lent : {E : Type 0} (a b : Writer) (r : Result ℕ E) → OnErr r ((b ≡ a) ⊎ PrintsCut (lent_reader given (seen x), lent_reader back (seen v)) (a, b)) → OnErr r ((b ≡ a) ⊎ PrintsCut (seen x, seen c) (a, b))
+  cut_lent a b (Ok s) p = tt
+  cut_lent a b (Err e) (inl none) = inl none
+  cut_lent a b (Err e) (inr p) = inr (came_back (λ k. PrintsCut (seen x, seen k) (a, b)) (record { given = enough_unlent (seen x) (seen v) given back (λ text. CutsRun text a b) p.given; read = p.read }))

@@ -12,7 +12,7 @@ returns-clause-printed g c =
     let y = g.R.CountedRead.seen c.run_kept.new.script.reader in
     let a = g.O.CountedWrite.seen c.args.output.now in
     let b = g.O.CountedWrite.seen c.print_confirmed.new.output in
-    prints_given c.print_confirmed.result x y a b c.run_kept.new.script.kept.items c.in_ok-written.written c.in_ok-written.ensures c.print_confirmed.ensures.printed
+    prints_given c.print_confirmed.result x y a b c.run_kept.new.script.kept.items c.in_ok-written.written c.in_ok-written.ensures.gave c.print_confirmed.ensures.printed
 
 pub returns-clause-cut : goal.returns-clause-cut
 returns-clause-cut g c =
@@ -20,4 +20,4 @@ returns-clause-cut g c =
     let y = g.R.CountedRead.seen c.run_kept.new.script.reader in
     let a = g.O.CountedWrite.seen c.args.output.now in
     let b = g.O.CountedWrite.seen c.print_confirmed.new.output in
-    cut_given c.print_confirmed.result x y a b c.run_kept.new.script.kept.items c.in_ok-written.written c.in_ok-written.ensures c.print_confirmed.ensures.cut
+    cut_given c.print_confirmed.result x y a b c.run_kept.new.script.kept.items c.in_ok-written.written c.in_ok-written.ensures.gave c.print_confirmed.ensures.cut
