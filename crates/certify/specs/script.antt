@@ -1,3 +1,4 @@
 pub mod Commands
+pub mod LastChunk
 pub mod LastPiece
 pub mod Streaming

@@ -1,6 +1,7 @@
 //! Confirms that a script, answers and a certificate match.
 ghost use Rattle.std.specs.Prelude.{◌≡◌, ◌+◌, ◌≤◌, ◌⊎◌, IfOk, IsErrOf};
 ghost use Rattle.sat_base.specs.device.Device.{most_reads, ReadFails};
+ghost use Rattle.sat_base.specs.dimacs.Parsing.{StopsReading};
 ghost use Rattle.certify.specs.Devices.{reader_before_after};
 ghost use Rattle.certify.specs.confirm.VerdictPromises.{GaveRightAnswers, IsExact, ConfirmGuarantee, ReadsKept};
 ghost use Rattle.certify.specs.confirm.VerdictPromises.{TakesLooks};
@@ -59,6 +60,7 @@ fn compare<S: CountedRead, A: CountedRead, C: CountedRead>(
     ensures promised { ConfirmGuarantee (confirm_result result.0 result.1) (reader_before_after S.seen script.old script.new)
         (reader_before_after A.seen answers.old answers.new) (reader_before_after C.seen certificate.old certificate.new) }
     ensures looks { TakesLooks (C.seen certificate.old) (C.seen certificate.new) looks.old looks.new }
+    ensures stops { StopsReading (S.seen script.old) (S.seen script.new) }
 {
     let mut confirmation = Confirmation {
         script: CommandStream::new(alloc),
@@ -111,6 +113,9 @@ pub fn confirm<S: CountedRead, A: CountedRead, C: CountedRead>(
     ensures script_reads { (S.seen script.new).calls ≤ (S.seen script.old).calls + most_reads }
     ensures answers_reads { (A.seen answers.new).calls ≤ (A.seen answers.old).calls + most_reads }
     ensures certificate_reads { (C.seen certificate.new).calls ≤ (C.seen certificate.old).calls + most_reads }
+    // After a chunk with a line that begins with `%`, no chunk of the script is read: fewer bytes were given after that
+    // line than one read can give.
+    ensures stops { StopsReading (S.seen script.old) (S.seen script.new) }
 {
     let (ended, asks) = compare(alloc, script, answers, certificate, looks);
     conclude(ended, asks)

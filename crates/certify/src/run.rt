@@ -1,6 +1,7 @@
 //! Answers a script while reading it, and writes a certificate.
 ghost use Rattle.std.specs.Prelude.{◌≡◌, ◌+◌, ◌≤◌, ◌⊎◌, true, IfOk, OnErr, OnOk, IsErrOf};
 ghost use Rattle.sat_base.specs.device.Device.{most_reads, ReadFails};
+ghost use Rattle.sat_base.specs.dimacs.Parsing.{StopsReading};
 ghost use Rattle.certify.specs.Devices.{reader_before_after, writer_before_after};
 ghost use Rattle.certify.specs.run.FinishedRun.{WritesAnswers, CertificateIsGuaranteed, WriteFails, WritesKept};
 ghost use Rattle.certify.specs.run.Running.{ReadsFew, FinishesOrFaults};
@@ -43,6 +44,7 @@ fn answer<S: CountedRead, A: CountedWrite, C: CountedWrite + Drop>(
     ensures counter_end { IsErrOf result.1 RunFault.CounterEnd → CounterEnds (reader_before_after S.seen script.old script.new)
         (C.seen certificate, C.seen result.0) }
     ensures reads { ReadsFew (reader_before_after S.seen script.old script.new) }
+    ensures stops { StopsReading (S.seen script.old) (S.seen script.new) }
 {
     let mut session = RunState::new(alloc, certificate, budget);
     let mut stream = CommandStream::new(alloc);
@@ -66,6 +68,7 @@ fn answer_into<S: CountedRead, A: CountedWrite, C: CountedWrite>(
     ensures counter_end { IsErrOf result RunFault.CounterEnd → CounterEnds (reader_before_after S.seen script.old script.new)
         (writer_before_after C.seen certificate.old certificate.new) }
     ensures reads { ReadsFew (reader_before_after S.seen script.old script.new) }
+    ensures stops { StopsReading (S.seen script.old) (S.seen script.new) }
 {
     let (lent, result) = answer(alloc, script, answers, certificate, budget);
     let _certificate: &mut C = lent;
@@ -125,6 +128,9 @@ pub fn run<S: CountedRead, A: CountedWrite, C: CountedWrite>(
         ⊎ WritesKept C.seen certificate.old certificate.new }
     // At most 2^48 reads are made of the script.
     ensures reads { (S.seen script.new).calls ≤ (S.seen script.old).calls + most_reads }
+    // After a chunk with a line that begins with `%`, no chunk is read: fewer bytes were given after that line than one
+    // read can give.
+    ensures stops { StopsReading (S.seen script.old) (S.seen script.new) }
 {
     answer_into(alloc, script, answers, certificate, budget)
 }

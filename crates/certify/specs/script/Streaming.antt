@@ -7,6 +7,7 @@ use Rattle.sat_base.specs.text.Chunks.{Follows}
 use Rattle.sat_base.specs.declared.device.whole.ReadError.{ReadError}
 use Rattle.sat_base.specs.declared.device.whole.ReadError.TheVariants as errors
 use Rattle.certify.specs.confirm.Streams.{Covers, rest_in}
+use Rattle.certify.specs.script.LastChunk.{ConsumesText}
 use Rattle.certify.specs.script.LastPiece.{FaultsAhead, TakesSome, waiting_bytes}
 use Rattle.certify.specs.script.Commands.{EndsLast, MeansIf, TakesBytes, end_if}
 use Rattle.certify.specs.declared.script.ahead.LastPiece.{LastPiece}
@@ -21,7 +22,7 @@ use Rattle.certify.specs.declared.script.stream.Next.TheVariants as next
 -- With an error, none were consumed.
 abbrev pub TakesWaiting : {E : Type 0} → Result Reached E → CommandStream → CommandStream → Type 0
 TakesWaiting (Ok r) old new = (text : List ℕ) × (waiting_bytes old.ahead ≡ text ++ waiting_bytes new.ahead) × (new.ahead.reads ≡ old.ahead.reads)
-    × (0 < length (waiting_bytes old.ahead) → 0 < length text) × TakesBytes r old.reader text new.reader
+    × (0 < length (waiting_bytes old.ahead) → 0 < length text) × TakesBytes r old.reader text new.reader × ConsumesText old.reader text new.reader
 TakesWaiting (Err e) old new = new.ahead ≡ old.ahead
 
 -- the effect of the end of the text

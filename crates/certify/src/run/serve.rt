@@ -1,9 +1,11 @@
 //! Serves the commands of a script as they are read, and then its end.
 ghost use Rattle.std.specs.Prelude.{◌≡◌, ◌+◌, ◌∷◌, [], false, IfErr, IfOk, OnErr, OnOk};
-ghost use Rattle.sat_base.specs.device.Device.{WriterAccepts};
+ghost use Rattle.sat_base.specs.device.Device.{Reader, WriterAccepts};
+ghost use Rattle.sat_base.specs.dimacs.Parsing.{StopsReading};
 ghost use Rattle.sat_base.specs.script.ScriptState.{ScriptState, initial_state};
 ghost use Rattle.sat_base.specs.script.Script.{Command as Spelled, Malformed};
 ghost use Rattle.certify.specs.answers.Answers.{malformed_line};
+ghost use Rattle.certify.specs.script.LastChunk.{ReadsOn};
 ghost use Rattle.certify.specs.script.LastPiece.{IsNotAtEnd, source_in};
 ghost use Rattle.certify.specs.script.Commands.{RepresentsCommand, RepresentsSomeCommand, ReaderMeans, MeansIf};
 ghost use Rattle.certify.specs.script.Commands.{end_reading};
@@ -148,9 +150,11 @@ pub(crate) fn serve_all<S: CountedRead, A: CountedWrite, C: CountedWrite + Drop>
     requires open_yet { IsNotAtEnd (source_in S.seen script.old stream.old.ahead) }
     requires means { ReaderMeans stream.old.reader reading }
     requires counts { MeansIf false stream.old.reader plain_reading }
-    ensures { ServesScript C.seen initial_state reading plain_reading result (source_in S.seen script.old stream.old.ahead)
-        (source_in S.seen script.new stream.new.ahead) session.old session.new (A.seen answers.old)
-        (A.seen answers.new) }
+    ensures serves { ServesScript C.seen initial_state reading plain_reading result
+        (source_in S.seen script.old stream.old.ahead) (source_in S.seen script.new stream.new.ahead) session.old
+        session.new (A.seen answers.old) (A.seen answers.new) }
+    ensures stops { (start : Reader) → ReadsOn start (source_in S.seen script.old stream.old.ahead) stream.old.reader
+        → StopsReading start (S.seen script.new) }
 {
     loop {
         let next = match stream.next(script) {

@@ -8,6 +8,7 @@ ghost use Rattle.sat_base.specs.text.WrongWords.{HasValidContinuation};
 ghost use Rattle.certify.specs.script.Commands.{EndsLast, EndsWhateverFollows, HasWhole, RepresentsCommand};
 ghost use Rattle.certify.specs.script.Commands.{RestMatters, CanContinue};
 ghost use Rattle.certify.specs.script.Commands.{MeansIf, ReaderMeans, TakesBytes};
+ghost use Rattle.certify.specs.script.LastChunk.{ConsumesText, HasConsumed};
 
 use super::commands::Commands;
 use super::{Command, Reached, ScriptEnd};
@@ -45,6 +46,7 @@ impl ScriptReader {
     pub fn new(alloc: Global) -> ScriptReader
         ensures means { ReaderMeans result reading }
         ensures counts { MeansIf false result plain_reading }
+        ensures text { HasConsumed result [] }
     {
         ScriptReader {
             tokenizer: Tokenizer::new(),
@@ -73,6 +75,7 @@ impl ScriptReader {
         // A malformed word is reported at the first byte after which it can no longer become a valid one.
         ensures right { IfOk result (λ r. 0 < length bytes.now → r.1 ≡ Reached.More → CanContinue self.new) }
         ensures takes { IfOk result (λ r. TakesBytes r.1 self.old (take r.0 bytes.now) self.new) }
+        ensures text { IfOk result (λ r. ConsumesText self.old (take r.0 bytes.now) self.new) }
     {
         let mut at = 0;
         while at < bytes.len() {

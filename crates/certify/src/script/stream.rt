@@ -3,6 +3,7 @@ ghost use Rattle.std.specs.Prelude.{◌≡◌, [], false};
 ghost use Rattle.sat_base.specs.script.Script.{Command as SpelledCommand};
 ghost use Rattle.certify.specs.script.LastPiece.{IsNotAtEnd, source_in, waiting_bytes};
 ghost use Rattle.certify.specs.script.Commands.{HasWhole, RepresentsCommand, RestMatters, MeansIf, ReaderMeans};
+ghost use Rattle.certify.specs.script.LastChunk.{HasConsumed, KeepsReadingOn, ReadsOnUpTo};
 ghost use Rattle.sat_base.specs.script.Language.{reading, plain_reading};
 ghost use Rattle.certify.specs.script.Streaming.{Brings, NextCommandResult, LeavesFewerTurns, FinishesText};
 ghost use Rattle.certify.specs.script.Streaming.{TakesWaiting};
@@ -36,6 +37,7 @@ impl CommandStream {
     pub fn new(alloc: Global) -> CommandStream
         ensures means { ReaderMeans result.reader reading }
         ensures counts { MeansIf false result.reader plain_reading }
+        ensures text { HasConsumed result.reader [] }
         ensures waiting { waiting_bytes result.ahead ≡ [] }
         ensures reads { result.ahead.reads ≡ 0 }
     {
@@ -81,6 +83,8 @@ impl CommandStream {
         ensures brings { Brings result (source_in S.seen script.old self.old.ahead)
             (source_in S.seen script.new self.new.ahead) self.old.reader self.new.reader }
         ensures falls { LeavesFewerTurns result self.old.ahead self.new.ahead }
+        ensures stops { KeepsReadingOn result (source_in S.seen script.old self.old.ahead)
+            (source_in S.seen script.new self.new.ahead) self.old.reader self.new.reader }
     {
         if self.ahead.refill(script)? == 0 {
             return Ok(Some(self.finish()));
@@ -96,6 +100,8 @@ impl CommandStream {
         ensures brings { Brings result (source_in S.seen script.old self.old.ahead)
             (source_in S.seen script.new self.new.ahead) self.old.reader self.new.reader }
         ensures falls { LeavesFewerTurns result self.old.ahead self.new.ahead }
+        ensures stops { KeepsReadingOn result (source_in S.seen script.old self.old.ahead)
+            (source_in S.seen script.new self.new.ahead) self.old.reader self.new.reader }
     {
         match self.reader.end_if_over() {
             Some(end) => Ok(Some(Next::End(end))),
@@ -110,6 +116,8 @@ impl CommandStream {
         ensures brings { Brings result (source_in S.seen script.old self.old.ahead)
             (source_in S.seen script.new self.new.ahead) self.old.reader self.new.reader }
         ensures falls { LeavesFewerTurns result self.old.ahead self.new.ahead }
+        ensures stops { KeepsReadingOn result (source_in S.seen script.old self.old.ahead)
+            (source_in S.seen script.new self.new.ahead) self.old.reader self.new.reader }
     {
         if self.ahead.waiting().is_empty() {
             return self.read_on(script);
@@ -124,7 +132,9 @@ impl CommandStream {
     /// Reads up to the end of the next command, or to the end of the text.
     pub fn next<S: CountedRead>(&mut self, script: &mut S) -> Result<Next, ReadError>
         requires { IsNotAtEnd (source_in S.seen script.old self.old.ahead) }
-        ensures { NextCommandResult result (source_in S.seen script.old self.old.ahead)
+        ensures arrives { NextCommandResult result (source_in S.seen script.old self.old.ahead)
+            (source_in S.seen script.new self.new.ahead) self.old.reader self.new.reader }
+        ensures stops { ReadsOnUpTo result (source_in S.seen script.old self.old.ahead)
             (source_in S.seen script.new self.new.ahead) self.old.reader self.new.reader }
     {
         loop {

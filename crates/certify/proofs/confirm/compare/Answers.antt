@@ -1,8 +1,10 @@
-use Rattle.std.proofs.Common.{ℕ, ◌+◌, ◌≡◌, ◌∙◌, ap}
+use Rattle.std.proofs.Common.{ℕ, ◌+◌, ◌≡◌, ◌∙◌, ap, refl}
 use Rattle.sat_base.specs.steps.StepReading.{reader_source, step_in}
 use Rattle.sat_checker.specs.CheckerView.{kernel_of}
 use Rattle.certify.specs.confirm.Confirming.{table_of}
 use Rattle.certify.specs.confirm.ConfirmedScript.{confirm_place}
+use Rattle.certify.specs.script.LastPiece.{source_in}
+use Rattle.certify.proofs.lemmas.script.LastChunks.{reads_first}
 use Rattle.certify.proofs.lemmas.confirm.Decided.{IsBegun, begins, keeps_promises, looks_added}
 use Rattle.certify.proofs.confirm.compare.Goals as goal
 
@@ -28,4 +30,5 @@ returns g c =
     rw now record {
       promised = keeps_promises x a d checker step table new fresh ended.result ended.new.self.session.asks ended.new.self.script.ahead.bounded ended.new.self.session.answers.lines.ahead.bounded ended.ensures.bound ends;
       looks = looks_added x a d checker step table fresh new c.new-2.ensures.looks ended.result c.args.looks.now c.add.new.self c.add.ensures ends;
+      stops = ended.ensures.stops x (reads_first x (source_in S c.args.script.now script) c.new.result.reader refl c.new.ensures.waiting c.new.ensures.text);
     }

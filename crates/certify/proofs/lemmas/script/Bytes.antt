@@ -91,7 +91,7 @@ pub no_more : (xs : List ℕ) (n k : ℕ) → n ≤ length xs → k ≤ length (
 no_more xs n k h i = let l = length-take (length xs - n) (drop n xs) in omega arith
 
 -- a prefix is a shorter prefix and some of the bytes after it
-front_and : (n k : ℕ) (xs : List ℕ) → n ≤ length xs → k ≤ length (take (length xs - n) (drop n xs)) → take (n + k) xs ≡ take n xs ++ take k (take (length xs - n) (drop n xs))
+pub front_and : (n k : ℕ) (xs : List ℕ) → n ≤ length xs → k ≤ length (take (length xs - n) (drop n xs)) → take (n + k) xs ≡ take n xs ++ take k (take (length xs - n) (drop n xs))
 front_and n k xs h i = take-add n k xs ∙ ap (λ (ys : List ℕ). take n xs ++ ys) (sym (take-take k (length xs - n) (drop n xs) (let l = length-take (length xs - n) (drop n xs) in omega arith)))
 
 pub followed_front : (r : Reached) (a b c : ScriptReader) (xs : List ℕ) (n k : ℕ) → n ≤ length xs → k ≤ length (take (length xs - n) (drop n xs)) → ((asks : Bool) → Follows (MeansIf asks) a (take n xs) b)

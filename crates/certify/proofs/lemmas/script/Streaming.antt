@@ -10,6 +10,7 @@ use Rattle.sat_base.specs.declared.device.whole.ReadError.{ReadError}
 use Rattle.sat_base.specs.declared.device.whole.ReadError.TheVariants as errors
 use Rattle.sat_base.proofs.lemmas.device.ReadLemmas.{gave_some, gave_nothing, passes_more}
 use Rattle.certify.specs.confirm.Streams.{rest_in}
+use Rattle.certify.specs.script.LastChunk.{ConsumesText, KeepsReadingOn, ReadsOn}
 use Rattle.certify.specs.script.LastPiece.{RefillsAhead, TakesSome, source_in, waiting_bytes}
 use Rattle.certify.specs.script.Commands.{EndsLast, EndsWhateverFollows, MeansIf, TakesBytes, end_if}
 use Rattle.certify.specs.script.Streaming.{Arrives, Brings, NextCommandResult, FinishesText, TakesWaiting}
@@ -28,12 +29,12 @@ use Rattle.certify.proofs.lemmas.script.Bytes.{followed, goes_nowhere}
 
 -- WAITING BYTES
 
-pub take_parts : (r : Reached) (old new : ScriptReader) (xs w v : List ℕ) (n : ℕ) → xs ≡ w → n ≤ length xs → (0 < length xs → 0 < n) → v ≡ drop n w → TakesBytes r old (take n xs) new
-    → (text : List ℕ) × (w ≡ text ++ v) × (0 < length w → 0 < length text) × TakesBytes r old text new
-take_parts r old new xs w v n e low some d t =
+pub take_parts : (r : Reached) (old new : ScriptReader) (xs w v : List ℕ) (n : ℕ) → xs ≡ w → n ≤ length xs → (0 < length xs → 0 < n) → v ≡ drop n w → TakesBytes r old (take n xs) new → ConsumesText old (take n xs) new
+    → (text : List ℕ) × (w ≡ text ++ v) × (0 < length w → 0 < length text) × TakesBytes r old text new × ConsumesText old text new
+take_parts r old new xs w v n e low some d t u =
     let l = length-take-le n xs low in
     let same : length xs ≡ length w = ap length e in
-    (take n xs, sym (take-append-drop n w) ∙ ap (λ (z : List ℕ). take n z ++ drop n w) (sym e) ∙ ap (λ (z : List ℕ). take n xs ++ z) (sym d), (λ h. let k = some (omega arith) in omega arith), t)
+    (take n xs, sym (take-append-drop n w) ∙ ap (λ (z : List ℕ). take n z ++ drop n w) (sym e) ∙ ap (λ (z : List ℕ). take n xs ++ z) (sym d), (λ h. let k = some (omega arith) in omega arith), t, u)
 
 came : {R : Type 0} (seen : R → Reader) (r : R) (reached_so : Reached) (old new : CommandStream) → 0 < length (waiting_bytes old.ahead) → TakesWaiting {E = ReadError} (Ok reached_so) old new
     → (text : List ℕ) × ConsumesBytes (source_in seen r old.ahead) (source_in seen r new.ahead) text × (0 < length text) × TakesBytes reached_so old.reader text new.reader

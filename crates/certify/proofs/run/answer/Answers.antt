@@ -1,10 +1,11 @@
-use Rattle.std.proofs.Common.{subst}
+use Rattle.std.proofs.Common.{refl, subst}
 use Rattle.sat_base.specs.device.Reading.{Source, new_source}
 use Rattle.sat_base.specs.script.ScriptState.{initial_state}
 use Rattle.certify.specs.script.LastPiece.{source_in}
 use Rattle.sat_base.specs.script.Language.{reading, plain_reading}
 use Rattle.certify.specs.run.ServedScript.{ServesScript}
 use Rattle.certify.proofs.lemmas.run.Runs.{IsNew, counter_so, fresh_source, has_target, is_open_yet, runs_so, steps_so, unfinished_so}
+use Rattle.certify.proofs.lemmas.script.LastChunks.{reads_first}
 use Rattle.certify.proofs.run.answer.Given.{Over}
 use Rattle.certify.proofs.run.answer.Goals as goal
 use Rattle.certify.proofs.run.answer.Goals.{After-serve_all-served}
@@ -20,7 +21,7 @@ module _ (g : Over) (c : After-serve_all-served g) where
   ends : ServesScript g.C.CountedWrite.seen initial_state reading plain_reading c.serve_all-served.result (new_source (g.S.CountedRead.seen c.args.script.now)) left c.new-session.result c.serve_all-served.new.session (g.A.CountedWrite.seen c.args.answers.now) (g.A.CountedWrite.seen c.serve_all-served.new.answers)
   ends =
       subst (λ (a : Source). ServesScript g.C.CountedWrite.seen initial_state reading plain_reading c.serve_all-served.result a left c.new-session.result c.serve_all-served.new.session (g.A.CountedWrite.seen c.args.answers.now) (g.A.CountedWrite.seen c.serve_all-served.new.answers))
-      (fresh_source g.S.CountedRead.seen c.args.script.now c.new-stream.result.ahead c.new-stream.ensures.waiting c.new-stream.ensures.reads) c.serve_all-served.ensures
+      (fresh_source g.S.CountedRead.seen c.args.script.now c.new-stream.result.ahead c.new-stream.ensures.waiting c.new-stream.ensures.reads) c.serve_all-served.ensures.serves
 
 pub end_run-requires-clause-target : goal.end_run-requires-clause-target
 end_run-requires-clause-target g c =
@@ -51,3 +52,8 @@ pub returns-clause-counter_end : goal.returns-clause-counter_end
 returns-clause-counter_end g c =
     let x = (goal.at.returns-clause-counter_end g c).After-serve_all-served in
     counter_so g.C.CountedWrite.seen c.args.budget (g.C.CountedWrite.seen c.args.certificate) c.new-session.result c.serve_all-served.new.session (fresh g x) (g.S.CountedRead.seen c.args.script.now) (left g x) c.serve_all-served.new.stream.ahead.bounded c.end_run.result.0 (g.A.CountedWrite.seen c.args.answers.now) (g.A.CountedWrite.seen c.serve_all-served.new.answers) (g.A.CountedWrite.seen c.end_run.new.answers) c.serve_all-served.result c.end_run.result.1 (ends g x) c.end_run.ensures.ends
+
+pub returns-clause-stops : goal.returns-clause-stops
+returns-clause-stops g c =
+    let S = g.S.CountedRead.seen in
+    c.serve_all-served.ensures.stops (S c.args.script.now) (reads_first (S c.args.script.now) (source_in S c.args.script.now c.new-stream.result.ahead) c.new-stream.result.reader refl c.new-stream.ensures.waiting c.new-stream.ensures.text)

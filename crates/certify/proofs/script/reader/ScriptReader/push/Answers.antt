@@ -2,8 +2,11 @@ use Rattle.std.proofs.Common.{◌≡◌, ◌+◌, ◌-◌, ◌≤◌, ℕ, List,
 use Rattle.certify.specs.declared.script.Reached.{Reached}
 use Rattle.certify.specs.declared.script.Reached.TheVariants as reached
 use Rattle.certify.specs.declared.script.reader.ScriptReader.{ScriptReader}
+use Rattle.sat_base.specs.text.Tokenizing.{ReceivesPrefix}
 use Rattle.certify.specs.script.Commands.{TakesBytes}
+use Rattle.certify.specs.script.LastChunk.{ConsumesText}
 use Rattle.certify.proofs.lemmas.script.Bytes.{reader, bytes_go, bytes_take, bytes_wrong, followed_front, no_more}
+use Rattle.certify.proofs.lemmas.script.LastChunks.{consumes_front, consumes_prefix}
 use Rattle.certify.proofs.script.reader.ScriptReader.push.Goals as goal
 use Rattle.certify.proofs.script.reader.ScriptReader.push.Goals.{After-take_token-count, In_ok-take}
 
@@ -18,6 +21,11 @@ module _ (c : After-take_token-count) where
   -- after those before
   taken : (r : Reached) (new : ScriptReader) → TakesBytes r c.loop-at.self front new → TakesBytes r c.args.self.now (take (c.loop-at.at + c.take_token-count.result.0) c.args.bytes.now) new
   taken r new t = followed_front r c.args.self.now c.loop-at.self new c.args.bytes.now c.loop-at.at c.take_token-count.result.0 c.loop-at.invariant.within c.take_token-count.ensures.within c.loop-at.invariant.taken t
+
+  consumed : (next : _) (new : _) → ReceivesPrefix c.loop-at.self.tokenizer front c.take_token-count.result.1 next → ConsumesText c.args.self.now (take (c.loop-at.at + c.take_token-count.result.0) c.args.bytes.now) (reader next new)
+  consumed next new r =
+      consumes_front c.args.self.now c.loop-at.self (reader next new) c.args.bytes.now c.loop-at.at c.take_token-count.result.0 c.loop-at.invariant.within c.take_token-count.ensures.within c.loop-at.invariant.text
+      (consumes_prefix c.loop-at.self front c.take_token-count.result.1 next new r)
 
 -- they end a token
 module _ (c : In_ok-take) where
@@ -34,6 +42,7 @@ loop-at-preserved-in_default c =
       within = within x;
       right = λ h. c.is_wrong.ensures.right c.if-is_wrong.false;
       taken = taken x reached.More (reader c.take_token-count.new.tokenizer c.loop-at.self.commands) (bytes_go c.loop-at.self (front x) c.take_token-count.new.tokenizer (rw c.in_default.is at c.take_token-count.ensures.takes));
+      text = consumed x c.take_token-count.new.tokenizer c.loop-at.self.commands c.take_token-count.ensures.takes;
     }
 
 pub loop-at-preserved : goal.loop-at-preserved
@@ -41,6 +50,7 @@ loop-at-preserved c = record {
   within = within (goal.at.loop-at-preserved c).After-take_token-count;
   right = λ h. c.take_token-count.ensures.right (λ e. let f = c.in-Some.is in cc);
   taken = took (goal.at.loop-at-preserved c).In_ok-take reached.More c.in-More.is;
+  text = consumed (goal.at.loop-at-preserved c).After-take_token-count c.take_token-count.new.tokenizer c.take.new.self c.take_token-count.ensures.takes;
 }
 
 pub returns-then-is_wrong-clause-takes : goal.returns-then-is_wrong-clause-takes
@@ -54,3 +64,15 @@ returns-in-Command-clause-takes c = took (goal.at.returns-in-Command-clause-take
 
 pub returns-in-Malformed-clause-takes : goal.returns-in-Malformed-clause-takes
 returns-in-Malformed-clause-takes c = took (goal.at.returns-in-Malformed-clause-takes c).In_ok-take reached.Malformed c.in-Malformed.is
+
+pub returns-then-is_wrong-clause-text : goal.returns-then-is_wrong-clause-text
+returns-then-is_wrong-clause-text c = consumed (goal.at.returns-then-is_wrong-clause-text c).After-take_token-count c.take_token-count.new.tokenizer c.loop-at.self.commands c.take_token-count.ensures.takes
+
+pub returns-in-Command-clause-text : goal.returns-in-Command-clause-text
+returns-in-Command-clause-text c = consumed (goal.at.returns-in-Command-clause-text c).After-take_token-count c.take_token-count.new.tokenizer c.take.new.self c.take_token-count.ensures.takes
+
+pub returns-in-Malformed-clause-text : goal.returns-in-Malformed-clause-text
+returns-in-Malformed-clause-text c = consumed (goal.at.returns-in-Malformed-clause-text c).After-take_token-count c.take_token-count.new.tokenizer c.take.new.self c.take_token-count.ensures.takes
+
+pub returns-clause-text : goal.returns-clause-text
+returns-clause-text c = c.loop-at.invariant.text

@@ -1,6 +1,7 @@
 use Rattle.std.proofs.Common.{◌-◌, ◌<◌, ◌≤◌, Bool, length, take}
 use Rattle.sat_base.specs.text.Chunks.{Follows}
 use Rattle.certify.specs.script.Commands.{CanContinue, MeansIf}
+use Rattle.certify.specs.script.LastChunk.{ConsumesText}
 use Rattle.certify.proofs.script.reader.ScriptReader.push.Given as goal
 
 abbrev pub invariant-loop-at : goal.invariant-loop-at
@@ -8,6 +9,7 @@ invariant-loop-at l = record {
   within : l.at ≤ length l.bytes;
   right : 0 < l.at → CanContinue l.self;
   taken : (asks : Bool) → Follows (MeansIf asks) l.fn.self (take l.at l.bytes) l.self;
+  text : ConsumesText l.fn.self (take l.at l.bytes) l.self;
 }
 
 abbrev pub decreases-loop-at : goal.decreases-loop-at

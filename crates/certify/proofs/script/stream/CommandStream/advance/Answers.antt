@@ -3,8 +3,10 @@ use Rattle.std.proofs.lemmas.Grind.{common_steps}
 use Rattle.std.proofs.Common.{◌<◌, length, ◌∙◌}
 use Rattle.std.proofs.lemmas.Result.{err_from_is_err_and}
 use Rattle.certify.specs.declared.script.ScriptEnd.TheVariants as ends
+use Rattle.certify.specs.declared.script.Reached.TheVariants as reached
 use Rattle.certify.specs.script.LastPiece.{waiting_bytes}
 use Rattle.certify.proofs.lemmas.confirm.Compared.{some_list}
+use Rattle.certify.proofs.lemmas.script.LastChunks.{keeps_taken}
 use Rattle.certify.proofs.lemmas.script.Streaming.{brings_none, brings_malformed, some_bytes}
 use Rattle.certify.proofs.lemmas.script.Tokens.{end_malformed}
 use Rattle.certify.proofs.script.stream.CommandStream.advance.Given.{Over}
@@ -21,3 +23,9 @@ pub returns-in-Malformed-clause-brings : goal.returns-in-Malformed-clause-brings
 returns-in-Malformed-clause-brings g c =
     brings_malformed g.S.CountedRead.seen c.args.script.now c.args.self.now c.take.new.self (some g (goal.at.returns-in-Malformed-clause-brings g c).After-take)
     ends.Malformed end_malformed c.requires (rw c.in-Malformed.is at c.in_ok-take.ensures)
+
+pub returns-in-More-clause-stops : goal.returns-in-More-clause-stops
+returns-in-More-clause-stops g c = keeps_taken g.S.CountedRead.seen c.args.script.now c.args.self.now c.take.new.self reached.More (rw c.in-More.is at c.in_ok-take.ensures)
+
+pub returns-in-Command-clause-stops : goal.returns-in-Command-clause-stops
+returns-in-Command-clause-stops g c = keeps_taken g.S.CountedRead.seen c.args.script.now c.args.self.now c.take.new.self reached.Command (rw c.in-Command.is at c.in_ok-take.ensures)
