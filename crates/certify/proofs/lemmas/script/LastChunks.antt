@@ -1,5 +1,5 @@
 -- No chunk of a script is read after the line that ends the text.
-use Rattle.std.proofs.Common.{◌≡◌, ℕ, ◌+◌, ◌-◌, ◌≤◌, List, [], ◌∷◌, ◌++◌, length, take, drop, Option, Some, None, Result, Ok, Err, refl, sym, ap, subst, ◌∙◌, append_assoc, arith}
+use Rattle.std.proofs.Common.{◌≡◌, ℕ, ◌+◌, ◌-◌, ◌≤◌, List, [], ◌∷◌, ◌++◌, length, take, drop, Option, Some, None, Ok, Err, refl, sym, ap, subst, ◌∙◌, append_assoc, arith}
 use Rattle.std.proofs.lemmas.List.{append-nil, append_cancel_left}
 use Rattle.std.specs.Io.KnownBytes.{Consumes, prepend_known}
 use Rattle.sat_base.specs.declared.device.whole.ReadError.{ReadError}
@@ -7,7 +7,7 @@ use Rattle.sat_base.specs.declared.device.whole.ReadError.TheVariants as errors
 use Rattle.sat_base.specs.declared.text.Token.{Token as CodeToken}
 use Rattle.sat_base.specs.declared.text.Tokenizer.{Tokenizer}
 use Rattle.sat_base.specs.device.Device.{Reader, GavePrefix}
-use Rattle.sat_base.specs.device.Reading.{Source, ConsumesWithReads, ConsumesAndFails, none_given, to_come}
+use Rattle.sat_base.specs.device.Reading.{Source, to_come}
 use Rattle.sat_base.specs.dimacs.Parsing.{EndsInLastPiece, StopsReading}
 use Rattle.sat_base.specs.text.Chunks.{IgnoresRest}
 use Rattle.sat_base.specs.text.Position.{prepend_tokens}

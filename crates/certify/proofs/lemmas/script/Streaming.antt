@@ -10,7 +10,7 @@ use Rattle.sat_base.specs.declared.device.whole.ReadError.{ReadError}
 use Rattle.sat_base.specs.declared.device.whole.ReadError.TheVariants as errors
 use Rattle.sat_base.proofs.lemmas.device.ReadLemmas.{gave_some, gave_nothing, passes_more}
 use Rattle.certify.specs.confirm.Streams.{rest_in}
-use Rattle.certify.specs.script.LastChunk.{ConsumesText, KeepsReadingOn, ReadsOn}
+use Rattle.certify.specs.script.LastChunk.{ConsumesText}
 use Rattle.certify.specs.script.LastPiece.{RefillsAhead, TakesSome, source_in, waiting_bytes}
 use Rattle.certify.specs.script.Commands.{EndsLast, EndsWhateverFollows, MeansIf, TakesBytes, end_if}
 use Rattle.certify.specs.script.Streaming.{Arrives, Brings, NextCommandResult, FinishesText, TakesWaiting}

@@ -1,7 +1,7 @@
-use Rattle.std.proofs.Common.{arith}
-use Rattle.std.proofs.lemmas.Grind.{common_steps}
 use Rattle.std.proofs.Common.{true}
 use Rattle.std.proofs.lemmas.Result.{err_from_is_err_and}
+use Rattle.sat_base.specs.script.Language.{plain_reading, reading}
+use Rattle.sat_base.specs.script.ScriptState.{initial_state}
 use Rattle.certify.specs.script.LastPiece.{source_in}
 use Rattle.certify.proofs.lemmas.confirm.Streams.{passes_fewer}
 use Rattle.certify.proofs.lemmas.confirm.Joining.{took_open}
@@ -10,7 +10,13 @@ use Rattle.certify.proofs.lemmas.script.LastChunks.{stops_on}
 use Rattle.certify.proofs.run.serve.serve_all.Goals as goal
 
 pub loop-next-init : goal.loop-next-init
-loop-next-init g c = grind (arith, common_steps, through_none)
+loop-next-init g c =
+    let a = source_in g.S.CountedRead.seen c.args.script.now c.args.stream.now.ahead in
+    record {
+      script_open = c.requires.open_yet;
+      through = through_none g.C.CountedWrite.seen initial_state reading plain_reading a c.args.stream.now.reader c.args.session.now (g.A.CountedWrite.seen c.args.answers.now) c.requires.means c.requires.counts c.requires.goes_on c.requires.at;
+      stops = λ start h. h;
+    }
 
 pub returns-in-Err-clause-serves : goal.returns-in-Err-clause-serves
 returns-in-Err-clause-serves g c =

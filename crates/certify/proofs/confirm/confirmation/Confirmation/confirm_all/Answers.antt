@@ -1,6 +1,7 @@
 use Rattle.std.proofs.Common.{arith}
 use Rattle.std.proofs.lemmas.Grind.{common_steps}
-use Rattle.std.proofs.Common.{◌+◌, ℕ, true, ◌∙◌, ap}
+use Rattle.std.proofs.Common.{◌+◌, ℕ, true, ◌∙◌, ap, refl}
+use Rattle.sat_base.specs.script.Language.{reading}
 use Rattle.std.proofs.lemmas.Result.{err_from_is_err_and}
 use Rattle.certify.specs.confirm.ConfirmStates.{answers_in}
 use Rattle.certify.specs.confirm.ConfirmedScript.{script_source, confirm_place}
@@ -12,7 +13,16 @@ use Rattle.certify.proofs.lemmas.script.LastChunks.{stops_on}
 use Rattle.certify.proofs.confirm.confirmation.Confirmation.confirm_all.Goals as goal
 
 pub loop-next-init : goal.loop-next-init
-loop-next-init g c = grind (arith, common_steps, through_none)
+loop-next-init g c =
+    let old = confirm_place g.S.CountedRead.seen g.A.CountedRead.seen g.C.CountedRead.seen c.args.script.now c.args.answers.now c.args.steps.now c.args.self.now in
+    record {
+      same = refl;
+      goes_on = c.requires.goes_on;
+      open_yet = c.requires.open_yet;
+      script_open = c.requires.script_open;
+      through = through_none reading old c.args.self.now.script.reader c.requires.reads;
+      stops = λ start h. h;
+    }
 
 pub returns-in-Err-clause-ends : goal.returns-in-Err-clause-ends
 returns-in-Err-clause-ends g c =
