@@ -2,6 +2,7 @@
 //! the script.
 ghost use Rattle.std.specs.Prelude.{◌≡◌, ◌≤◌, ◌+◌, IfOk, OnOk};
 ghost use Rattle.sat_base.specs.device.Device.{GaveEnough};
+ghost use Rattle.sat_base.specs.dimacs.Parsing.{StopsReading};
 ghost use Rattle.certify.specs.Devices.{reader_before_after};
 ghost use Rattle.certify.specs.laws.EndToEnd.{Certified, VerdictGuarantee, most_looks_over};
 ghost use Rattle.certify.specs.laws.Headline.{Headline};
@@ -50,7 +51,7 @@ pub(crate) fn run_in_memory<S: CountedRead>(
         (λ text. CertificateGuarantee text budget w.summary w.answers.items w.certificate.items)) }
     ensures kept { OnOk result ((S.seen script.new).failures ≡ (S.seen script.old).failures) }
     ensures reads { ReadsToFailure (reader_before_after S.seen script.old script.new) }
-    ensures loans { (S.seen script.new).loans ≡ (S.seen script.old).loans }
+    ensures stops { StopsReading (S.seen script.old) (S.seen script.new) }
 {
     let mut answers = Counted::new(Vec::new(alloc));
     let mut certificate = Counted::new(Vec::new(alloc));

@@ -4,6 +4,7 @@ use Rattle.std.specs.IoError.{error_kind}
 use Rattle.std.specs.declared.io.Error.{Error}
 use Rattle.std.specs.declared.io.ErrorKind.TheVariants.{OutOfMemory}
 use Rattle.sat_base.specs.device.Device.{Reader, Writer}
+use Rattle.sat_base.specs.dimacs.Parsing.{StopsReading}
 use Rattle.certify.specs.program.Failures.{ReadsToFailure, RunsToFailure, ConfirmsToFailure}
 use Rattle.certify.specs.program.HintPrinting.{PrintsHintVerdict, CutsHintVerdict, WritesHints, CutsHints}
 use Rattle.certify.specs.program.Printing.{Prints, PrintsCut, PrintsYesOrNo, CutsYesOrNo, Ran}
@@ -38,20 +39,20 @@ Ends status Done Cut = ((status ≤ 1) × Done) ⊎ ((status ≡ 3) × Cut)
 -- `certify`: the answers to the bytes that were read from standard input were printed, whatever bytes could follow, and then `c confirmed`. After
 -- a fault, nothing was printed, or the answers alone, or a write failed.
 abbrev pub StandardCall : Effect → Type 0
-StandardCall e = ReadsToFailure e.input × Ends e.status
+StandardCall e = ReadsToFailure e.input × StopsReading e.input.0 e.input.1 × Ends e.status
     (Prints e.status e.input e.output)
     (PrintsNothing e ⊎ PrintsCut e.input e.output)
 
 -- `certify run S A C [STEPS]`: the answers to S were written to A, and their certificate to C. After a fault, A received a prefix of correct
 -- answers, and C a prefix of accepted steps. Nothing is printed.
 abbrev pub RunCall : (budget : ℕ) → Reader × Reader → (answers certificate : Writer × Writer) → Effect → Type 0
-RunCall budget script answers certificate e = LeavesStreams e × RunsToFailure script answers certificate × Ends e.status
+RunCall budget script answers certificate e = LeavesStreams e × RunsToFailure script answers certificate × StopsReading script.0 script.1 × Ends e.status
     (Ran e.status budget script answers certificate)
     (Unfinished budget script answers × TookSteps certificate)
 
 -- `certify confirm S A C`: it was printed whether the three texts match. After a fault, nothing was printed, or writing the right line failed.
 abbrev pub ConfirmCall : (script answers certificate : Reader × Reader) → Effect → Type 0
-ConfirmCall script answers certificate e = ReadsNothing e × ConfirmsToFailure script answers certificate × Ends e.status
+ConfirmCall script answers certificate e = ReadsNothing e × ConfirmsToFailure script answers certificate × StopsReading script.0 script.1 × Ends e.status
     (PrintsYesOrNo e.status script answers certificate e.output)
     (PrintsNothing e ⊎ CutsYesOrNo script answers certificate e.output)
 

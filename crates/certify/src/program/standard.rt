@@ -1,6 +1,7 @@
 //! Handles the call without arguments: answers a script while it is read from standard input. The certificate and the
 //! bytes that were read are kept in memory.
 ghost use Rattle.std.specs.Prelude.{◌≡◌, ◌⊎◌, [], IfOk, OnErr, false};
+ghost use Rattle.sat_base.specs.dimacs.Parsing.{StopsReading};
 ghost use Rattle.certify.specs.Devices.{reader_before_after, writer_before_after};
 ghost use Rattle.certify.specs.program.Calls.{HasStatus};
 ghost use Rattle.certify.specs.program.Copies.{GaveKept};
@@ -59,7 +60,7 @@ fn run_kept<R: CountedRead>(alloc: Global, script: &mut Keeping<R>) -> Result<Wr
     ensures gave { IfOk result (λ w. GaveKept (R.seen script.old.reader) (R.seen script.new.reader) script.new.kept.items
         (λ text. IsWritten text w)) }
     ensures reads { ReadsToFailure (reader_before_after R.seen script.old.reader script.new.reader) }
-    ensures loans { (R.seen script.new.reader).loans ≡ (R.seen script.old.reader).loans }
+    ensures stops { StopsReading (R.seen script.old.reader) (R.seen script.new.reader) }
 {
     match run_in_memory(alloc, script, u64::MAX) {
         Ok(written) => {
@@ -88,7 +89,7 @@ fn answer_kept<R: CountedRead, O: CountedWrite, E: CountedWrite>(
         ⊎ PrintsCut (reader_before_after R.seen script.old.reader script.new.reader)
         (writer_before_after O.seen output.old output.new)) }
     ensures reads { ReadsToFailure (reader_before_after R.seen script.old.reader script.new.reader) }
-    ensures loans { (R.seen script.new.reader).loans ≡ (R.seen script.old.reader).loans }
+    ensures stops { StopsReading (R.seen script.old.reader) (R.seen script.new.reader) }
 {
     let written = run_kept(alloc, script)?;
     report_progress(errors, &written.summary.progress);
@@ -108,7 +109,7 @@ fn answer_and_return<R: CountedRead + Drop, O: CountedWrite, E: CountedWrite>(
     ensures cut { OnErr result.1 ((O.seen output.new ≡ O.seen output.old)
         ⊎ PrintsCut (R.seen input, R.seen result.0) (writer_before_after O.seen output.old output.new)) }
     ensures reads { ReadsToFailure (R.seen input, R.seen result.0) }
-    ensures loans { (R.seen result.0).loans ≡ (R.seen input).loans }
+    ensures stops { StopsReading (R.seen input) (R.seen result.0) }
 {
     let mut script = Keeping::new(alloc, input);
     let result = answer_kept(alloc, &mut script, output, errors);
@@ -129,6 +130,7 @@ pub(super) fn answer<I: CountedRead, O: CountedWrite, E: CountedWrite>(
     ensures cut { OnErr result ((O.seen output.new ≡ O.seen output.old)
         ⊎ PrintsCut (reader_before_after I.seen input.old input.new) (writer_before_after O.seen output.old output.new)) }
     ensures reads { ReadsToFailure (reader_before_after I.seen input.old input.new) }
+    ensures stops { StopsReading (I.seen input.old) (I.seen input.new) }
 {
     let (lent, result) = answer_and_return(alloc, input, output, errors);
     let _input: &mut I = lent;

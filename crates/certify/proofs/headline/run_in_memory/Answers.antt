@@ -2,7 +2,7 @@ use Rattle.std.proofs.Common.{ℕ, ◌∙◌, Global, Some, Vec, ap, sym}
 use Rattle.sat_base.specs.device.Counting.{writer_of}
 use Rattle.sat_base.specs.device.Device.{Writer}
 use Rattle.certify.specs.declared.fault.RunFault.TheVariants as fault
-use Rattle.certify.proofs.lemmas.program.Failing.{reads_to_failure, run_returns}
+use Rattle.certify.proofs.lemmas.program.Failing.{reads_to_failure}
 use Rattle.certify.proofs.lemmas.program.Results.{unless_err}
 use Rattle.certify.proofs.lemmas.program.WrittenRuns.{run_taken}
 use Rattle.certify.proofs.headline.run_in_memory.Goals as goal
@@ -24,11 +24,5 @@ returns-in-Ok-clause-kept g c = unless_err c.run.result c.in-Ok.summary fault.Sc
 pub returns-in-Ok-clause-reads : goal.returns-in-Ok-clause-reads
 returns-in-Ok-clause-reads g c = reads_to_failure _ _ _ c.run.ensures.script_read c.run.ensures.kept_script c.run.ensures.reads
 
-pub returns-in-Ok-clause-loans : goal.returns-in-Ok-clause-loans
-returns-in-Ok-clause-loans g c = run_returns c.run.result c.args.budget _ _ _ _ c.run.ensures.guaranteed c.run.ensures.unfinished
-
 pub returns-in-Err-clause-reads : goal.returns-in-Err-clause-reads
 returns-in-Err-clause-reads g c = reads_to_failure _ _ _ c.run.ensures.script_read c.run.ensures.kept_script c.run.ensures.reads
-
-pub returns-in-Err-clause-loans : goal.returns-in-Err-clause-loans
-returns-in-Err-clause-loans g c = run_returns c.run.result c.args.budget _ _ _ _ c.run.ensures.guaranteed c.run.ensures.unfinished

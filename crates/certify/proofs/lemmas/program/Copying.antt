@@ -3,6 +3,7 @@ use Rattle.std.proofs.Common.{ℕ, ◌≡◌, ◌+◌, ◌-◌, ◌≤◌, ◌<�
 use Rattle.std.specs.Prelude.{OnOk, if◌then◌else◌, nat_lt}
 use Rattle.std.proofs.lemmas.List.{append-nil, drop_all}
 use Rattle.sat_base.specs.device.Device.{Reader, CanFollow, FewReads, GavePrefix, GaveEnough, lent_reader}
+use Rattle.sat_base.specs.dimacs.Parsing.{StopsReading}
 use Rattle.certify.specs.program.Copies.{GaveKept, IsCopy, given_before, kept_reader}
 use Rattle.certify.specs.program.Failures.{ReadsToFailure}
 
@@ -64,12 +65,21 @@ keeps_to_failure a b k kept n m none h = record {
 }
 
 -- a reader is lent as it was before, if it is seen so through one that keeps what it gives
-pub keeps_loans : (a b : Reader) (k kept : List ℕ) (n m : ℕ) → (kept_reader b kept m).loans ≡ (kept_reader a k n).loans → b.loans ≡ a.loans
+keeps_loans : (a b : Reader) (k kept : List ℕ) (n m : ℕ) → (kept_reader b kept m).loans ≡ (kept_reader a k n).loans → b.loans ≡ a.loans
 keeps_loans a b k kept n m h = let e : ◌≡◌ {A = List ℕ} (given_before b.given kept ∷ b.loans) (given_before a.given k ∷ a.loans) = h in cc
+
+-- a reader was read no further than it was through one that keeps what it gives
+pub keeps_stop : (a b : Reader) (k kept : List ℕ) (n m : ℕ) → StopsReading (kept_reader a k n) (kept_reader b kept m) → StopsReading a b
+keeps_stop a b k kept n m h = (h.0, record { gave = h.1.gave; known_bytes = h.1.known_bytes; loans = keeps_loans a b k kept n m h.1.loans }, h.2)
 
 -- a reader that was lent came back through the same loan
 pub same_loan : (a b : Reader) (given back : ℕ) → (lent_reader back b).loans ≡ (lent_reader given a).loans → given ≡ back
 same_loan a b given back e = let h : ◌≡◌ {A = List ℕ} (back ∷ b.loans) (given ∷ a.loans) = e in cc
+
+-- how far a reader that was lent was read
+pub stop_unlent : (a b : Reader) (given back : ℕ) → StopsReading (lent_reader given a) (lent_reader back b) → StopsReading a b
+stop_unlent a b given back h =
+    (h.0, record { gave = h.1.gave; known_bytes = h.1.known_bytes; loans = let k : ◌≡◌ {A = List ℕ} (back ∷ b.loans) (given ∷ a.loans) = h.1.loans in cc }, h.2)
 
 -- what a reader that was lent gave
 pub enough_unlent : (a b : Reader) (given back : ℕ) (P : List ℕ → Type 0) → GaveEnough (lent_reader given a) (lent_reader back b) P → GaveEnough a b P

@@ -1,10 +1,9 @@
 -- Failed calls of the devices of a call.
-use Rattle.std.proofs.Common.{ℕ, ◌≡◌, ◌+◌, ◌≤◌, ◌⊎◌, ◌∙◌, Result, Ok, Err, IfOk, inl, inr, sym, arith}
-use Rattle.std.specs.Prelude.{IsErrOf, OnErr}
+use Rattle.std.proofs.Common.{ℕ, ◌≡◌, ◌+◌, ◌≤◌, ◌⊎◌, ◌∙◌, Result, Err, inl, inr, sym, arith}
+use Rattle.std.specs.Prelude.{IsErrOf}
 use Rattle.sat_base.specs.device.Device.{Reader, Writer, LastCallFails, ReadFails, ReadsAreExhausted, most_reads}
-use Rattle.certify.specs.program.Failures.{ConfirmsToFailure, ReadsToFailure, RunsToFailure, WritesToFailure}
-use Rattle.certify.specs.run.FinishedRun.{TookCertificate, WriteFails}
-use Rattle.certify.specs.run.Unfinished.{Unfinished}
+use Rattle.certify.specs.program.Failures.{ConfirmsToFailure, NoReadFailed, ReadsToFailure, RunsToFailure, WritesToFailure}
+use Rattle.certify.specs.run.FinishedRun.{WriteFails}
 use Rattle.certify.specs.declared.fault.RunFault.{RunFault}
 use Rattle.certify.specs.declared.fault.RunFault.TheVariants as run_fault
 use Rattle.certify.specs.declared.summary.Summary.{Summary}
@@ -74,8 +73,3 @@ confirm_to_failure r s t a b c d sf af cf sk ak ck few few' few'' =
           (one_error r confirm_fault.ScriptRead confirm_fault.AnswersRead (λ e. cc)) (one_error r confirm_fault.ScriptRead confirm_fault.CertificateRead (λ e. cc))
           (one_error r confirm_fault.AnswersRead confirm_fault.CertificateRead (λ e. cc));
     }
-
--- A run leaves its reader as it was lent.
-pub run_returns : (r : Result Summary RunFault) (budget : ℕ) (x y : Reader) (a c : Writer × Writer) → IfOk r (λ s. TookCertificate budget s (x, y) a c) → OnErr r (Unfinished budget (x, y) a) → y.loans ≡ x.loans
-run_returns (Ok s) budget x y a c took unfinished = took.front.loans
-run_returns (Err e) budget x y a c took unfinished = unfinished.front.loans

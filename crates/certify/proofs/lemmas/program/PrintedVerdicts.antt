@@ -1,7 +1,8 @@
 -- What is printed for texts in memory.
 use Rattle.std.proofs.Common.{ℕ, ◌≡◌, ◌+◌, ◌<◌, ◌^◌, ◌⊎◌, Vec, Global, arith, List, ◌++◌, Result, Ok, Err, IfOk, OnOk, inl, inr, length, refl, subst, sym, ◌∙◌, ap, append_assoc}
 use Rattle.std.specs.Prelude.{OnErr, is_ok, is_some, if◌then◌else◌}
-use Rattle.sat_base.specs.device.Device.{Reader, Writer, lent_reader}
+use Rattle.sat_base.specs.device.Device.{Reader, Writer, GaveEnough, lent_reader}
+use Rattle.sat_base.specs.dimacs.Parsing.{StopsReading}
 use Rattle.sat_base.specs.script.Language.{reading}
 use Rattle.sat_base.proofs.lemmas.device.Given.{enough_as}
 use Rattle.sat_base.specs.script.Script.{ScriptEnding, Clean, Malformed}
@@ -11,7 +12,7 @@ use Rattle.certify.specs.program.Printing.{CutsRun, CutsWritten, IsWritten, Prin
 use Rattle.certify.specs.run.FinishedRun.{malformed_at}
 use Rattle.certify.specs.run.RoundsLeft.{most_rounds}
 use Rattle.certify.specs.declared.headline.Written.{Written}
-use Rattle.certify.proofs.lemmas.program.Copying.{enough_unlent, same_loan}
+use Rattle.certify.proofs.lemmas.program.Copying.{enough_unlent, same_loan, stop_unlent}
 
 -- TEXTS THAT ARE APPENDED IN PIECES
 -- after the last piece, the text is complete
@@ -70,9 +71,13 @@ cut_given (Err e) x y a b kept w g p = inr (record { given = enough_as x y (λ t
 
 -- A READER THAT IS LENT
 
-module _ {I : Type 0} (seen : I → Reader) (x c v : I) (given back : ℕ) (same : given ≡ back → c ≡ v) (loans : (lent_reader back (seen v)).loans ≡ (lent_reader given (seen x)).loans) where
+module _ {I : Type 0} (seen : I → Reader) (x c v : I) (given back : ℕ) (same : given ≡ back → c ≡ v) (stops : StopsReading (lent_reader given (seen x)) (lent_reader back (seen v))) where
   came_back : (P : I → Type 0) → P v → P c
-  came_back P p = subst P (sym (same (same_loan (seen x) (seen v) given back loans))) p
+  came_back P p = subst P (sym (same (same_loan (seen x) (seen v) given back stops.1.loans))) p
+
+  -- once a lent reader is returned, how far it was read holds for it
+  pub stop_lent : StopsReading (seen x) (seen c)
+  stop_lent = came_back (λ k. StopsReading (seen x) (seen k)) (stop_unlent (seen x) (seen v) given back stops)
 
   -- once a lent reader is returned, so are its failed reads
   pub reads_lent : ReadsToFailure (lent_reader given (seen x), lent_reader back (seen v)) → ReadsToFailure (seen x, seen c)

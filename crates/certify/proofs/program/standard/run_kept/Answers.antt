@@ -1,6 +1,6 @@
 use Rattle.certify.specs.program.Copies.{refusal_count}
 use Rattle.certify.specs.program.Printing.{IsWritten}
-use Rattle.certify.proofs.lemmas.program.Copying.{keeps_loans, keeps_to_failure, run_keeps}
+use Rattle.certify.proofs.lemmas.program.Copying.{keeps_stop, keeps_to_failure, run_keeps}
 use Rattle.certify.proofs.program.standard.run_kept.Goals as goal
 
 pub returns-else-script-clause-gave : goal.returns-else-script-clause-gave
@@ -16,11 +16,11 @@ returns-then-script-clause-reads g c =
     let new = c.run_in_memory.new.script in
     keeps_to_failure (g.R.CountedRead.seen old.reader) (g.R.CountedRead.seen new.reader) old.kept.items new.kept.items (refusal_count old.refusals) (refusal_count new.refusals) (old.none c.requires.enough) c.run_in_memory.ensures.reads
 
-pub returns-then-script-clause-loans : goal.returns-then-script-clause-loans
-returns-then-script-clause-loans g c =
+pub returns-then-script-clause-stops : goal.returns-then-script-clause-stops
+returns-then-script-clause-stops g c =
     let old = c.args.script.now in
     let new = c.run_in_memory.new.script in
-    keeps_loans (g.R.CountedRead.seen old.reader) (g.R.CountedRead.seen new.reader) old.kept.items new.kept.items (refusal_count old.refusals) (refusal_count new.refusals) c.run_in_memory.ensures.loans
+    keeps_stop (g.R.CountedRead.seen old.reader) (g.R.CountedRead.seen new.reader) old.kept.items new.kept.items (refusal_count old.refusals) (refusal_count new.refusals) c.run_in_memory.ensures.stops
 
 pub returns-else-script-clause-reads : goal.returns-else-script-clause-reads
 returns-else-script-clause-reads g c =
@@ -28,11 +28,11 @@ returns-else-script-clause-reads g c =
     let new = c.run_in_memory.new.script in
     keeps_to_failure (g.R.CountedRead.seen old.reader) (g.R.CountedRead.seen new.reader) old.kept.items new.kept.items (refusal_count old.refusals) (refusal_count new.refusals) (old.none c.requires.enough) c.run_in_memory.ensures.reads
 
-pub returns-else-script-clause-loans : goal.returns-else-script-clause-loans
-returns-else-script-clause-loans g c =
+pub returns-else-script-clause-stops : goal.returns-else-script-clause-stops
+returns-else-script-clause-stops g c =
     let old = c.args.script.now in
     let new = c.run_in_memory.new.script in
-    keeps_loans (g.R.CountedRead.seen old.reader) (g.R.CountedRead.seen new.reader) old.kept.items new.kept.items (refusal_count old.refusals) (refusal_count new.refusals) c.run_in_memory.ensures.loans
+    keeps_stop (g.R.CountedRead.seen old.reader) (g.R.CountedRead.seen new.reader) old.kept.items new.kept.items (refusal_count old.refusals) (refusal_count new.refusals) c.run_in_memory.ensures.stops
 
 pub returns-in-Err-clause-reads : goal.returns-in-Err-clause-reads
 returns-in-Err-clause-reads g c =
@@ -40,8 +40,8 @@ returns-in-Err-clause-reads g c =
     let new = c.run_in_memory.new.script in
     keeps_to_failure (g.R.CountedRead.seen old.reader) (g.R.CountedRead.seen new.reader) old.kept.items new.kept.items (refusal_count old.refusals) (refusal_count new.refusals) (old.none c.requires.enough) c.run_in_memory.ensures.reads
 
-pub returns-in-Err-clause-loans : goal.returns-in-Err-clause-loans
-returns-in-Err-clause-loans g c =
+pub returns-in-Err-clause-stops : goal.returns-in-Err-clause-stops
+returns-in-Err-clause-stops g c =
     let old = c.args.script.now in
     let new = c.run_in_memory.new.script in
-    keeps_loans (g.R.CountedRead.seen old.reader) (g.R.CountedRead.seen new.reader) old.kept.items new.kept.items (refusal_count old.refusals) (refusal_count new.refusals) c.run_in_memory.ensures.loans
+    keeps_stop (g.R.CountedRead.seen old.reader) (g.R.CountedRead.seen new.reader) old.kept.items new.kept.items (refusal_count old.refusals) (refusal_count new.refusals) c.run_in_memory.ensures.stops
