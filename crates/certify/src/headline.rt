@@ -18,7 +18,7 @@ use sat_base::{Counted, CountedRead};
 use sat_checker::Looks;
 use std::alloc::Global;
 
-/// What a finished run wrote.
+/// The answers to a script, with a summary and a certificate.
 #[derive(Drop)]
 pub struct Written {
     pub summary: Summary,
@@ -26,7 +26,7 @@ pub struct Written {
     pub certificate: Vec<u8>,
 }
 
-/// What a finished run wrote, the verdict on it, and the verdict on other answers to the same script.
+/// The answers to a script, the verdict on them, and the verdict on other answers to the same script.
 #[derive(Drop)]
 pub struct Verdicts {
     pub written: Written,
@@ -138,8 +138,8 @@ pub fn certify_over(
     }
 }
 
-/// Runs `script` with at most `budget` rounds for each ask, and confirms what the run wrote. Then confirms the answers
-/// `claimed` with the certificate `shown`, whoever made them. Returns what was written, and both verdicts.
+/// Answers `script` with at most `budget` rounds for each ask. Returns the answers with a certificate, the verdict on
+/// them, and the verdict on the answers `claimed` with the certificate `shown`, whoever made these.
 pub fn headline_over(
     alloc: Global,
     script: &[u8],
@@ -149,7 +149,8 @@ pub fn headline_over(
     looks: &mut Looks,
 ) -> Result<Verdicts, HeadlineFault>
     // Every accepted ask gets one correct answer, which is unknown only if its rounds are exhausted. The verdict on
-    // what was written is `Yes`. Whenever a verdict is `Yes`, the answers are correct. The number of looks is bounded.
+    // these answers is `Yes`. If the other verdict is `Yes`, the other answers are correct. The number of looks is
+    // bounded.
     ensures headline { IfOk result (λ v. Headline script.now budget (rounds_of_asks v.written.summary.asks.items)
         v.written.answers.items v.written.certificate.items v.own claimed.now shown.now v.other looks.old looks.new) }
     // As for `confirm`, both verdicts are `Yes` exactly when the three texts match, and then the answers are correct.

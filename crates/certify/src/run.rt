@@ -75,8 +75,8 @@ fn answer_into<S: CountedRead, A: CountedWrite, C: CountedWrite>(
     result
 }
 
-/// Answers every ask of a script, with at most `budget` rounds of search each. Appends the answers and a certificate to
-/// what the writers already hold.
+/// Answers every accepted ask of a script, with at most `budget` rounds of search each. Appends the answers and a
+/// certificate to what the writers already hold.
 ///
 /// A command is served as soon as it is read; at most 4,096 bytes are read at a time. Both writers are flushed before a
 /// summary is returned.
@@ -93,10 +93,10 @@ pub fn run<S: CountedRead, A: CountedWrite, C: CountedWrite>(
         (λ s. WritesAnswers budget s (reader_before_after S.seen script.old script.new) (writer_before_after A.seen answers.old answers.new)) }
     // The certificate's writer received steps that a checker accepts one by one, among them those of the accepted
     // commands and of these answers, in order. Once the steps record that the clauses are unsatisfiable, those of
-    // clauses and of cores may be missing, and every later ask gets the empty core, without a round of search. In any
-    // other ask, every round derived an empowering clause, except the round that found the answer, and no other clause
-    // of the ask is empowering. A clause is empowering if it is new to unit propagation. If no accepted command hides a
-    // name, no variable is deleted.
+    // clauses and of empty cores may be missing, and every later ask gets the empty core, without a round of search.
+    // Any other ask derives as many empowering clauses as it took rounds, or one fewer if it has a model or a core. A
+    // clause is empowering if it is new to unit propagation. If no accepted command hides a name, no variable is
+    // deleted.
     ensures guaranteed { CertificateIsGuaranteed result budget S.seen A.seen C.seen (script.old, answers.old, certificate.old)
         (script.new, answers.new, certificate.new) }
     ensures flushed { OnOk result (((A.seen answers.new).flushed ≡ true) × ((C.seen certificate.new).flushed ≡ true)) }
@@ -115,9 +115,9 @@ pub fn run<S: CountedRead, A: CountedWrite, C: CountedWrite>(
         → WriteFails (A.seen answers.old) (A.seen answers.new) }
     ensures certificate_write { IsErrOf result RunFault.CertificateWrite
         → WriteFails (C.seen certificate.old) (C.seen certificate.new) }
-    // `CounterEnd` is returned only if the bytes that were read contain 2^64-1 commands, or an accepted command whose
-    // names need more variables than are left after some steps. In the second case, the certificate's writer received
-    // a prefix of the text of these steps.
+    // `CounterEnd` is returned only if the bytes that were read contain 2^64-1 commands, or introduce more than 2^28
+    // variables and contain an accepted command whose names need more variables than are left after some steps. In the
+    // second case, the certificate's writer received a prefix of the text of these steps.
     ensures counter_end { IsErrOf result RunFault.CounterEnd → CounterEnds (reader_before_after S.seen script.old script.new)
         (writer_before_after C.seen certificate.old certificate.new) }
     // A call to a device has failed only if the fault of that device is returned.

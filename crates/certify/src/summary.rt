@@ -17,7 +17,7 @@ pub enum Answer {
 #[derive(Clone, Copy, Debug, Drop, PartialEq, Eq)]
 pub struct AskReport {
     pub answer: Answer,
-    /// The number of rounds of search. Each ends with a conflict or an answer.
+    /// The number of rounds of search.
     pub steps: u64,
 }
 

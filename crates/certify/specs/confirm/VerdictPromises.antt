@@ -14,8 +14,7 @@ use Rattle.certify.specs.declared.verdict.ConfirmFault.TheVariants as fault
 use Rattle.certify.specs.declared.verdict.Verdict.{Verdict}
 use Rattle.certify.specs.declared.verdict.Verdict.TheVariants.{Yes}
 
--- `GaveTextWith r IsSo` holds if the reader gave a text that satisfies `IsSo`, whatever bytes it could still give; `r`
--- is the reader before and after.
+-- `GaveTextWith r IsSo` is `GaveEnough`, for a reader before and after a call.
 abbrev pub GaveTextWith : Reader × Reader → (List ℕ → Type 0) → Type 0
 GaveTextWith r IsSo = GaveEnough r.0 r.1 IsSo
 

@@ -43,7 +43,8 @@ most_looks_over certificate = 16 * (length certificate + 1) ^ 2
 pub record Certified (script : List ℕ) (budget : ℕ) (claimed shown : List ℕ) (summary : Summary) (answers certificate : List ℕ)
     (own other : Verdict) (before after : ℕ) : Type 0 where
   -- One answer for each accepted ask: a correct model, a correct core, or unknown. An answer is unknown only if its rounds are exhausted, and
-  -- never if at least 2^(2n+3) were left at the start of the ask. Every round is in the certificate.
+  -- never if at least 2^(2n+3) were left at the start of the ask. The certificate has an empowering
+  -- clause for each round, except for the round that found a model or a core.
   pub answered : CertificateGuarantee script budget summary answers certificate
   -- what the run wrote is confirmed
   pub confirmed : own ≡ Yes

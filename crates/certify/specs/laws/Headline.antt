@@ -50,7 +50,7 @@ pub record Headline (script : List ℕ) (budget : ℕ) (rounds answers certifica
   pub spent : EachTookRounds budget 0 (events_in script) answered.outcomes rounds
   -- the certificate spells accepted steps, whose empowering clauses fit these outcomes and rounds
   pub learned : ShowsRounds certificate answered.outcomes rounds
-  -- the verdict on what was written is `Yes`
+  -- the verdict on these answers and the certificate is `Yes`
   pub confirmed : own ≡ Yes
   -- if the other verdict is `Yes`, the answers `claimed` are correct
   pub any : other ≡ Yes → AreRightAnswers script claimed

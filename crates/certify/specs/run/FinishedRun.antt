@@ -54,7 +54,7 @@ pub record SpendsWithinBudget (budget before : ℕ) (report : AskReport) : Type 
   pub unknown : report.answer ≡ kind.Unknown → report.steps ≡ rounds_allowed budget before
 
 -- `IsBounded n budget before report` holds if the ask took fewer than 2^(2n+3) rounds, and its answer is not unknown if
--- that many were allowed. `n` is the number of identities once its names were introduced.
+-- that many were allowed. `n` is the number of variables, including hidden ones, once its names were introduced.
 pub record IsBounded (n budget before : ℕ) (report : AskReport) : Type 0 where
   pub few : report.steps < 2 ^ (2 * n + 3)
   pub answered : 2 ^ (2 * n + 3) ≤ rounds_allowed budget before → report.answer ≡ kind.Unknown → ⊥
@@ -73,7 +73,7 @@ abbrev pub rounds_of_asks : List AskReport → List ℕ
 rounds_of_asks reports = map (λ r. r.steps) reports
 
 -- `AreWithinBudget budget before given reports` holds if there is one report for each ask, and it satisfies
--- `SpendsWithinBudget` and `IsBounded`. `given` has the number of identities at each ask, and `before` is the number of
+-- `SpendsWithinBudget` and `IsBounded`. `given` has the number of variables at each ask, and `before` is the number of
 -- rounds of earlier asks.
 abbrev pub AreWithinBudget : (budget before : ℕ) → (given : List ℕ) → List AskReport → Type 0
 AreWithinBudget budget before [] [] = Unit {0}
@@ -126,7 +126,7 @@ pub record CertificateGuarantee (text : List ℕ) (budget : ℕ) (summary : Summ
   pub follows : ServesCommands initial_state [] made (accepted_commands initial_state (reading text).0) is_answered.outcomes (rounds_of_asks summary.asks.items)
   pub counting : Counting
   pub cuts : TruncatesHashes uncounted (End ∷ made) steps counting
-  -- every round of an ask derived an empowering clause, except the round that answered, and no other clause of the ask is empowering
+  -- every ask derived as many empowering clauses as it took rounds, or one fewer if it has a model or a core
   pub learns : EachLearns steps 0 is_answered.outcomes (rounds_of_asks summary.asks.items)
   -- if no accepted command hides a name, no variable is deleted
   pub keeps : AllByRecursion HidesNothing (accepted_commands initial_state (reading text).0) → has_delete_var steps ≡ false

@@ -13,8 +13,9 @@ assumed_times (Assumptions ls ∷ earlier) = assumed_times earlier + 1
 assumed_times (step ∷ earlier) = assumed_times earlier
 
 -- `LearnsIn steps asks o rounds` holds if the steps of ask number `asks`, counted from 0, derive a number of empowering
--- clauses that fits `o` and `rounds` (`LearnsEachRound`). These are the steps between two that set assumptions: the one
--- after 2 * `asks` others, and the next one, which sets none. If `o` is unknown, none of them is an ordered step.
+-- clauses that fits `o` and `rounds` (`LearnsEachRound`). All lists have the newest step first. The ask is opened by the
+-- step `Assumptions ask`, after two that set assumptions for each earlier ask. The next step that sets assumptions is
+-- `Assumptions []`, and closes it; its steps are those between. If `o` is unknown, none of them is an ordered step.
 pub record LearnsIn (steps : List Step) (asks : ℕ) (o : Outcome) (rounds : ℕ) : Type 0 where
   pub before : List Step
   pub ask : List ℕ
