@@ -15,9 +15,9 @@ Lines of bench/statement.md and bench/program_statement.md that begin with `@`:
     @notation, @library            stand above a table that has a row for each operator, or each name of the standard library, that is used
     @earlier                       prints a table of the definitions that only the first page prints
 
-A definition that the clauses reach is printed by the first `@print` that has its name, or else by the first with its module. It is a
-fault if none has it, if prose quotes a word of code that the page does not print, or if a table has a row too many or too few. The
-second page does not print what the first one does.
+A definition that the clauses reach is printed by the first `@print` that has its name, or else by the first with its module; so is an enum
+that a clause's function returns. It is a fault if none has it, if prose quotes a word of code that the page does not print, or if a table
+has a row too many or too few. The second page does not print what the first one does.
 It reads only sources, and needs only Python 3.
 """
 import argparse
@@ -264,6 +264,13 @@ class Repository:
                     return self.typed(of, None, name)
         return None
 
+    def enums_returned(self, item):
+        """Returns the enums of the code in the result type of a clause's function."""
+        at = next(i for i, line in enumerate(item.lines) if re.match(r'\s+(ensures|requires|//)', line))
+        words = re.findall(r'\b[A-Z]\w+', ' '.join(item.lines[:at]).partition('->')[2])
+        types = [self.imported_type(self.files[item.module], word) for word in words]
+        return [t for t in types if t is not None and 'enum ' in t.lines[0]]
+
     # NAMES
 
     def named(self, module, name, item):
@@ -464,7 +471,9 @@ class Page:
         self.own_stops = self.stops
         if earlier is not None:
             self.stops = {**earlier.stops, **self.own_stops}
-        self.reached = repository.reach([item for _, item in self.clauses], self.stops, self.known())
+        self.roots = [item for _, item in self.clauses]
+        self.roots += [fault for item in self.roots for fault in repository.enums_returned(item)]
+        self.reached = repository.reach(self.roots, self.stops, self.known())
         self.place()
         self.check_stops()
 
@@ -493,7 +502,7 @@ class Page:
                 visit(target)
             order.append(item)
 
-        for _, item in reversed(self.clauses):
+        for item in reversed(self.roots):
             visit(item)
         return [item for item in reversed(order) if item.kind != 'clause']
 
@@ -733,7 +742,7 @@ def code_of(item):
 
 def title_of(item):
     function, *clauses = item.name.split('.')
-    kind = 'law' if item.file.stem == 'laws' else 'clause of'
+    kind = 'law' if item.file.stem.startswith('law') else 'clause of'
     return ', '.join(f'`{c}`' for c in clauses if c) + f' of `{function}`' if any(clauses) else f'{kind} `{function}`'
 
 
