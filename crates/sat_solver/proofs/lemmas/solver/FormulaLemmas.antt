@@ -12,8 +12,8 @@ use Rattle.sat_base.proofs.lemmas.dimacs.Parsed.{HasAccepted as HasFed}
 use Rattle.sat_base.proofs.lemmas.dimacs.ReadToEnd.{ReadToEnd}
 use Rattle.sat_checker.specs.DimacsView.{AreRead, FailsAfter}
 use Rattle.sat_checker.specs.ProofView.{NoReadFailed}
-use Rattle.sat_checker.proofs.lemmas.checker.Texts.{fed_more, open_read, read_by_piece, fails_by_piece}
-use Rattle.sat_solver.proofs.lemmas.solver.StoppingLemmas.{read_at_end, clean_at_end, fails_at_end}
+use Rattle.sat_checker.proofs.lemmas.checker.Texts.{fed_more, open_read, read_by_piece, fails_by_piece, fails_by_end}
+use Rattle.sat_solver.proofs.lemmas.solver.StoppingLemmas.{read_at_end, clean_at_end}
 use Rattle.sat_checker.specs.declared.processing.ProofProcessor.{Ghosts}
 use Rattle.sat_solver.specs.declared.error.SolverError.{SolverError}
 use Rattle.sat_solver.specs.declared.error.SolverError.TheVariants as errors
@@ -163,7 +163,7 @@ module _ {W L : Type 0} {G : Ghosts L} (seen : W → Writer) where
       }
   end_answers (Err e) answer old cur new from to text p q going is f n g added a =
       answers_text old cur going q (subst (λ cs. AddsAll seen old cs cur) (sym (taken_by_end answer p q f)) added) e answer new from to n
-      (λ d s. fails_at_end d from to text p q is (subst (λ (z : Result Unit DimacsError). Finishes z p q) s f) n g)
+      (λ d s. fails_by_end d from to text p q is (subst (λ (z : Result Unit DimacsError). Finishes z p q) s f) n g)
       (λ s. true≢false (sym (subst (λ (z : Result Unit DimacsError). Finishes z p q) s f).0 ∙ ap (λ (z : Progress). z.stopped) is))
       (read_at_end answer from to text p q is f g)
       a

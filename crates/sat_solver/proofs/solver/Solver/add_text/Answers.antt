@@ -7,10 +7,10 @@ use Rattle.sat_base.specs.dimacs.Parsing.{Progress, IsSoundSoFar, EndsInLastPiec
 use Rattle.sat_base.proofs.lemmas.device.Given.{gave_none, gave_more, gave_still, not_ended, few_front, calls_within, calls_upto}
 use Rattle.sat_base.proofs.lemmas.dimacs.Parsed.{stands_of, piece_given, sound_none}
 use Rattle.sat_base.proofs.lemmas.dimacs.ReadToEnd.{ReadToEnd, some_read, next_kept, next_within, read_to_end, read_front, stops_none, stops_after, short_piece}
-use Rattle.sat_checker.proofs.lemmas.checker.Texts.{no_clauses, sound_after}
+use Rattle.sat_checker.proofs.lemmas.checker.Texts.{fed_of, goes_fed, no_clauses, sound_after}
 use Rattle.sat_solver.specs.solver.Formulas.{AddsAll}
 use Rattle.sat_solver.proofs.lemmas.solver.FormulaLemmas.{adds_going, piece_added, piece_answers, end_answers, read_answers}
-use Rattle.sat_solver.proofs.lemmas.solver.StoppingLemmas.{fed_of, still_going, read_before}
+use Rattle.sat_solver.proofs.lemmas.solver.StoppingLemmas.{read_before}
 use Rattle.sat_solver.proofs.solver.Solver.add_text.Given.{Over}
 use Rattle.sat_solver.proofs.solver.Solver.add_text.Goals as goal
 use Rattle.sat_solver.proofs.solver.Solver.add_text.Goals.{In-Ok, In-Ok-eq0, In-Err}
@@ -46,7 +46,7 @@ module _ (g : Over) (c : In-Ok g) where
   none_failed_yet = next_kept c.in-Ok.count c.read_next.new.room c.loop.parser.fed _ _ c.in-Ok.ensures.reads ∙ c.loop.invariant.failures
 
   stops : EndsInLastPiece (c.loop.invariant.bytes.0 ++ piece)
-  stops = stops_after _ piece (still_going _ c.loop.parser c.loop.invariant.bytes.1 (c.in-Ok.ensures.goes_on (search rules))) (short_piece c.in-Ok.count c.read_next.new.room (search rules) (search rules))
+  stops = stops_after _ piece (goes_fed _ c.loop.parser c.loop.invariant.bytes.1 (c.in-Ok.ensures.goes_on (search rules))) (short_piece c.in-Ok.count c.read_next.new.room (search rules) (search rules))
 
 -- a read failed
 module _ (g : Over) (c : In-Err g) where
