@@ -17,6 +17,7 @@ use crate::verdict::{ConfirmFault, Verdict};
 use sat_base::{Counted, CountedRead};
 use sat_checker::Looks;
 use std::alloc::Global;
+use thiserror::Error;
 
 /// The answers to a script, with a summary and a certificate.
 #[derive(Drop)]
@@ -35,9 +36,11 @@ pub struct Verdicts {
 }
 
 /// Why there are no verdicts.
-#[derive(Clone, Copy, Drop)]
+#[derive(Clone, Copy, Debug, Drop, PartialEq, Eq, Error)]
 pub enum HeadlineFault {
+    #[error("the run is not finished: {0}")]
     Run(RunFault),
+    #[error("there is no verdict: {0}")]
     Confirm(ConfirmFault),
 }
 
