@@ -6,22 +6,29 @@ use crate::fault::RunFault;
 use crate::verdict::ConfirmFault;
 use sat_hints::HintFault;
 use std::alloc::AllocError;
+use thiserror::Error;
 
 /// Why the program failed.
-#[derive(Clone, Copy, Drop)]
+#[derive(Clone, Copy, Debug, Drop, Error)]
 pub(super) enum ProgramFault {
+    #[error("{0}")]
     Run(RunFault),
+    #[error("{0}")]
     Confirm(ConfirmFault),
+    #[error("{0}")]
     Hints(HintCallFault),
 }
 
 /// Why a hint text was not written or checked.
-#[derive(Clone, Copy, Drop)]
+#[derive(Clone, Copy, Debug, Drop, Error)]
 pub(super) enum HintCallFault {
     /// The certificate or the hint text can't be read.
+    #[error("a read failed")]
     Read,
     /// The hint text can't be written.
+    #[error("a write failed")]
     Write,
+    #[error("out of memory")]
     OutOfMemory,
 }
 
