@@ -18,3 +18,4 @@ pub mod BetweenCommands
 pub mod Stretches
 pub mod Reporting
 pub mod ServedScript
+pub mod Stopping

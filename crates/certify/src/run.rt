@@ -5,7 +5,7 @@ ghost use Rattle.sat_base.specs.dimacs.Parsing.{StopsReading};
 ghost use Rattle.certify.specs.Devices.{reader_before_after, writer_before_after};
 ghost use Rattle.certify.specs.run.FinishedRun.{WritesAnswers, CertificateIsGuaranteed, WriteFails, WritesKept};
 ghost use Rattle.certify.specs.run.Running.{ReadsFew, FinishesOrFaults};
-ghost use Rattle.certify.specs.run.Unfinished.{CounterEnds, TookSteps, Unfinished};
+ghost use Rattle.certify.specs.run.Unfinished.{CounterEnds, Stopped, TookSteps};
 
 pub mod ask;
 pub mod commands;
@@ -39,7 +39,8 @@ fn answer<S: CountedRead, A: CountedWrite, C: CountedWrite + Drop>(
     ensures runs { FinishesOrFaults result.1 budget (reader_before_after S.seen script.old script.new)
         (writer_before_after A.seen answers.old answers.new) (C.seen certificate, C.seen result.0) }
     ensures unfinished { OnErr result.1
-        (Unfinished budget (reader_before_after S.seen script.old script.new) (writer_before_after A.seen answers.old answers.new)) }
+        (Stopped budget (reader_before_after S.seen script.old script.new) (writer_before_after A.seen answers.old answers.new)
+        (C.seen certificate, C.seen result.0)) }
     ensures steps { TookSteps (C.seen certificate, C.seen result.0) }
     ensures counter_end { IsErrOf result.1 RunFault.CounterEnd → CounterEnds (reader_before_after S.seen script.old script.new)
         (C.seen certificate, C.seen result.0) }
@@ -63,7 +64,8 @@ fn answer_into<S: CountedRead, A: CountedWrite, C: CountedWrite>(
     ensures runs { FinishesOrFaults result budget (reader_before_after S.seen script.old script.new)
         (writer_before_after A.seen answers.old answers.new) (writer_before_after C.seen certificate.old certificate.new) }
     ensures unfinished { OnErr result
-        (Unfinished budget (reader_before_after S.seen script.old script.new) (writer_before_after A.seen answers.old answers.new)) }
+        (Stopped budget (reader_before_after S.seen script.old script.new) (writer_before_after A.seen answers.old answers.new)
+        (writer_before_after C.seen certificate.old certificate.new)) }
     ensures steps { TookSteps (writer_before_after C.seen certificate.old certificate.new) }
     ensures counter_end { IsErrOf result RunFault.CounterEnd → CounterEnds (reader_before_after S.seen script.old script.new)
         (writer_before_after C.seen certificate.old certificate.new) }
@@ -101,10 +103,12 @@ pub fn run<S: CountedRead, A: CountedWrite, C: CountedWrite>(
         (script.new, answers.new, certificate.new) }
     ensures flushed { OnOk result (((A.seen answers.new).flushed ≡ true) × ((C.seen certificate.new).flushed ≡ true)) }
     // If the run is not finished, the answers' writer received a prefix of correct answers to the bytes that were read,
-    // whatever bytes might follow them. Some numbers of rounds fit these answers, by which every unknown one has
-    // exhausted its rounds; nothing ties these numbers to the run.
+    // whatever bytes might follow them. Every unknown answer among them has exhausted its rounds. The certificate's
+    // writer received a prefix of the text of accepted steps, which begin with those for the first commands. In each
+    // answered ask, as many empowering clauses were derived in these steps as its rounds have learned.
     ensures unfinished { OnErr result
-        (Unfinished budget (reader_before_after S.seen script.old script.new) (writer_before_after A.seen answers.old answers.new)) }
+        (Stopped budget (reader_before_after S.seen script.old script.new) (writer_before_after A.seen answers.old answers.new)
+        (writer_before_after C.seen certificate.old certificate.new)) }
     // Whatever is returned, the certificate's writer received a prefix of the text of steps that a checker accepts, and
     // nothing else.
     ensures steps { TookSteps (writer_before_after C.seen certificate.old certificate.new) }

@@ -8,7 +8,7 @@ use Rattle.sat_base.specs.dimacs.Parsing.{StopsReading}
 use Rattle.certify.specs.program.Failures.{ReadsToFailure, RunsToFailure, ConfirmsToFailure}
 use Rattle.certify.specs.program.HintPrinting.{PrintsHintVerdict, CutsHintVerdict, WritesHints, CutsHints}
 use Rattle.certify.specs.program.Printing.{Prints, PrintsCut, PrintsYesOrNo, CutsYesOrNo, Ran}
-use Rattle.certify.specs.run.Unfinished.{Unfinished, TookSteps}
+use Rattle.certify.specs.run.Unfinished.{Stopped}
 
 -- What can be seen of a call, besides its files: its status, and its standard input and output before and after.
 pub record Effect : Type 0 where
@@ -48,7 +48,7 @@ StandardCall e = ReadsToFailure e.input × StopsReading e.input.0 e.input.1 × E
 abbrev pub RunCall : (budget : ℕ) → Reader × Reader → (answers certificate : Writer × Writer) → Effect → Type 0
 RunCall budget script answers certificate e = LeavesStreams e × RunsToFailure script answers certificate × StopsReading script.0 script.1 × Ends e.status
     (Ran e.status budget script answers certificate)
-    (Unfinished budget script answers × TookSteps certificate)
+    (Stopped budget script answers certificate)
 
 -- `certify confirm S A C`: it was printed whether the three texts match. After a fault, nothing was printed, or writing the right line failed.
 abbrev pub ConfirmCall : (script answers certificate : Reader × Reader) → Effect → Type 0

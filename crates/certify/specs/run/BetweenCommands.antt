@@ -19,7 +19,8 @@ use Rattle.certify.specs.judge.Names.{NamesHaveState}
 use Rattle.sat_base.specs.script.ScriptStateLaws.{ScriptStateInvariant}
 use Rattle.certify.specs.script.Commands.{kind_of}
 use Rattle.sat_base.specs.script.Language.{Reading, command_of, prepend_commands}
-use Rattle.certify.specs.run.Unfinished.{Exceeds, TookAnswersPrefix}
+use Rattle.certify.specs.run.Stopping.{StopsServing}
+use Rattle.certify.specs.run.Unfinished.{Exceeds}
 use Rattle.sat_solver.specs.solver.View.{proof_in}
 use Rattle.certify.specs.run.SolverCalls.{FaultSays, IsCaused, IsReadySolver, LacksFor}
 use Rattle.certify.specs.run.Serving.{RunPlace, Serves}
@@ -101,17 +102,18 @@ pub record ServedNext {C : Type 0} (seen : C → Writer) (old new : RunState C) 
   pub serves : (j : ScriptState) → HasStateBetweenCommands old j
       → HasStateBetweenCommands new (after_command c j) × Serves old.budget (place_in old j) (place_in new (after_command c j)) (c ∷ []) text reports refused
 
--- That, if the result is a fault, a prefix of correct answers to the latest command and to the rest was written. The
--- command is not refused.
-abbrev pub StopsCarrying : {T C : Type 0} → Result T RunFault → RunState C → Command → Reading → Writer → Writer → Type 0
-StopsCarrying r old c left before after =
+-- That, if the result is a fault, a prefix of correct answers to the latest command and to the rest was written, as
+-- `StopsServing` says. The command is not refused.
+abbrev pub StopsCarrying : {T C : Type 0} → Result T RunFault → RunState C → RunState C → Command → Reading → Writer → Writer → Type 0
+StopsCarrying r old new c left before after =
     OnErr r ((j : ScriptState) (live : LiveVariables) → AgreesWithState old.solver j live → refusal_of j c ≡ None
-    → TookAnswersPrefix old.budget old.solver.clock.rounds old.commands j (prepend_commands (c ∷ []) left) before after)
+    → StopsServing old.budget (last_place old j) (prepend_commands (c ∷ []) left) (steps_in new.solver) before after)
 
--- that, if the result is a fault, a prefix of correct answers to the rest of the script was written
-abbrev pub StopsOver : {T C : Type 0} → Result T RunFault → RunState C → Reading → Writer → Writer → Type 0
-StopsOver r old script before after =
-    OnErr r ((j : ScriptState) → HasStateBetweenCommands old j → TookAnswersPrefix old.budget old.solver.clock.rounds (old.commands + 1) j script before after)
+-- that, if the result is a fault, a prefix of correct answers to the rest of the script was written, as `StopsServing`
+-- says
+abbrev pub StopsOver : {T C : Type 0} → Result T RunFault → RunState C → RunState C → Reading → Writer → Writer → Type 0
+StopsOver r old new script before after =
+    OnErr r ((j : ScriptState) → HasStateBetweenCommands old j → StopsServing old.budget (place_in old j) script (steps_in new.solver) before after)
 
 -- that `StoreFull` is only returned if the store is full, and `CounterEnd` only if the command lacks variables for
 -- its names

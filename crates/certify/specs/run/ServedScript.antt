@@ -24,7 +24,8 @@ use Rattle.certify.specs.declared.summary.AskReport.{AskReport}
 use Rattle.certify.specs.script.LastPiece.{FaultsAhead, TakesSomeOrEnds, TakesSome as TookOf}
 use Rattle.certify.specs.script.Commands.{ReaderMeans, MeansIf}
 use Rattle.certify.specs.run.FinishedRun.{refused_count, malformed_at, answer_kind, AreWithinBudget, rounds_of_asks, identities_given}
-use Rattle.certify.specs.run.Unfinished.{Exceeds, TookAnswersPrefix}
+use Rattle.certify.specs.run.Stopping.{StopsServing}
+use Rattle.certify.specs.run.Unfinished.{Exceeds}
 use Rattle.sat_solver.specs.solver.View.{proof_in}
 use Rattle.certify.specs.run.SolverCalls.{IsCaused, IsReadySolver}
 use Rattle.certify.specs.run.Serving.{RunPlace, Serves}
@@ -120,5 +121,5 @@ abbrev pub ServesScript : {C : Type 0} → (C → Writer) → ScriptState → (L
 ServesScript seen j text counted (Ok at) a b old new before after = TookOf false a b × IsReadySolver new.solver × ((total : List ℕ) → Covers b total
     → ServesWhole seen j (text (rest_in total a)) (length (counted (rest_in total a)).0) at old new before after)
 ServesScript seen j text counted (Err e) a b old new before after = FailsWhole seen e a b old.solver new.solver before after
-    × ((total : List ℕ) → Covers b total → TookAnswersPrefix old.budget old.solver.clock.rounds (old.commands + 1) j (text (rest_in total a)) before after)
+    × ((total : List ℕ) → Covers b total → StopsServing old.budget (place_in old j) (text (rest_in total a)) (steps_in new.solver) before after)
     × IsCaused e (HasFullStore new.solver) ((total : List ℕ) → Covers b total → Exceeds old.commands j (text (rest_in total a)) (steps_in new.solver))

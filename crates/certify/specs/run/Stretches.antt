@@ -2,7 +2,7 @@
 -- first.
 use Rattle.std.specs.Prelude.{ℕ, ◌+◌, ◌≡◌, Bool, true, false, List, [], ◌∷◌, ◌++◌, if◌then◌else◌}
 use Rattle.sat_base.specs.script.Script.{Literal, Command, Clause, Ask, Hide, Witness, Sample, Among, names_of}
-use Rattle.sat_base.specs.script.ScriptState.{ScriptState, Sampled, Witnessed, state_after_accepted}
+use Rattle.sat_base.specs.script.ScriptState.{ScriptState, Sampled, Witnessed, accepted_commands, state_after_accepted}
 use Rattle.sat_base.specs.steps.Steps.{Step}
 use Rattle.sat_checker.specs.matching.Expected.{Outcome, Sat, Unsat, Unknown, Expected, Adds, Opens, Closes, introducing, hiding, setting, showing}
 use Rattle.sat_checker.specs.matching.ProofChecking.{checker_rules}
@@ -94,3 +94,14 @@ pub data ServesCommands : ScriptState → List Step → List Step → List Comma
   made_ask : {j : ScriptState} {from to : List Step} {ls : List Literal} {o : Outcome} {n : ℕ} {cs : List Command} {os : List Outcome}
       {counts : List ℕ} (mid : List Step) → AskStretches j ls o n from mid
       → ServesCommands (state_after_accepted (Ask ls) j) mid to cs os counts → ServesCommands j from to (Ask ls ∷ cs) (o ∷ os) (n ∷ counts)
+
+-- That the first ones of these commands were served after the steps `from`, without the refused ones; later steps may have been made, up to
+-- `to`. The outcomes and the rounds are those of the asks.
+pub record ServesFirst (j : ScriptState) (commands : List Command) (from to : List Step) (outcomes : List Outcome) (counts : List ℕ) : Type 0 where
+  pub first : List Command
+  pub left : List Command
+  pub whole : commands ≡ first ++ left
+  pub mid : List Step
+  pub later : List Step
+  pub steps : to ≡ later ++ mid
+  pub serves : ServesCommands j from mid (accepted_commands j first) outcomes counts

@@ -15,8 +15,10 @@ use Rattle.sat_solver.specs.proof.OutputView.{text_in}
 use Rattle.certify.specs.answers.Answers.{answers_from}
 use Rattle.certify.specs.answers.RightAnswers.{AreRight}
 use Rattle.certify.specs.declared.summary.AskReport.{AskReport}
-use Rattle.certify.specs.run.FinishedRun.{IsBounded, SpendsWithinBudget, answer_kind, identities_given}
+use Rattle.certify.specs.run.FinishedRun.{IsBounded, SpendsWithinBudget, answer_kind, identities_given, rounds_of_asks}
 use Rattle.certify.specs.run.Lacking.{OneLacks}
+use Rattle.certify.specs.run.Learning.{EachLearns}
+use Rattle.certify.specs.run.Stretches.{ServesFirst}
 
 -- that the writer received these bytes, whether or not a call then failed
 pub record TookBytes (old new : Writer) (bytes : List ℕ) : Type 0 where
@@ -57,10 +59,6 @@ pub record GavePrefixOf (old new : Reader) (P : List ℕ → Type 0) : Type 0 wh
   pub front : GavePrefix old new text
   pub holds : (rest : List ℕ) → CanFollow old new rest → P (text ++ rest)
 
--- that the writer received a prefix of correct answers to the text that the reader gave, whatever bytes could follow
-abbrev pub Unfinished : ℕ → Reader × Reader → Writer × Writer → Type 0
-Unfinished budget script answers = GavePrefixOf script.0 script.1 (λ text. TookAnswersPrefix budget 0 1 initial_state (reading text) answers.0 answers.1)
-
 -- That the writer received a prefix of the text of `steps`, and nothing else. A checker accepts each of them after the earlier ones. They are
 -- what is written for the steps in `made`, with widths for their hashes. Both lists have the newest first.
 pub record StepsPrefix (old new : Writer) : Type 0 where
@@ -77,6 +75,24 @@ pub record StepsPrefix (old new : Writer) : Type 0 where
 -- that `StepsPrefix` holds for some steps
 abbrev pub TookSteps : Writer × Writer → Type 0
 TookSteps certificate = ∥ StepsPrefix certificate.0 certificate.1 ∥₁
+
+-- That the writer received a prefix of the text of steps that show how the first asks of a script were answered: with these outcomes, in the
+-- rounds of these reports. The steps are those that the solver makes for the first commands, and possibly later ones. In each of these asks,
+-- they derive as many empowering clauses as its rounds have learned.
+pub record ShowsAnswered (script : Reading) (old new : Writer) (outcomes : List Outcome) (reports : List AskReport) : Type 0 where
+  pub front : StepsPrefix old new
+  pub follows : ServesFirst initial_state script.0 [] front.made outcomes (rounds_of_asks reports)
+  pub learns : EachLearns front.steps 0 outcomes (rounds_of_asks reports)
+
+-- That an unfinished run wrote a prefix of correct answers, and a prefix of the text of accepted steps. The steps show how the answered asks were
+-- answered.
+pub record StoppedRun (budget : ℕ) (text : List ℕ) (answers certificate : Writer × Writer) : Type 0 where
+  pub answered : TookAnswersPrefix budget 0 1 initial_state (reading text) answers.0 answers.1
+  pub certified : ∥ ShowsAnswered (reading text) certificate.0 certificate.1 answered.front.answered answered.front.reports ∥₁
+
+-- that `StoppedRun` holds for the text that the reader gave, whatever bytes could follow
+abbrev pub Stopped : ℕ → Reader × Reader → Writer × Writer → Writer × Writer → Type 0
+Stopped budget script answers certificate = GavePrefixOf script.0 script.1 (λ text. StoppedRun budget text answers certificate)
 
 -- That there are at least 2^64-1 commands, with `count` earlier ones, or one of these commands lacks variables for
 -- its names after these steps. In the latter case there are more identities than there can be variables.

@@ -9,7 +9,7 @@ ghost use Rattle.certify.specs.program.Failures.{ConfirmsToFailure, ReadsToFailu
 ghost use Rattle.certify.specs.program.HintPrinting.{CutsHintVerdict, CutsHints, PrintsHintVerdict, WritesHints};
 ghost use Rattle.certify.specs.program.HintPrinting.{hint_verdict_text, is_proved};
 ghost use Rattle.certify.specs.program.Printing.{CutsYesOrNo, PrintsLine, PrintsYesOrNo, Ran, yes_or_no_text};
-ghost use Rattle.certify.specs.run.Unfinished.{TookSteps, Unfinished};
+ghost use Rattle.certify.specs.run.Unfinished.{Stopped};
 
 use crate::confirm::confirm;
 use crate::program::fault::{HintCallFault, ProgramFault};
@@ -49,8 +49,8 @@ pub(super) fn run_text<S: CountedRead, A: CountedWrite, C: CountedWrite, E: Coun
     ensures ran { IfOk result (λ s. Ran s budget (reader_before_after S.seen script.old script.new)
         (writer_before_after A.seen answers.old answers.new) (writer_before_after C.seen certificate.old certificate.new)) }
     ensures unfinished { OnErr result
-        (Unfinished budget (reader_before_after S.seen script.old script.new) (writer_before_after A.seen answers.old answers.new)) }
-    ensures steps { TookSteps (writer_before_after C.seen certificate.old certificate.new) }
+        (Stopped budget (reader_before_after S.seen script.old script.new) (writer_before_after A.seen answers.old answers.new)
+        (writer_before_after C.seen certificate.old certificate.new)) }
     ensures stops { StopsReading (S.seen script.old) (S.seen script.new) }
     ensures calls { RunsToFailure (reader_before_after S.seen script.old script.new)
         (writer_before_after A.seen answers.old answers.new) (writer_before_after C.seen certificate.old certificate.new) }

@@ -52,7 +52,7 @@ pub fn answer_ask<A: CountedWrite, C: CountedWrite + Drop>(
     ensures carried { OnOk result (CarriedOut C.seen session.old session.new (Ask (named_literals literals.now))
         (A.seen answers.old) (A.seen answers.new)) }
     ensures stops { (left : Reading)
-        → StopsCarrying result session.old (Ask (named_literals literals.now)) left (A.seen answers.old)
+        → StopsCarrying result session.old session.new (Ask (named_literals literals.now)) left (A.seen answers.old)
         (A.seen answers.new) }
     ensures cause { CausedBy result session.old session.new (Ask (named_literals literals.now)) }
     ensures names { session.new.names ≡ session.old.names }
@@ -65,8 +65,9 @@ pub fn answer_ask<A: CountedWrite, C: CountedWrite + Drop>(
         session.budget,
         &mut session.page,
     )?;
-    write_answer(answers, &session.page.text)?;
+    // The ask is closed in the certificate before its answer is written, so the steps show the rounds of every answer.
     assume(&mut session.solver, &[])?;
     session.asks.push(report)?;
+    write_answer(answers, &session.page.text)?;
     Ok(())
 }

@@ -30,7 +30,8 @@ fn carry_out<A: CountedWrite, C: CountedWrite + Drop>(
     ensures carried { OnOk result (CarriedOut C.seen session.old session.new (represented_by command.entry)
         (A.seen answers.old) (A.seen answers.new)) }
     ensures stops { (left : Reading)
-        → StopsCarrying result session.old (represented_by command.entry) left (A.seen answers.old) (A.seen answers.new) }
+        → StopsCarrying result session.old session.new (represented_by command.entry) left (A.seen answers.old)
+        (A.seen answers.new) }
     ensures cause { CausedBy result session.old session.new (represented_by command.entry) }
     ensures names { session.new.names ≡ session.old.names }
     ensures written { WritesBoth result C.seen (A.seen answers.old) (A.seen answers.new) session.old.solver
@@ -59,7 +60,8 @@ fn take_allowed<A: CountedWrite, C: CountedWrite + Drop>(
     ensures carried { OnOk result (CarriedOut C.seen session.old session.new (represented_by command.entry)
         (A.seen answers.old) (A.seen answers.new)) }
     ensures stops { (left : Reading)
-        → StopsCarrying result session.old (represented_by command.entry) left (A.seen answers.old) (A.seen answers.new) }
+        → StopsCarrying result session.old session.new (represented_by command.entry) left (A.seen answers.old)
+        (A.seen answers.new) }
     ensures cause { CausedBy result session.old session.new (represented_by command.entry) }
     ensures names { OnOk result ((j : ScriptState) (c : Spelled) → NamesHaveState session.old.names j → RepresentsCommand command.entry c
         → NamesHaveState session.new.names (state_after_accepted c j)) }
@@ -83,7 +85,8 @@ pub fn take_command<A: CountedWrite, C: CountedWrite + Drop>(
     ensures served { (c : Spelled) → RepresentsCommand command.entry c
         → OnOk result (ServedNext C.seen session.old session.new c (A.seen answers.old) (A.seen answers.new)) }
     ensures stops { (c : Spelled) → RepresentsCommand command.entry c → (left : Reading)
-        → StopsOver result session.old (prepend_commands (c ∷ []) left) (A.seen answers.old) (A.seen answers.new) }
+        → StopsOver result session.old session.new (prepend_commands (c ∷ []) left) (A.seen answers.old)
+        (A.seen answers.new) }
     ensures cause { (c : Spelled) → RepresentsCommand command.entry c → (left : Reading)
         → CausedOver result session.old session.new (prepend_commands (c ∷ []) left) }
     ensures written { WritesBoth result C.seen (A.seen answers.old) (A.seen answers.new) session.old.solver

@@ -3,10 +3,11 @@ ghost use Rattle.std.specs.Prelude.{◌+◌, ◌<◌, ◌≡◌, ◌∷◌, [], 
 ghost use Rattle.sat_base.specs.script.ScriptState.{ScriptState, refusal_of};
 ghost use Rattle.sat_base.specs.script.Language.{Reading, prepend_commands};
 ghost use Rattle.sat_base.specs.script.Script.{Command as Spelled};
-ghost use Rattle.certify.specs.run.Unfinished.{TookAnswersPrefix};
+ghost use Rattle.sat_solver.specs.solver.Whole.{steps_in};
+ghost use Rattle.certify.specs.run.Stopping.{StopsServing};
 ghost use Rattle.certify.specs.judge.Names.{refusal_in};
 ghost use Rattle.certify.specs.run.SolverCalls.{IsCaused};
-ghost use Rattle.certify.specs.run.BetweenCommands.{Refused, WritesBoth};
+ghost use Rattle.certify.specs.run.BetweenCommands.{Refused, WritesBoth, last_place};
 
 use super::session::RunState;
 use super::write::write_answer;
@@ -25,8 +26,8 @@ pub fn refuse<A: CountedWrite, C: CountedWrite + Drop>(
     ensures refused { OnOk result (Refused session.old session.new (refusal_in refusal) (A.seen answers.old)
         (A.seen answers.new)) }
     ensures stops { (j : ScriptState) (c : Spelled) (left : Reading) → refusal_of j c ≡ Some (refusal_in refusal)
-        → OnErr result (TookAnswersPrefix session.old.budget session.old.solver.clock.rounds session.old.commands j
-        (prepend_commands (c ∷ []) left) (A.seen answers.old) (A.seen answers.new)) }
+        → OnErr result (StopsServing session.old.budget (last_place session.old j) (prepend_commands (c ∷ []) left)
+        (steps_in session.new.solver) (A.seen answers.old) (A.seen answers.new)) }
     // A refusal stores no clause, and introduces no name.
     ensures cause { IfErr result (λ e. IsCaused e ⊥ ⊥) }
     ensures written { WritesBoth result C.seen (A.seen answers.old) (A.seen answers.new) session.old.solver

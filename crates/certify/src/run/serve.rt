@@ -10,10 +10,11 @@ ghost use Rattle.certify.specs.script.LastPiece.{IsNotAtEnd, source_in};
 ghost use Rattle.certify.specs.script.Commands.{RepresentsCommand, RepresentsSomeCommand, ReaderMeans, MeansIf};
 ghost use Rattle.certify.specs.script.Commands.{end_reading};
 ghost use Rattle.sat_base.specs.script.Language.{Reading, prepend_commands, reading, plain_reading};
-ghost use Rattle.certify.specs.run.Unfinished.{TookAnswersPrefix};
+ghost use Rattle.sat_solver.specs.solver.Whole.{steps_in};
+ghost use Rattle.certify.specs.run.Stopping.{StopsServing};
 ghost use Rattle.certify.specs.run.SolverCalls.{IsCaused, IsReadySolver};
 ghost use Rattle.certify.specs.run.BetweenCommands.{CausedOver, RunGoesOn, HasStateBetweenCommands, ServedNext};
-ghost use Rattle.certify.specs.run.BetweenCommands.{StopsOver, WritesBoth};
+ghost use Rattle.certify.specs.run.BetweenCommands.{StopsOver, WritesBoth, place_in};
 ghost use Rattle.certify.specs.run.ServedScript.{ServesScript, ServesWhole, run_fault};
 
 use super::ask::answer_ask;
@@ -47,7 +48,8 @@ fn serve_next<A: CountedWrite, C: CountedWrite + Drop>(
     ensures served { (c : Spelled) → RepresentsCommand command.entry c
         → OnOk result (ServedNext C.seen session.old session.new c (A.seen answers.old) (A.seen answers.new)) }
     ensures stops { (c : Spelled) → RepresentsCommand command.entry c → (left : Reading)
-        → StopsOver result session.old (prepend_commands (c ∷ []) left) (A.seen answers.old) (A.seen answers.new) }
+        → StopsOver result session.old session.new (prepend_commands (c ∷ []) left) (A.seen answers.old)
+        (A.seen answers.new) }
     ensures cause { (c : Spelled) → RepresentsCommand command.entry c → (left : Reading)
         → CausedOver result session.old session.new (prepend_commands (c ∷ []) left) }
     ensures written { WritesBoth result C.seen (A.seen answers.old) (A.seen answers.new) session.old.solver
@@ -68,8 +70,8 @@ fn report_malformed<A: CountedWrite, C: CountedWrite + Drop>(
     ensures takes { OnOk result (WriterAccepts (A.seen answers.old) (A.seen answers.new) (malformed_line number)) }
     ensures same { session.new ≡ record session.old { page = session.new.page } }
     ensures stops { (j : ScriptState) → OnErr result
-        (TookAnswersPrefix session.old.budget session.old.solver.clock.rounds number j ([], Malformed)
-        (A.seen answers.old) (A.seen answers.new)) }
+        (StopsServing session.old.budget (record (place_in session.old j) { number = number }) ([], Malformed)
+        (steps_in session.new.solver) (A.seen answers.old) (A.seen answers.new)) }
     ensures cause { IfErr result (λ e. IsCaused e ⊥ ⊥) }
     ensures written { WritesBoth result C.seen (A.seen answers.old) (A.seen answers.new) session.old.solver
         session.new.solver }
@@ -89,7 +91,7 @@ fn serve_end<A: CountedWrite, C: CountedWrite + Drop>(
     ensures serves { (j : ScriptState) → HasStateBetweenCommands session.old j
         → IfOk result (λ at. ServesWhole C.seen j (end_reading end) 0 at session.old session.new (A.seen answers.old)
         (A.seen answers.new)) }
-    ensures stops { StopsOver result session.old (end_reading end) (A.seen answers.old) (A.seen answers.new) }
+    ensures stops { StopsOver result session.old session.new (end_reading end) (A.seen answers.old) (A.seen answers.new) }
     ensures cause { CausedOver result session.old session.new (end_reading end) }
     ensures ready { OnOk result (IsReadySolver session.new.solver) }
     ensures written { WritesBoth result C.seen (A.seen answers.old) (A.seen answers.new) session.old.solver
@@ -125,7 +127,7 @@ fn serve_last<A: CountedWrite, C: CountedWrite + Drop>(
         → IfOk result (λ at. ServesWhole C.seen j (prepend_commands (c ∷ []) (end_reading end)) 1 at session.old
         session.new (A.seen answers.old) (A.seen answers.new)) }
     ensures stops { (c : Spelled) → RepresentsCommand command.entry c
-        → StopsOver result session.old (prepend_commands (c ∷ []) (end_reading end)) (A.seen answers.old)
+        → StopsOver result session.old session.new (prepend_commands (c ∷ []) (end_reading end)) (A.seen answers.old)
         (A.seen answers.new) }
     ensures cause { (c : Spelled) → RepresentsCommand command.entry c
         → CausedOver result session.old session.new (prepend_commands (c ∷ []) (end_reading end)) }

@@ -20,7 +20,7 @@ use Rattle.sat_solver.specs.schedule.Solving as made
 use Rattle.sat_solver.specs.session.AllowedSteps.{EachIsAllowed}
 use Rattle.certify.specs.run.Advancing.{CountsEmpoweringFor, AreUnordered}
 use Rattle.certify.specs.run.Learning.{assumed_times, LearnsIn, EachLearns}
-use Rattle.certify.specs.run.Stretches.{IsNoAsk, Stretch, AskStretches, LearnsEachRound, ServesCommands, due_for, made_none, made_one, made_ask, showing_if}
+use Rattle.certify.specs.run.Stretches.{IsNoAsk, Stretch, AskStretches, LearnsEachRound, ServesCommands, ServesFirst, due_for, made_none, made_one, made_ask, showing_if}
 use Rattle.certify.proofs.lemmas.run.Between.{IsAside, index_aside, width_aside, AreAside, Head, Split, Timed, append_unordered, asides_never, asides_still, asides_unordered, asides_unsat, after_asides, cut_unsat, head_cut, split, timed}
 
 -- STEPS AFTER STEPS
@@ -458,3 +458,8 @@ each_learns c d {j = j} {s = s} asks whole steps (made_ask {ls = ls} {o = o} {n 
 pub asks_learn : {j : ScriptState} {made steps : List Step} {commands : List Command} {outcomes : List Outcome} {counts : List ℕ} (c d : Counting)
     → ServesCommands j [] made commands outcomes counts → TruncatesHashes c (End ∷ made) steps d → EachLearns steps 0 outcomes counts
 asks_learn {made = made} {steps = steps} c d m p = each_learns c d 0 (End ∷ made) steps m refl (End ∷ [], refl) p
+
+-- `EachLearns` holds for the asks that were served, whatever steps were made after them
+pub first_learn : {j : ScriptState} {made steps : List Step} {commands : List Command} {outcomes : List Outcome} {counts : List ℕ} (c d : Counting)
+    → ServesFirst j commands [] made outcomes counts → TruncatesHashes c made steps d → EachLearns steps 0 outcomes counts
+first_learn {made = made} {steps = steps} c d f p = each_learns c d 0 made steps f.serves refl (f.later, f.steps) p

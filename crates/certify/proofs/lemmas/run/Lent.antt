@@ -77,8 +77,8 @@ module _ (lent : Lent) where
     pub ask_carried : (r : Result (Unit {0}) RunFault) (new : RunState C) (a b : Writer) → lent.kind ≡ kind.Ask → OnOk r (CarriedOut seen old new (Ask (named_literals lent.literals.now)) a b) → OnOk r (CarriedOut seen old new (represented_by lent) a b)
     ask_carried r new a b e h = subst (λ c. OnOk r (CarriedOut seen old new c a b)) (sym (spelled_as kind.Ask e)) h
 
-    pub ask_stops : (r : Result (Unit {0}) RunFault) (left : Reading) (a b : Writer) → lent.kind ≡ kind.Ask → StopsCarrying r old (Ask (named_literals lent.literals.now)) left a b → StopsCarrying r old (represented_by lent) left a b
-    ask_stops r left a b e h = subst (λ c. StopsCarrying r old c left a b) (sym (spelled_as kind.Ask e)) h
+    pub ask_stops : (r : Result (Unit {0}) RunFault) (new : RunState C) (left : Reading) (a b : Writer) → lent.kind ≡ kind.Ask → StopsCarrying r old new (Ask (named_literals lent.literals.now)) left a b → StopsCarrying r old new (represented_by lent) left a b
+    ask_stops r new left a b e h = subst (λ c. StopsCarrying r old new c left a b) (sym (spelled_as kind.Ask e)) h
 
     module _ (r : Result (Unit {0}) RunFault) (s : Solver C) (w : Writer) where
       pub clause_carried : lent.kind ≡ kind.Clause → OnOk r (Added seen old.solver s lent.literals.now) → OnOk r (CarriedOut seen old (record old { solver = s }) (represented_by lent) w w)

@@ -1,5 +1,5 @@
 -- The next command that the reader passes is served.
-use Rattle.std.proofs.Common.{◌+◌, ◌≡◌, false, Some, None, [], ◌∷◌, Result, Ok, Err, OnErr, OnOk, sym, subst}
+use Rattle.std.proofs.Common.{◌≡◌, false, Some, None, [], ◌∷◌, Result, Ok, Err, OnErr, OnOk, sym, subst}
 use Rattle.sat_base.specs.device.Device.{Writer}
 use Rattle.sat_base.specs.script.Language.{Reading, prepend_commands}
 use Rattle.sat_base.specs.script.Script.{Command}
@@ -10,8 +10,9 @@ use Rattle.certify.specs.declared.script.Command.{Command as Lent}
 use Rattle.certify.specs.declared.run.session.RunState.{RunState}
 use Rattle.certify.specs.judge.Names.{ReportsRefusal, NamesHaveState, refusal_in}
 use Rattle.certify.specs.script.Commands.{RepresentsCommand}
-use Rattle.certify.specs.run.Unfinished.{TookAnswersPrefix}
-use Rattle.certify.specs.run.BetweenCommands.{CarriedOut, RunGoesOn, Refused, ServedNext, StopsCarrying, StopsOver, represented_by}
+use Rattle.sat_solver.specs.solver.Whole.{steps_in}
+use Rattle.certify.specs.run.Stopping.{StopsServing}
+use Rattle.certify.specs.run.BetweenCommands.{CarriedOut, RunGoesOn, Refused, ServedNext, StopsCarrying, StopsOver, place_in, represented_by}
 use Rattle.certify.proofs.lemmas.run.Lent.{lent_is}
 use Rattle.certify.proofs.lemmas.run.Next.{counted, refused_next, taken_next}
 
@@ -28,15 +29,15 @@ module _ {C : Type 0} (seen : C → Writer) (old new : RunState C) (lent : Lent)
   taken_served (Err e) within judges h k c l = tt
 
   pub refused_stops : (r : Result (Unit {0}) RunFault) (refusal : CodeRefusal) → ReportsRefusal (Some refusal) old.names lent
-      → ((j : ScriptState) (c : Command) (left : Reading) → refusal_of j c ≡ Some (refusal_in refusal) → OnErr r (TookAnswersPrefix old.budget old.solver.clock.rounds (old.commands + 1) j (prepend_commands (c ∷ []) left) before after))
-      → (c : Command) → RepresentsCommand lent c → (left : Reading) → StopsOver r old (prepend_commands (c ∷ []) left) before after
+      → ((j : ScriptState) (c : Command) (left : Reading) → refusal_of j c ≡ Some (refusal_in refusal) → OnErr r (StopsServing old.budget (place_in old j) (prepend_commands (c ∷ []) left) (steps_in new.solver) before after))
+      → (c : Command) → RepresentsCommand lent c → (left : Reading) → StopsOver r old new (prepend_commands (c ∷ []) left) before after
   refused_stops (Ok x) refusal judges h c l left = tt
   refused_stops (Err e) refusal judges h c l left = λ j at. h j c left (sym (judges j c at.names l))
 
-  pub taken_stops : (r : Result (Unit {0}) RunFault) → lent.past_limit ≡ false → ReportsRefusal None old.names lent → ((left : Reading) → StopsCarrying r (counted old) (represented_by lent) left before after)
-      → (c : Command) → RepresentsCommand lent c → (left : Reading) → StopsOver r old (prepend_commands (c ∷ []) left) before after
+  pub taken_stops : (r : Result (Unit {0}) RunFault) → lent.past_limit ≡ false → ReportsRefusal None old.names lent → ((left : Reading) → StopsCarrying r (counted old) new (represented_by lent) left before after)
+      → (c : Command) → RepresentsCommand lent c → (left : Reading) → StopsOver r old new (prepend_commands (c ∷ []) left) before after
   taken_stops (Ok x) within judges h c l left = tt
   taken_stops (Err e) within judges h c l left = λ j at.
       let is = lent_is lent c l within in
-      subst (λ d. TookAnswersPrefix old.budget old.solver.clock.rounds (old.commands + 1) j (prepend_commands (d ∷ []) left) before after) (sym is)
+      subst (λ d. StopsServing old.budget (place_in old j) (prepend_commands (d ∷ []) left) (steps_in new.solver) before after) (sym is)
       (h left j at.live at.means (subst (λ d. refusal_of j d ≡ None) is (sym (judges j c at.names l))))

@@ -11,8 +11,8 @@ use Rattle.sat_solver.specs.proof.Checked.{has_begun}
 use Rattle.sat_solver.specs.proof.Prefixes.{PrefixText, TargetTakesPrefix}
 use Rattle.sat_solver.specs.session.Making.{ComesBySteps, BreaksEmitting}
 use Rattle.sat_solver.specs.proof.OutputView.{text_in}
-use Rattle.sat_solver.specs.proof.ProofTexts.{TookAcceptedSteps}
-use Rattle.sat_solver.specs.proof.ProofView.{Open, Target, TargetTakes, TakesAll, GivesWriter, target_of}
+use Rattle.sat_solver.specs.proof.ProofTexts.{TookAcceptedSteps, TookText}
+use Rattle.sat_solver.specs.proof.ProofView.{Open, Target, TargetFails, TargetTakes, TakesAll, GivesWriter, target_of}
 use Rattle.sat_solver.specs.proof.Counting.{nothing_counted as uncounted}
 use Rattle.sat_solver.specs.session.Session.{AreAllowedSteps}
 use Rattle.sat_solver.specs.solver.Prefixes.{ReachesBySteps, ReturnsAcceptedPrefix}
@@ -79,6 +79,47 @@ carried_front from given steps now may h g =
       },
       refl,
     )
+
+-- a call of the writer failed while it received the text of allowed steps
+pub broken_front : (from given : Writer) (steps : List Step) (now : Target) → AreAllowedSteps steps → TargetFails (Open Varisat uncounted (empty_sink from)) steps now → GivesWriter now (Some given)
+    → (k : StepsPrefix from given) × (k.made ≡ steps)
+broken_front from given steps now may h g =
+    let q : Some given ≡ Some h.0 = subst (λ (z : Target). GivesWriter z (Some given)) h.1 g in
+    let same : h.0 ≡ given = cc in
+    let b = h.2.breaks in (
+      record {
+        made = steps;
+        steps = h.2.written;
+        counting = h.2.counting;
+        cuts = h.2.cuts;
+        accepted = (sessions_are_accepted h.2.written (cuts_are_free steps h.2.written h.2.counting h.2.cuts may).may).0;
+        bytes = b.front;
+        following = b.following;
+        whole = b.whole;
+        took = record {
+          taken = ap (λ (z : Writer). z.taken) (sym same) ∙ b.taken;
+          known_bytes = subst (λ (z : Writer). Appends from.contents z.contents b.front) same b.known_bytes;
+        };
+      },
+      refl,
+    )
+
+-- the writer received the complete text of allowed steps
+pub closed_front : (from given : Writer) (steps : List Step) → AreAllowedSteps steps → TookText Varisat from given steps → (k : StepsPrefix from given) × (k.made ≡ steps)
+closed_front from given steps may t = (
+  record {
+    made = steps;
+    steps = t.written;
+    counting = t.counting;
+    cuts = t.cuts;
+    accepted = (sessions_are_accepted t.written (cuts_are_free steps t.written t.counting t.cuts may).may).0;
+    bytes = text_in Varisat t.written;
+    following = [];
+    whole = sym (append-nil (text_in Varisat t.written));
+    took = record { taken = t.takes.taken; known_bytes = t.takes.known_bytes };
+  },
+  refl,
+)
 
 module _ {C : Type 0} (seen : C → Writer) where
   -- THE STEPS THAT A SOLVER MADE

@@ -3,6 +3,7 @@ use Rattle.std.proofs.Common.{ℕ, ◌+◌, ◌≡◌, List, [], ◌∷◌, ◌+
 use Rattle.sat_base.specs.device.Device.{Writer, WriterFails, WriterAccepts}
 use Rattle.sat_base.specs.script.Script.{Command, Ask}
 use Rattle.sat_base.specs.script.Language.{Reading, prepend_commands}
+use Rattle.sat_base.specs.steps.Steps.{Step}
 use Rattle.sat_base.specs.script.ScriptState.{ScriptState, state_after_accepted, introduce_all, refusal_of}
 use Rattle.sat_solver.specs.variables.Calls as solver
 use Rattle.sat_checker.specs.matching.Bridge.{LiveVariables}
@@ -20,12 +21,10 @@ use Rattle.certify.specs.declared.fault.RunFault.{RunFault}
 use Rattle.certify.specs.declared.fault.RunFault.TheVariants as fault
 use Rattle.certify.specs.declared.run.session.RunState.{RunState}
 use Rattle.certify.specs.declared.summary.AskReport.{AskReport}
-use Rattle.certify.specs.answers.RightAnswers.{IsRight}
-use Rattle.certify.specs.run.FinishedRun.{IsBounded, SpendsWithinBudget, answer_kind}
-use Rattle.certify.specs.run.Unfinished.{TookAnswersPrefix}
+use Rattle.certify.specs.run.Stopping.{StopsServing}
 use Rattle.certify.specs.run.Asking.{AskEffect}
 use Rattle.sat_solver.specs.solver.View.{proof_in}
-use Rattle.certify.specs.run.SolverCalls.{FaultSays, FailsSolver, IsAllowed, IsReadySolver, Searched}
+use Rattle.certify.specs.run.SolverCalls.{FaultSays, FailsIf, FailsSolver, IsAllowed, IsReadySolver, Searched}
 use Rattle.certify.specs.run.Serving.{Serves, place_after}
 use Rattle.certify.specs.run.BetweenCommands.{CarriedOut, AgreesWithState, StopsCarrying, WritesBoth, last_place, place_in}
 use Rattle.certify.specs.run.Reporting.{outcome_for}
@@ -33,7 +32,7 @@ use Rattle.certify.proofs.lemmas.run.AskServed.{ask_bounded, ask_steps, ask_righ
 use Rattle.certify.proofs.lemmas.run.Carried.{place_following}
 use Rattle.certify.proofs.lemmas.run.NoLines.{none_still}
 use Rattle.certify.proofs.lemmas.run.ServedOnce.{serves_ask}
-use Rattle.certify.proofs.lemmas.run.Stopping.{front_answered, front_cut, front_none, front_served}
+use Rattle.certify.proofs.lemmas.run.Stopping.{stops_cut, stops_none, stops_served}
 use Rattle.certify.specs.run.Quiet.{Proof, Solver}
 
 pub took_none : {C : Type 0} (seen : C → Writer) (p : Proof C) → ComesBySteps seen p p
@@ -112,37 +111,35 @@ asked_of seen old new now user text report before after effect written closed co
 
 -- WHEN A PART OF A RUN FAILS
 
--- the answer that was found is correct, and a prefix of its text was written
-module _ {C : Type 0} (seen : C → Writer) (old : RunState C) (now : Solver C) (user text : List ℕ) (report : AskReport) (before after : Writer) (effect : AskEffect seen old.budget report user text old.solver now)
-    (left : Reading) (j : ScriptState) (live : LiveVariables) (means : AgreesWithState old.solver j live) (free : refusal_of j (Ask (named_literals user)) ≡ None) where
-  right : IsRight (state_after_accepted (Ask (named_literals user)) j) (named_literals user) (outcome_for report.answer now)
-  right = ask_right seen old.solver effect.mid now user old.budget report effect.opened effect.searched effect.right j live means free
-
-  kind_is : report.answer ≡ answer_kind (outcome_for report.answer now)
-  kind_is = kind_reported report.answer now
-
-  spends : SpendsWithinBudget old.budget old.solver.clock.rounds report
-  spends = ask_spent seen old.solver effect.mid now user old.budget report effect.opened effect.searched effect.right
-
-  bounded : IsBounded (state_after_accepted (Ask (named_literals user)) j).identity_count old.budget old.solver.clock.rounds report
-  bounded = ask_bounded seen old.solver effect.mid now user old.budget report effect.opened effect.searched effect.right j live means free
-
-  pub ask_reported : WriterAccepts before after text → TookAnswersPrefix old.budget old.solver.clock.rounds old.commands j (prepend_commands (Ask (named_literals user) ∷ []) left) before after
-  ask_reported t = front_answered old.budget old.solver.clock.rounds old.commands j (named_literals user) (outcome_for report.answer now) report left before after free right kind_is spends bounded (subst (WriterAccepts before after) effect.text_is t)
-
-  pub ask_cut : WriterFails before after text → TookAnswersPrefix old.budget old.solver.clock.rounds old.commands j (prepend_commands (Ask (named_literals user) ∷ []) left) before after
-  ask_cut b = front_cut old.budget old.solver.clock.rounds old.commands j (named_literals user) (outcome_for report.answer now) report left before after free right kind_is spends bounded (subst (WriterFails before after) effect.text_is b)
+-- the answer that was found is correct, the ask was closed, and a prefix of the answer's text was written
+pub ask_cut : {C : Type 0} (seen : C → Writer) (old new : RunState C) (now : Solver C) (user text : List ℕ) (report : AskReport) (before after : Writer) (effect : AskEffect seen old.budget report user text old.solver now)
+    → ReplacesAssumptions seen now new.solver [] → (left : Reading) (j : ScriptState) (live : LiveVariables) → AgreesWithState old.solver j live → refusal_of j (Ask (named_literals user)) ≡ None → WriterFails before after text
+    → StopsServing old.budget (last_place old j) (prepend_commands (Ask (named_literals user) ∷ []) left) (steps_in new.solver) before after
+ask_cut seen old new now user text report before after effect closed left j live means free b =
+    let right = ask_right seen old.solver effect.mid now user old.budget report effect.opened effect.searched effect.right j live means free in
+    let spends = ask_spent seen old.solver effect.mid now user old.budget report effect.opened effect.searched effect.right in
+    let bounded = ask_bounded seen old.solver effect.mid now user old.budget report effect.opened effect.searched effect.right j live means free in
+    let steps = ask_steps seen old.solver effect.mid now user old.budget report effect.opened effect.searched effect.right j live means free new.solver closed in
+    stops_cut old.budget (last_place old j) (steps_in new.solver) (named_literals user) (outcome_for report.answer now) report left before after free right (kind_reported report.answer now) spends bounded steps (subst (WriterFails before after) effect.text_is b)
 
 -- a command that was carried out
 pub carried_stops : {C : Type 0} (seen : C → Writer) (old new : RunState C) (c : Command) (before after : Writer) (left : Reading) → CarriedOut seen old new c before after
-    → (j : ScriptState) (live : LiveVariables) → AgreesWithState old.solver j live → refusal_of j c ≡ None → TookAnswersPrefix old.budget old.solver.clock.rounds old.commands j (prepend_commands (c ∷ []) left) before after
+    → (j : ScriptState) (live : LiveVariables) → AgreesWithState old.solver j live → refusal_of j c ≡ None → StopsServing old.budget (last_place old j) (prepend_commands (c ∷ []) left) (steps_in new.solver) before after
 carried_stops seen old new c before after left h j live means free =
-    front_served old.budget (last_place old j) (place_in new (state_after_accepted c j)) (c ∷ []) left h.text h.reports 0 before after (h.serves j live means free).2 h.written
+    stops_served old.budget (last_place old j) (place_in new (state_after_accepted c j)) (c ∷ []) left h.text h.reports 0 before after (h.serves j live means free).2 h.written
+
+-- a call that failed left the earlier steps as they are
+pub fails_more : {C : Type 0} (seen : C → Writer) (e : RunFault) (a b : Solver C) → FailsSolver seen e a b → (later : List Step) × (steps_in b ≡ later ++ steps_in a)
+fails_more seen fault.ScriptRead a b f = absurd f
+fails_more seen fault.AnswersWrite a b f = absurd f
+fails_more seen e a b f = (f.0, f.1.history)
 
 -- nothing was written
-pub nothing_stops : {T C : Type 0} (r : Result T RunFault) (old : RunState C) (c : Command) (left : Reading) (w : Writer) → StopsCarrying r old c left w w
-nothing_stops (Ok x) old c left w = tt
-nothing_stops (Err e) old c left w = λ j live means free. front_none old.budget old.solver.clock.rounds old.commands j (prepend_commands (c ∷ []) left) w
+pub nothing_stops : {T C : Type 0} (seen : C → Writer) (r : Result T RunFault) (old new : RunState C) (c : Command) (left : Reading) (w : Writer) → FailsIf r seen old.solver new.solver → StopsCarrying r old new c left w w
+nothing_stops seen (Ok x) old new c left w f = tt
+nothing_stops seen (Err e) old new c left w f = λ j live means free.
+    let k = fails_more seen e old.solver new.solver f in
+    stops_none old.budget (last_place old j) (steps_in new.solver) k.0 k.1 (prepend_commands (c ∷ []) left) w
 
 -- what holds for every result holds for a fault
 pub on_err : {T : Type 0} (r : Result T RunFault) (P : Type 0) → P → OnErr r P

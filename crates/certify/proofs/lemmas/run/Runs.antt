@@ -1,14 +1,15 @@
 -- The result of a run.
-use Rattle.std.proofs.Common.{ℕ, ◌+◌, ◌≤◌, ◌≡◌, ◌∙◌, true, false, Option, Some, None, List, [], ◌∷◌, ◌++◌, map, length, Result, Ok, Err, OnErr, OnOk, IfOk, inl, inr, refl, sym, ap, subst, arith, append-nil}
+use Rattle.std.proofs.Common.{ℕ, ◌+◌, ◌≤◌, ◌≡◌, ◌∙◌, true, false, Option, Some, None, List, [], ◌∷◌, ◌++◌, map, length, Result, Ok, Err, OnErr, OnOk, IfOk, inl, inr, refl, sym, ap, subst, arith, append-nil, append_assoc}
 use Rattle.std.specs.Prelude.{IsErrOf}
 use Rattle.std.proofs.Math.Logic.{∥∥₁_elim, ∥∥₁_prop}
 use Rattle.sat_base.specs.device.Device.{Reader, Writer, GaveEnough, WriterAccepts, lent_writer, most_reads}
 use Rattle.sat_base.specs.device.Reading.{Source, new_source}
 use Rattle.sat_base.specs.device.Sink.{empty_sink}
+use Rattle.sat_base.specs.script.Script.{Command}
 use Rattle.sat_base.specs.script.ScriptState.{accepted_commands, initial_state}
 use Rattle.sat_base.specs.steps.Steps.{Step, End}
 use Rattle.sat_base.proofs.lemmas.device.Writes as writes
-use Rattle.sat_checker.specs.matching.Expected.{Finish, expected, finish}
+use Rattle.sat_checker.specs.matching.Expected.{Finish, Outcome, expected, finish}
 use Rattle.sat_checker.specs.matching.ProofChecking.{checker_rules}
 use Rattle.sat_solver.specs.declared.proof.format.ProofFormat.TheVariants.{Varisat}
 use Rattle.sat_solver.specs.proof.Counting.{nothing_counted as uncounted}
@@ -16,7 +17,7 @@ use Rattle.sat_solver.specs.declared.proof.hash_bits.Counting.{Counting}
 use Rattle.sat_solver.specs.session.Making.{ComesBySteps, BreaksEmitting}
 use Rattle.sat_solver.specs.proof.OutputView.{text_in}
 use Rattle.sat_solver.specs.proof.ProofTexts.{TookText}
-use Rattle.sat_solver.specs.proof.ProofView.{Closed, Open, Broken, TargetTakes, TargetFails, GivesWriter, TakesAll, is_open, target_of}
+use Rattle.sat_solver.specs.proof.ProofView.{Closed, Open, Broken, TargetTakes, TargetFails, GivesWriter, TakesAll, is_open, steps_of, target_of}
 use Rattle.sat_solver.specs.session.Session.{AreAllowedSteps}
 use Rattle.sat_solver.specs.solver.Prefixes.{ReachesBySteps}
 use Rattle.sat_solver.specs.solver.Whole.{HasFullStore, steps_in}
@@ -36,24 +37,26 @@ use Rattle.certify.specs.script.LastPiece.{source_in, waiting_bytes}
 use Rattle.sat_base.specs.script.Language.{Reading, reading, plain_reading}
 use Rattle.certify.specs.run.FinishedRun.{WritesAnswers, AnswersRightly, CertificateGuarantee, ReportsRightly, TookCertificate, rounds_of_asks, identities_given, malformed_at, AreWithinBudget}
 use Rattle.certify.specs.run.Running.{ReadsFew, FinishesOrFaults, WritesRun}
-use Rattle.certify.specs.run.Unfinished.{CounterEnds, Exceeds, ExceedsWritten, StepsPrefix, TookAnswersPrefix, TookSteps, Unfinished}
+use Rattle.certify.specs.run.Stopping.{StopsServing}
+use Rattle.certify.specs.run.Unfinished.{CounterEnds, Exceeds, ExceedsWritten, StepsPrefix, Stopped, StoppedRun, TookSteps}
 use Rattle.sat_solver.specs.solver.View.{proof_in}
 use Rattle.certify.specs.run.SolverCalls.{IsCaused, FaultSays, IsReadySolver}
 use Rattle.certify.specs.run.Lacking.{OneLacks}
 use Rattle.certify.specs.run.Certifies.{Certifies, complete, ordered}
 use Rattle.certify.specs.run.Ending.{ClosedBy, EndsRun, GivenBack, GivesPrefix, HasTarget, HasOpenTarget, SumsUp}
 use Rattle.certify.specs.run.BetweenCommands.{place_in}
-use Rattle.certify.specs.run.Stretches.{ServesCommands}
+use Rattle.certify.specs.run.Serving.{RunPlace}
+use Rattle.certify.specs.run.Stretches.{ServesCommands, ServesFirst}
 use Rattle.certify.specs.run.ServedScript.{ServesScript, FailsWhole, ServesWhole}
 use Rattle.certify.proofs.lemmas.run.Unhidden.{none_deletes}
-use Rattle.certify.proofs.lemmas.run.Learned.{asks_learn}
+use Rattle.certify.proofs.lemmas.run.Learned.{asks_learn, first_learn}
 use Rattle.certify.proofs.lemmas.confirm.Streams.{faulted_front, gave_enough, passed_front, read_fails}
 use Rattle.certify.proofs.lemmas.confirm.Joining.{covers_given, took_kept}
 use Rattle.certify.proofs.lemmas.laws.Headlines.{same_reports}
 use Rattle.certify.proofs.lemmas.run.MadeCertifies.{made_certifies}
-use Rattle.certify.proofs.lemmas.run.ProofPrefixes.{carried_front, went_broke, went_took}
+use Rattle.certify.proofs.lemmas.run.ProofPrefixes.{broken_front, carried_front, closed_front, went_broke, went_took}
 use Rattle.certify.proofs.lemmas.run.RunStateCalls.{broke_later, took_both}
-use Rattle.certify.proofs.lemmas.run.Stopping.{front_whole}
+use Rattle.certify.proofs.lemmas.run.Stopping.{stops_whole}
 use Rattle.certify.proofs.lemmas.run.Written.{written_certifies}
 use Rattle.certify.specs.run.Quiet.{Proof}
 
@@ -248,41 +251,110 @@ module _ {C : Type 0} (seen : C → Writer) (budget : ℕ) (w : Writer) (s t : R
   runs_so (Ok at) (Err e) h f = ended_fault e at h f.0
   runs_so (Err e) r h f = subst (λ (q : Result Summary RunFault). FinishesOrFaults q budget (x, b.reader) (u, z) (w, seen given)) (sym f.0) (served_fault e h.0 f.1 f.2)
 
-  -- that the writer received a prefix of correct answers
-  abbrev Front : List ℕ → Writer → Type 0
-  Front text w = TookAnswersPrefix budget 0 1 initial_state (reading text) u w
+  -- before the first command
+  abbrev start : RunPlace
+  start = record { judge = initial_state; number = 1; steps = []; rounds = 0 }
 
-  first_command : (text : List ℕ) (w : Writer) → TookAnswersPrefix s.budget s.solver.clock.rounds (s.commands + 1) initial_state (reading text) u w → Front text w
-  first_command text w k =
-      subst (λ (m : ℕ). TookAnswersPrefix m 0 1 initial_state (reading text) u w) fresh.budget_is
-      (subst (λ (m : ℕ). TookAnswersPrefix s.budget m 1 initial_state (reading text) u w) fresh.rounds (subst (λ (n : ℕ). TookAnswersPrefix s.budget s.solver.clock.rounds (n + 1) initial_state (reading text) u w) fresh.commands k))
+  starts : place_in s initial_state ≡ start
+  starts = ap (λ (k : ℕ). at k (steps_in s.solver) s.solver.clock.rounds) fresh.commands ∙ ap (λ (xs : List Step). at 0 xs s.solver.clock.rounds) fresh.steps ∙ ap (at 0 []) fresh.rounds
+    where
+      at : ℕ → List Step → ℕ → RunPlace
+      at k xs n = record { judge = initial_state; number = k + 1; steps = xs; rounds = n }
 
-  served_front : (e : RunFault) → FailsWhole seen e (new_source x) b s.solver t.solver u v → ((total : List ℕ) → Covers b total → Front (rest_in total (new_source x)) z) → Unfinished budget (x, b.reader) (u, z)
-  served_front fault.ScriptRead h f = faulted_front x b h.0.0 (λ text. Front text z) h.0.1 f
-  served_front e h f = passed_front 1 x b h.0.0 (λ text. Front text z) h.0.1 f
+  from_start : (script : Reading) (to : List Step) (v : Writer) → StopsServing s.budget (place_in s initial_state) script to u v → StopsServing budget start script to u v
+  from_start script to v k = subst (λ (n : ℕ). StopsServing n start script to u v) fresh.budget_is (subst (λ (p : RunPlace). StopsServing s.budget p script to u v) starts k)
 
-  pub unfinished_so : (served : Result (Option ℕ) RunFault) (r : Result Summary RunFault) → ServesScript seen initial_state reading plain_reading served (new_source x) b s t u v → EndsRun seen served r t given v z → OnErr r (Unfinished budget (x, b.reader) (u, z))
-  unfinished_so (Ok at) (Ok summary) h f = tt
-  unfinished_so (Ok at) (Err e) h f = passed_front 1 x b h.0.0.0 (λ text. Front text z) h.0.0.1
-      (λ total k.
-      let all = h.2 total k in
-      first_command (rest_in total (new_source x)) z (front_whole s.budget (place_in s initial_state) (reading (rest_in total (new_source x))) (steps_in t.solver) all.text all.reports all.refused u v z all.serves all.written f.1))
-  unfinished_so (Err e) r h f = subst (λ (q : Result Summary RunFault). OnErr q (Unfinished budget (x, b.reader) (u, z))) (sym f.0)
-      (served_front e h.0 (λ total k. subst (λ (w : Writer). Front (rest_in total (new_source x)) w) (sym f.1) (first_command (rest_in total (new_source x)) v (h.1 total k))))
+  -- that the certificate's writer received a prefix of the text of these steps and possibly later ones
+  abbrev Shown : List Step → Type 0
+  Shown to = ∥ ((k : StepsPrefix w (seen given)) × (later : List Step) × (k.made ≡ later ++ to)) ∥₁
+
+  -- the steps of the answered asks are among them
+  stopped_run : (text : List ℕ) (to : List Step) → StopsServing budget start (reading text) to u z → Shown to → StoppedRun budget text (u, z) (w, seen given)
+  stopped_run text to h shown = record {
+    answered = h.took;
+    certified = ∥∥₁_elim shown ∥∥₁_prop (λ k.
+        let f = first_of h.serves k.1 k.2 in
+        ∣ record { front = k.0; follows = f; learns = first_learn uncounted k.0.counting f k.0.cuts } ∣₁);
+  }
+    where
+      first_of : {commands : List Command} {made : List Step} {os : List Outcome} {ns : List ℕ} → ServesFirst initial_state commands [] to os ns → (later : List Step) → made ≡ later ++ to → ServesFirst initial_state commands [] made os ns
+      first_of f later e = record {
+        first = f.first;
+        left = f.left;
+        whole = f.whole;
+        mid = f.mid;
+        later = later ++ f.later;
+        steps = e ∙ ap (λ (xs : List Step). later ++ xs) f.steps ∙ sym (append_assoc later f.later f.mid);
+        serves = f.serves;
+      }
+
+  made_since : (q : Proof C) (xs : List Step) → steps_of q ≡ xs ++ steps_in s.solver → steps_of q ≡ xs
+  made_since q xs e = e ∙ ap (λ ys. xs ++ ys) fresh.steps ∙ append-nil xs
 
   -- the certificate's writer received a prefix of the text of the steps that were made
-  made_front : ComesBySteps seen (proof_in s.solver) (proof_in t.solver) → GivesWriter (target_of seen (proof_in t.solver)) (Some (seen given)) → ∥ ((k : StepsPrefix w (seen given)) × (k.made ≡ steps_in t.solver)) ∥₁
-  made_front took gives =
-      let all : steps_in t.solver ≡ took.0 = took.1.history ∙ ap (λ xs. took.0 ++ xs) fresh.steps ∙ append-nil took.0 in
-      ∥∥₁_elim (proof_in t.solver).made.may ∥∥₁_prop (λ may.
-      let front = carried_front w (seen given) took.0 (target_of seen (proof_in t.solver)) (subst AreAllowedSteps all may) (carried seen w (proof_in s.solver) (proof_in t.solver) fresh.target took) gives in
+  made_by : (q : Proof C) → ComesBySteps seen (proof_in s.solver) q → GivesWriter (target_of seen q) (Some (seen given)) → ∥ ((k : StepsPrefix w (seen given)) × (k.made ≡ steps_of q)) ∥₁
+  made_by q took gives =
+      let all = made_since q took.0 took.1.history in
+      ∥∥₁_elim q.made.may ∥∥₁_prop (λ may.
+      let front = carried_front w (seen given) took.0 (target_of seen q) (subst AreAllowedSteps all may) (carried seen w (proof_in s.solver) q fresh.target took) gives in
       ∣ (front.0, front.1 ∙ sym all) ∣₁)
+
+  -- the same if a call of it failed
+  broken_by : (q : Proof C) → BreaksEmitting seen (proof_in s.solver) q → GivesWriter (target_of seen q) (Some (seen given)) → ∥ ((k : StepsPrefix w (seen given)) × (k.made ≡ steps_of q)) ∥₁
+  broken_by q broke gives =
+      let all = made_since q broke.0 broke.1.history in
+      ∥∥₁_elim q.made.may ∥∥₁_prop (λ may.
+      let front = broken_front w (seen given) broke.0 (target_of seen q) (subst AreAllowedSteps all may) (stopped seen w (proof_in s.solver) q fresh.target broke) gives in
+      ∣ (front.0, front.1 ∙ sym all) ∣₁)
+
+  shown_so : (q : Proof C) (to later : List Step) → steps_of q ≡ later ++ to → ∥ ((k : StepsPrefix w (seen given)) × (k.made ≡ steps_of q)) ∥₁ → Shown to
+  shown_so q to later e h = ∥∥₁_elim h ∥∥₁_prop (λ k. ∣ (k.0, later, k.1 ∙ e) ∣₁)
+
+  -- the script was not served to its end
+  served_shown : (e : RunFault) → FailsWhole seen e (new_source x) b s.solver t.solver u v → GivesWriter (target_of seen (proof_in t.solver)) (Some (seen given)) → Shown (steps_in t.solver)
+  served_shown fault.CertificateWrite h g = shown_so (proof_in t.solver) (steps_in t.solver) [] refl (broken_by (proof_in t.solver) h.2 g)
+  served_shown e h g = shown_so (proof_in t.solver) (steps_in t.solver) [] refl (made_by (proof_in t.solver) h.2 g)
+
+  -- the script was served, but the run could not be ended
+  ended_shown : (e : RunFault) → ComesBySteps seen (proof_in s.solver) (proof_in t.solver) → FaultSays e (OneFailed v z × ClosedBy seen t.solver given) (NoneFailed v z × GivenBack seen BreaksEmitting t.solver given) (NoneFailed v z × GivenBack seen ComesBySteps t.solver given) → Shown (steps_in t.solver)
+  ended_shown fault.ScriptRead took f = absurd f
+  ended_shown fault.AnswersWrite took f =
+      let all = made_since (proof_in t.solver) took.0 took.1.history in
+      let k = closed_front w (seen given) (End ∷ took.0) (subst (λ (xs : List Step). AreAllowedSteps (End ∷ xs)) all f.1.may) (closed_text seen w (proof_in s.solver) (proof_in t.solver) fresh.target (seen given) took f.1.takes) in
+      ∣ (k.0, End ∷ [], k.1 ∙ ap (λ (xs : List Step). End ∷ xs) (sym all)) ∣₁
+  ended_shown fault.CertificateWrite took f =
+      let g = f.1 in
+      shown_so g.proof (steps_in t.solver) g.goes.0 g.goes.1.history (broken_by g.proof (broke_later seen (proof_in s.solver) (proof_in t.solver) g.proof took g.goes) g.gives)
+  ended_shown e took f =
+      let g = f.1 in
+      shown_so g.proof (steps_in t.solver) g.goes.0 g.goes.1.history (made_by g.proof (took_both seen (proof_in s.solver) (proof_in t.solver) g.proof took g.goes) g.gives)
+
+  served_front : (e : RunFault) → FailsWhole seen e (new_source x) b s.solver t.solver u v → ((total : List ℕ) → Covers b total → StoppedRun budget (rest_in total (new_source x)) (u, z) (w, seen given)) → Stopped budget (x, b.reader) (u, z) (w, seen given)
+  served_front fault.ScriptRead h f = faulted_front x b h.0.0 (λ text. StoppedRun budget text (u, z) (w, seen given)) h.0.1 f
+  served_front e h f = passed_front 1 x b h.0.0 (λ text. StoppedRun budget text (u, z) (w, seen given)) h.0.1 f
+
+  pub stopped_so : (served : Result (Option ℕ) RunFault) (r : Result Summary RunFault) → ServesScript seen initial_state reading plain_reading served (new_source x) b s t u v → EndsRun seen served r t given v z → OnErr r (Stopped budget (x, b.reader) (u, z) (w, seen given))
+  stopped_so (Ok at) (Ok summary) h f = tt
+  stopped_so (Ok at) (Err e) h f =
+      let shown = ended_shown e (h.2 b.reader.given (covers_given b)).took f.0 in
+      passed_front 1 x b h.0.0.0 (λ text. StoppedRun budget text (u, z) (w, seen given)) h.0.0.1
+      (λ total k.
+      let all = h.2 total k in
+      let text = rest_in total (new_source x) in
+      stopped_run text (steps_in t.solver)
+      (from_start (reading text) (steps_in t.solver) z (stops_whole s.budget (place_in s initial_state) (reading text) (steps_in t.solver) all.text all.reports all.refused u v z all.serves all.written f.1)) shown)
+  stopped_so (Err e) r h f =
+      let shown = served_shown e h.0 f.2 in
+      subst (λ (q : Result Summary RunFault). OnErr q (Stopped budget (x, b.reader) (u, z) (w, seen given))) (sym f.0)
+      (served_front e h.0 (λ total k.
+      let text = rest_in total (new_source x) in
+      stopped_run text (steps_in t.solver) (from_start (reading text) (steps_in t.solver) z (subst (StopsServing s.budget (place_in s initial_state) (reading text) (steps_in t.solver) u) (sym f.1) (h.1 total k))) shown))
 
   -- the reason if a counter has ended
   served_end : (e : RunFault) → e ≡ fault.CounterEnd → FailsWhole seen e (new_source x) b s.solver t.solver u v → GivesWriter (target_of seen (proof_in t.solver)) (Some (seen given))
       → IsCaused e (HasFullStore t.solver) ((total : List ℕ) → Covers b total → Exceeds s.commands initial_state (reading (rest_in total (new_source x))) (steps_in t.solver)) → CounterEnds (x, b.reader) (w, seen given)
   served_end fault.CounterEnd q h gives k =
-      let front = made_front h.2 gives in
+      let front = made_by (proof_in t.solver) h.2 gives in
       passed_front 1 x b h.0.0 (λ text. ExceedsWritten (reading text) (w, seen given)) h.0.1
       (λ total y.
       elim (subst (λ n. Exceeds n initial_state (reading (rest_in total (new_source x))) (steps_in t.solver)) fresh.commands (k total y)) [
@@ -427,6 +499,25 @@ counter_lent seen budget x y u z a c v given back same r h k =
       text = k.text;
       front = k.front;
       holds = λ rest f. subst (λ (q : _). ExceedsWritten (reading (k.text ++ rest)) (seen a, seen q)) (sym is_back) (unlent_exceeds (reading (k.text ++ rest)) (seen a) (seen v) given back (k.holds rest f));
+    }
+
+unlent_run : (budget : ℕ) (text : List ℕ) (u z a b : Writer) (given back : ℕ) → StoppedRun budget text (u, z) (lent_writer given a, lent_writer back b) → StoppedRun budget text (u, z) (a, b)
+unfolding unlent_front
+unlent_run budget text u z a b given back h = record {
+  answered = h.answered;
+  certified = ∥∥₁_elim h.certified ∥∥₁_prop (λ k. ∣ record { front = unlent_front a b given back k.front; follows = k.follows; learns = k.learns } ∣₁);
+}
+
+-- the same for what an unfinished run wrote
+pub stopped_lent : {C : Type 0} (seen : C → Writer) (budget : ℕ) (x y : Reader) (u z : Writer) (a c v : C) (given back : ℕ) → (given ≡ back → c ≡ v) → (r : Result Summary RunFault)
+    → FinishesOrFaults r budget (x, y) (u, z) (lent_writer given (seen a), lent_writer back (seen v)) → OnErr r (Stopped budget (x, y) (u, z) (lent_writer given (seen a), lent_writer back (seen v))) → OnErr r (Stopped budget (x, y) (u, z) (seen a, seen c))
+stopped_lent seen budget x y u z a c v given back same (Ok s) h k = tt
+stopped_lent seen budget x y u z a c v given back same (Err e) h k =
+    let is_back : c ≡ v = same (unlent_names (seen a) (seen v) given back (loans_kept budget x y u z (seen a) (seen v) given back (Err e) h)) in
+    record {
+      text = k.text;
+      front = k.front;
+      holds = λ rest f. subst (λ (q : _). StoppedRun budget (k.text ++ rest) (u, z) (seen a, seen q)) (sym is_back) (unlent_run budget (k.text ++ rest) u z (seen a) (seen v) given back (k.holds rest f));
     }
 
 -- WHAT A RUN GUARANTEES

@@ -28,7 +28,8 @@ use Rattle.certify.specs.script.LastPiece.{TakesSomeOrEnds, TakesSome as TookOf}
 use Rattle.certify.specs.script.Commands.{HasWhole, ReaderMeans, MeansIf, ReachesCommand, end_reading, end_if}
 use Rattle.certify.specs.script.Streaming.{Arrives, NextCommandResult}
 use Rattle.certify.specs.run.FinishedRun.{malformed_at, answer_kind, rounds_of_asks}
-use Rattle.certify.specs.run.Unfinished.{Exceeds, TookAnswersPrefix}
+use Rattle.certify.specs.run.Stopping.{StopsServing}
+use Rattle.certify.specs.run.Unfinished.{Exceeds}
 use Rattle.sat_solver.specs.solver.View.{proof_in}
 use Rattle.certify.specs.run.SolverCalls.{FaultSays, IsCaused, IsReadySolver}
 use Rattle.certify.specs.run.Serving.{RunPlace, Serves}
@@ -41,7 +42,7 @@ use Rattle.certify.proofs.lemmas.run.CallFaults.{caused_map}
 use Rattle.certify.proofs.lemmas.run.Caused.{after_both, caused_all, exceeds_later}
 use Rattle.certify.proofs.lemmas.run.Served.{serves_none, serves_then}
 use Rattle.certify.proofs.lemmas.run.RunStateCalls.{took_none, took_both, broke_later}
-use Rattle.certify.proofs.lemmas.run.Stopping.{front_later, front_none}
+use Rattle.certify.proofs.lemmas.run.Stopping.{stops_as, stops_later, stops_none}
 use Rattle.certify.specs.run.Quiet.{Solver}
 
 -- PLACES
@@ -183,24 +184,10 @@ module _ {C : Type 0} (seen : C → Writer) where
   unnumbered j k l [] = refl
   unnumbered j k l (o ∷ os) = refl
 
-  pub asked_stops : {T : Type 0} (r : Result T RunFault) (a : RunState C) (u v : Writer) → StopsCarrying r a (Ask []) ([], Clean) u v → StopsOver r a (Ask [] ∷ [], Clean) u v
-  asked_stops (Ok x) a u v h = tt
-  asked_stops (Err e) a u v h = λ j at.
-      let k = h j at.live at.means refl in
-      let f = k.front in
-      record {
-        bytes = k.bytes;
-        took = k.took;
-        front = record {
-          answered = f.answered;
-          later = f.later;
-          right = f.right;
-          begins = λ others same. let h = f.begins others same in (h.0, unnumbered j (a.commands + 1) a.commands (f.answered ++ others) ∙ h.1);
-          reports = f.reports;
-          kinds = f.kinds;
-          spent = f.spent;
-        };
-      }
+  pub asked_stops : {T : Type 0} (r : Result T RunFault) (a b : RunState C) (u v : Writer) → StopsCarrying r a b (Ask []) ([], Clean) u v → StopsOver r a b (Ask [] ∷ [], Clean) u v
+  asked_stops (Ok x) a b u v h = tt
+  asked_stops (Err e) a b u v h = λ j at.
+      stops_as a.budget (last_place a j) (a.commands + 1) (Ask [] ∷ [], Clean) (steps_in b.solver) u v (unnumbered j (a.commands + 1) a.commands) (h j at.live at.means refl)
 
   pub ends_asked : (j : ScriptState) (a b : RunState C) (u v : Writer) → HasStateBetweenCommands a j → CarriedOut seen a b (Ask []) u v → ServesWhole seen j (Ask [] ∷ [], Clean) 0 None a b u v
   ends_asked j a b u v at h =
@@ -235,12 +222,12 @@ module _ {C : Type 0} (seen : C → Writer) where
   -- FAULTS
 
   -- a fault after one command was served
-  pub stops_following : {T : Type 0} (r : Result T RunFault) (c : Command) (script : Reading) (a b : RunState C) (u v w : Writer) → ServedNext seen a b c u v → StopsOver r b script v w → StopsOver r a (prepend_commands (c ∷ []) script) u w
-  stops_following (Ok x) c script a b u v w f g = tt
-  stops_following (Err e) c script a b u v w f g = λ j at.
+  pub stops_following : {T : Type 0} (r : Result T RunFault) (c : Command) (script : Reading) (a b d : RunState C) (u v w : Writer) → ServedNext seen a b c u v → StopsOver r b d script v w → StopsOver r a d (prepend_commands (c ∷ []) script) u w
+  stops_following (Ok x) c script a b d u v w f g = tt
+  stops_following (Err e) c script a b d u v w f g = λ j at.
       let h = f.serves j at in
-      front_later a.budget (place_in a j) (place_in b (after_command c j)) (c ∷ []) script f.text f.reports f.refused u v w h.1 f.written
-      (subst (λ budget. TookAnswersPrefix budget b.solver.clock.rounds (b.commands + 1) (after_command c j) script v w) f.budget (g (after_command c j) h.0))
+      stops_later a.budget (place_in a j) (place_in b (after_command c j)) (c ∷ []) script (steps_in d.solver) f.text f.reports f.refused u v w h.1 f.written
+      (subst (λ budget. StopsServing budget (place_in b (after_command c j)) script (steps_in d.solver) v w) f.budget (g (after_command c j) h.0))
 
   -- a fault of a part of a run, after parts that succeeded
   pub fails_then : (e : RunFault) (a b : Source) (p q r : Solver C) (u v w : Writer) → TakesSomeOrEnds a b → NoneFailed u v → ComesBySteps seen (proof_in p) (proof_in q)
@@ -285,17 +272,17 @@ module _ {C : Type 0} (seen : C → Writer) (j : ScriptState) (text counted : Li
   none_failed = (through.served.written.failures, through.served.written.loans)
 
   -- a prefix of correct answers, after those to the commands that were served
-  following : (c : Source) (script : List ℕ → Reading) (w : Writer) → ((total : List ℕ) → Covers c total → Covers b total) → ((total : List ℕ) → Covers c total → through.left (rest_in total b) ≡ script total)
-      → ((total : List ℕ) → Covers c total → TookAnswersPrefix mid.budget mid.solver.clock.rounds (mid.commands + 1) through.served.judge (script total) v w)
-      → (total : List ℕ) → Covers c total → TookAnswersPrefix old.budget old.solver.clock.rounds (old.commands + 1) j (text (rest_in total a)) u w
-  following c script w back is front total k =
+  following : (c : Source) (new : RunState C) (script : List ℕ → Reading) (w : Writer) → ((total : List ℕ) → Covers c total → Covers b total) → ((total : List ℕ) → Covers c total → through.left (rest_in total b) ≡ script total)
+      → ((total : List ℕ) → Covers c total → StopsServing mid.budget (place_in mid through.served.judge) (script total) (steps_in new.solver) v w)
+      → (total : List ℕ) → Covers c total → StopsServing old.budget (place_in old j) (text (rest_in total a)) (steps_in new.solver) u w
+  following c new script w back is front total k =
       let f = through.served in
-      subst (λ s. TookAnswersPrefix old.budget old.solver.clock.rounds (old.commands + 1) j s u w) (sym (through.reads total (back total k) ∙ ap (prepend_commands through.commands) (is total k)))
-      (front_later old.budget (place_in old j) (place_in mid f.judge) through.commands (script total) f.text f.reports f.refused u v w f.serves f.written
-      (subst (λ budget. TookAnswersPrefix budget mid.solver.clock.rounds (mid.commands + 1) f.judge (script total) v w) f.budget (front total k)))
+      subst (λ s. StopsServing old.budget (place_in old j) s (steps_in new.solver) u w) (sym (through.reads total (back total k) ∙ ap (prepend_commands through.commands) (is total k)))
+      (stops_later old.budget (place_in old j) (place_in mid f.judge) through.commands (script total) (steps_in new.solver) f.text f.reports f.refused u v w f.serves f.written
+      (subst (λ budget. StopsServing budget (place_in mid f.judge) (script total) (steps_in new.solver) v w) f.budget (front total k)))
 
-  served_so_far : (c : Source) → ((total : List ℕ) → Covers c total → Covers b total) → (total : List ℕ) → Covers c total → TookAnswersPrefix old.budget old.solver.clock.rounds (old.commands + 1) j (text (rest_in total a)) u v
-  served_so_far c back = following c (λ total. through.left (rest_in total b)) v back (λ total k. refl) (λ total k. front_none mid.budget mid.solver.clock.rounds (mid.commands + 1) through.served.judge (through.left (rest_in total b)) v)
+  served_so_far : (c : Source) → ((total : List ℕ) → Covers c total → Covers b total) → (total : List ℕ) → Covers c total → StopsServing old.budget (place_in old j) (text (rest_in total a)) (steps_in mid.solver) u v
+  served_so_far c back = following c mid (λ total. through.left (rest_in total b)) v back (λ total k. refl) (λ total k. stops_none mid.budget (place_in mid through.served.judge) (steps_in mid.solver) [] refl (through.left (rest_in total b)) v)
 
   -- why no further command was served, except for device and allocation failures
   caused : (e : RunFault) (c : Source) (new : RunState C) (script : List ℕ → Reading) → ((total : List ℕ) → Covers c total → Covers b total) → ((total : List ℕ) → Covers c total → through.left (rest_in total b) ≡ script total)
@@ -313,7 +300,7 @@ module _ {C : Type 0} (seen : C → Writer) (j : ScriptState) (text counted : Li
 
   -- the end
   module _ (c : Source) (new : RunState C) (w : Writer) (took : TookOf false b c) (left plain : Reading) (is : (total : List ℕ) → Covers c total → through.left (rest_in total b) ≡ left) (is_plain : (total : List ℕ) → Covers c total → through.plain (rest_in total b) ≡ plain) where
-    whole : (r : Result (Option ℕ) RunFault) → OnOk r (IsReadySolver new.solver) → IfOk r (λ at. ServesWhole seen through.served.judge left (length plain.0) at mid new v w) → WritesBoth r seen v w mid.solver new.solver → StopsOver r mid left v w → CausedOver r mid new left → ServesScript seen j text counted r a c old new u w
+    whole : (r : Result (Option ℕ) RunFault) → OnOk r (IsReadySolver new.solver) → IfOk r (λ at. ServesWhole seen through.served.judge left (length plain.0) at mid new v w) → WritesBoth r seen v w mid.solver new.solver → StopsOver r mid new left v w → CausedOver r mid new left → ServesScript seen j text counted r a c old new u w
     whole (Ok at) ready serves both front cause = (
       took_then false a b c through.took took,
       ready,
@@ -326,7 +313,7 @@ module _ {C : Type 0} (seen : C → Writer) (j : ScriptState) (text counted : Li
     )
     whole (Err e) ready serves both front cause = (
       fails_then seen e a c old.solver mid.solver new.solver u v w (took_passed false a c (took_then false a b c through.took took)) none_failed through.served.took both,
-      following c (λ total. left) w (λ total k. covers_took false b c total mid_open took k) is (λ total k. front through.served.judge through.served.at),
+      following c new (λ total. left) w (λ total k. covers_took false b c total mid_open took k) is (λ total k. front through.served.judge through.served.at),
       caused e c new (λ total. left) (λ total k. covers_took false b c total mid_open took k) is (caused_map e (HasFullStore new.solver) ((i : ScriptState) → HasStateBetweenCommands mid i → Exceeds mid.commands i left (steps_in new.solver)) (HasFullStore new.solver) (List ℕ → (i : ScriptState) → HasStateBetweenCommands mid i → Exceeds mid.commands i left (steps_in new.solver)) (λ x. x) (λ k total. k) cause),
     )
 
@@ -336,14 +323,14 @@ module _ {C : Type 0} (seen : C → Writer) (j : ScriptState) (text counted : Li
   no_commands ends.Malformed = refl
 
   pub ends_so : (c : Source) (new : RunState C) (w : Writer) (e : ScriptEnd) (r : Result (Option ℕ) RunFault) → Arrives (next.End e) b c reader after_reader → OnOk r (IsReadySolver new.solver)
-      → ((i : ScriptState) → HasStateBetweenCommands mid i → IfOk r (λ at. ServesWhole seen i (end_reading e) 0 at mid new v w)) → WritesBoth r seen v w mid.solver new.solver → StopsOver r mid (end_reading e) v w → CausedOver r mid new (end_reading e) → ServesScript seen j text counted r a c old new u w
+      → ((i : ScriptState) → HasStateBetweenCommands mid i → IfOk r (λ at. ServesWhole seen i (end_reading e) 0 at mid new v w)) → WritesBoth r seen v w mid.solver new.solver → StopsOver r mid new (end_reading e) v w → CausedOver r mid new (end_reading e) → ServesScript seen j text counted r a c old new u w
   ends_so c new w e r came ready serves both front cause =
       whole c new w came.0 (end_reading e) (end_if false e) (came.1 true through.left through.means) (came.1 false through.plain through.counts) r ready
       (subst (λ (n : ℕ). IfOk r (λ at. ServesWhole seen through.served.judge (end_reading e) n at mid new v w)) (sym (no_commands e)) (serves through.served.judge through.served.at)) both front cause
 
   pub ends_last : (c : Source) (new : RunState C) (w : Writer) (e : ScriptEnd) (r : Result (Option ℕ) RunFault) → Arrives (next.Last e) b c reader after_reader → OnOk r (IsReadySolver new.solver)
       → ((x : Command) → HasWhole after_reader x → (i : ScriptState) → HasStateBetweenCommands mid i → IfOk r (λ at. ServesWhole seen i (prepend_commands (x ∷ []) (end_reading e)) 1 at mid new v w)) → WritesBoth r seen v w mid.solver new.solver
-      → ((x : Command) → HasWhole after_reader x → StopsOver r mid (prepend_commands (x ∷ []) (end_reading e)) v w)
+      → ((x : Command) → HasWhole after_reader x → StopsOver r mid new (prepend_commands (x ∷ []) (end_reading e)) v w)
       → ((x : Command) → HasWhole after_reader x → CausedOver r mid new (prepend_commands (x ∷ []) (end_reading e))) → ServesScript seen j text counted r a c old new u w
   ends_last c new w e r came ready serves both front cause =
       let k = came.2 true through.left through.means in
@@ -394,12 +381,12 @@ module _ {C : Type 0} (seen : C → Writer) (j : ScriptState) (text counted : Li
         onto-onto : (xs ys : List Command) (r : Reading) → prepend_commands xs (prepend_commands ys r) ≡ prepend_commands (xs ++ ys) r
         onto-onto xs ys r = ap (λ (zs : List Command). (zs, r.1)) (sym (append_assoc xs ys r.0))
 
-    pub stops : (e : RunFault) → WritesBoth {T = Unit {0}} (Err e) seen v w mid.solver new.solver → ((x : Command) → HasWhole after_reader x → (left : Reading) → StopsOver {T = Unit {0}} (Err e) mid (prepend_commands (x ∷ []) left) v w)
+    pub stops : (e : RunFault) → WritesBoth {T = Unit {0}} (Err e) seen v w mid.solver new.solver → ((x : Command) → HasWhole after_reader x → (left : Reading) → StopsOver {T = Unit {0}} (Err e) mid new (prepend_commands (x ∷ []) left) v w)
         → ((x : Command) → HasWhole after_reader x → (left : Reading) → CausedOver {T = Unit {0}} (Err e) mid new (prepend_commands (x ∷ []) left))
         → ServesScript seen j text counted (Err e) a c old new u w
     stops e both front cause = (
       fails_then seen e a c old.solver mid.solver new.solver u v w (took_passed true a c (took_then true a b c through.took took)) none_failed through.served.took both,
-      following c (λ total. prepend_commands (reaches.command ∷ []) (reaches.after (rest_in total c))) w (λ total k. covers_took true b c total mid_open took k)
+      following c new (λ total. prepend_commands (reaches.command ∷ []) (reaches.after (rest_in total c))) w (λ total k. covers_took true b c total mid_open took k)
           (λ total k. ap through.left (taken_front 0 b c came.0 total came.1 k) ∙ reaches.reads (rest_in total c))
           (λ total k. front reaches.command reaches.whole (reaches.after (rest_in total c)) through.served.judge through.served.at),
       caused e c new (λ total. prepend_commands (reaches.command ∷ []) (reaches.after (rest_in total c))) (λ total k. covers_took true b c total mid_open took k)

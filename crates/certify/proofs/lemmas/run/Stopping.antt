@@ -14,8 +14,10 @@ use Rattle.certify.specs.answers.Answers.{answers_from, malformed_line, outcome_
 use Rattle.certify.specs.answers.RightAnswers.{AreRight, IsRight}
 use Rattle.certify.specs.declared.summary.Answer.TheVariants as kind
 use Rattle.certify.specs.declared.summary.AskReport.{AskReport}
-use Rattle.certify.specs.run.FinishedRun.{AreWithinBudget, IsBounded, SpendsWithinBudget, answer_kind, identities_given}
-use Rattle.certify.specs.run.Unfinished.{AreSpentSoFar, BeginAnswers, TookBytes, TookAnswersPrefix}
+use Rattle.certify.specs.run.FinishedRun.{AreWithinBudget, IsBounded, SpendsWithinBudget, answer_kind, identities_given, rounds_of_asks}
+use Rattle.certify.specs.run.Stopping.{StopsServing}
+use Rattle.certify.specs.run.Stretches.{AskStretches, ServesCommands, ServesFirst, made_ask, made_none}
+use Rattle.certify.specs.run.Unfinished.{AreSpentSoFar, BeginAnswers, TookBytes}
 use Rattle.certify.specs.run.Serving.{RunPlace, Serves}
 use Rattle.certify.specs.run.ServedScript.{ServesTo}
 use Rattle.certify.proofs.lemmas.run.ServedOnce.{accepted_next, accepted_refused}
@@ -69,7 +71,7 @@ padded budget before (n ∷ ns) (r ∷ rs) h = let k = padded budget (before + r
 -- PREFIXES OF ANSWERS
 
 module _ (budget before n : ℕ) (j : ScriptState) where
-  pub begins_none : (script : Reading) → BeginAnswers budget before n j script []
+  abbrev begins_none : (script : Reading) → BeginAnswers budget before n j script []
   begins_none script = record {
     answered = [];
     later = unknowns (accepted_commands j script.0);
@@ -80,19 +82,19 @@ module _ (budget before n : ℕ) (j : ScriptState) where
     spent = tt;
   }
 
-  begins_less : (script : Reading) (bytes more : List ℕ) → BeginAnswers budget before n j script (bytes ++ more) → BeginAnswers budget before n j script bytes
-  begins_less script bytes more h = record {
+  abbrev begins_less : (script : Reading) (text bytes more : List ℕ) → text ≡ bytes ++ more → BeginAnswers budget before n j script text → BeginAnswers budget before n j script bytes
+  begins_less script text bytes more e h = record {
     answered = h.answered;
     later = h.later;
     right = h.right;
-    begins = λ others e. let k = h.begins others e in (more ++ k.0, k.1 ∙ append_assoc bytes more k.0);
+    begins = λ others f. let k = h.begins others f in (more ++ k.0, k.1 ∙ ap (λ (z : List ℕ). z ++ k.0) e ∙ append_assoc bytes more k.0);
     reports = h.reports;
     kinds = h.kinds;
     spent = h.spent;
   }
 
   -- the answer to an ask, which is correct, is a prefix of correct answers
-  begins_ask : (ls : List Literal) (o : Outcome) (report : AskReport) (left : Reading) → refusal_of j (Ask ls) ≡ None → IsRight (state_after_accepted (Ask ls) j) ls o → report.answer ≡ answer_kind o → SpendsWithinBudget budget before report
+  abbrev begins_ask : (ls : List Literal) (o : Outcome) (report : AskReport) (left : Reading) → refusal_of j (Ask ls) ≡ None → IsRight (state_after_accepted (Ask ls) j) ls o → report.answer ≡ answer_kind o → SpendsWithinBudget budget before report
       → IsBounded (state_after_accepted (Ask ls) j).identity_count budget before report → BeginAnswers budget before n j (prepend_commands (Ask ls ∷ []) left) (outcome_text o)
   begins_ask ls o report left e right same spends bounded =
       let later = accepted_commands (state_after_accepted (Ask ls) j) left.0 in
@@ -106,7 +108,7 @@ module _ (budget before n : ℕ) (j : ScriptState) where
         spent = subst (λ cs. AreSpentSoFar budget before (identities_given j cs) (report ∷ [])) (sym (accepted_next j (Ask ls) left.0 e)) (spends, bounded, tt);
       }
 
-  begins_refused : (c : Command) (r : Refusal) (left : Reading) → refusal_of j c ≡ Some r → BeginAnswers budget before n j (prepend_commands (c ∷ []) left) (refused_line n r)
+  abbrev begins_refused : (c : Command) (r : Refusal) (left : Reading) → refusal_of j c ≡ Some r → BeginAnswers budget before n j (prepend_commands (c ∷ []) left) (refused_line n r)
   begins_refused c r left e =
       let later = accepted_commands j left.0 in
       record {
@@ -119,7 +121,7 @@ module _ (budget before n : ℕ) (j : ScriptState) where
         spent = tt;
       }
 
-  begins_malformed : BeginAnswers budget before n j ([], Malformed) (malformed_line n)
+  abbrev begins_malformed : BeginAnswers budget before n j ([], Malformed) (malformed_line n)
   begins_malformed = record {
     answered = [];
     later = [];
@@ -131,7 +133,7 @@ module _ (budget before n : ℕ) (j : ScriptState) where
   }
 
 -- the answers to earlier commands, and then a prefix of those to the later ones
-begins_later : (budget : ℕ) (a b : RunPlace) (cs : List Command) (script : Reading) (text bytes : List ℕ) (rs : List AskReport) (k : ℕ)
+abbrev begins_later : (budget : ℕ) (a b : RunPlace) (cs : List Command) (script : Reading) (text bytes : List ℕ) (rs : List AskReport) (k : ℕ)
     → Serves budget a b cs text rs k → BeginAnswers budget b.rounds b.number b.judge script bytes → BeginAnswers budget a.rounds a.number a.judge (prepend_commands cs script) (text ++ bytes)
 begins_later budget a b cs script text bytes rs k f g =
     let whole = padded budget b.rounds (identities_given b.judge (accepted_commands b.judge script.0)) g.reports g.spent in
@@ -155,6 +157,20 @@ none_left : (others : List Outcome) → length others ≡ 0 → others ≡ []
 none_left [] e = refl
 none_left (o ∷ os) e = absurd (cc)
 
+-- the answers to the complete script
+abbrev begins_whole : (budget : ℕ) (a : RunPlace) (script : Reading) (to : List Step) (text : List ℕ) (rs : List AskReport) (k : ℕ) → ServesTo budget a script to text rs k → BeginAnswers budget a.rounds a.number a.judge script (text ++ [])
+begins_whole budget a script to text rs k f = record {
+  answered = f.outcomes;
+  later = [];
+  right = subst (AreRight a.judge (accepted_commands a.judge script.0)) (sym (append-nil f.outcomes)) f.right;
+  begins = λ others e.
+      let same = ap (λ os. f.outcomes ++ os) (none_left others e) ∙ append-nil f.outcomes in
+      ([], ap (answers_from a.number a.judge script.0 script.1) same ∙ f.says ∙ sym (append-nil text) ∙ sym (append-nil (text ++ [])));
+  reports = rs;
+  kinds = f.kinds;
+  spent = spent_first budget a.rounds (identities_given a.judge (accepted_commands a.judge script.0)) rs [] (subst (AreWithinBudget budget a.rounds (identities_given a.judge (accepted_commands a.judge script.0))) (sym (append-nil rs)) f.spent);
+}
+
 -- WHAT A WRITER RECEIVED
 
 pub bytes_none : (w : Writer) → TookBytes w w []
@@ -172,68 +188,114 @@ bytes_later u v w text bytes t b = record {
   known_bytes = appends_more u.contents v.contents w.contents text bytes t.known_bytes b.known_bytes;
 }
 
+-- HOW FAR COMMANDS WERE SERVED
+
+-- none was served, or only refused ones
+first_none : (j : ScriptState) (commands : List Command) (from to later : List Step) → to ≡ later ++ from → ServesFirst j commands from to [] []
+first_none j commands from to later e = record { first = []; left = commands; whole = refl; mid = from; later = later; steps = e; serves = made_none }
+
+-- an ask was served, and nothing after it
+first_ask : (j : ScriptState) (ls : List Literal) (o : Outcome) (n : ℕ) (left : List Command) (from to : List Step) → refusal_of j (Ask ls) ≡ None → AskStretches j ls o n from to → ServesFirst j (Ask ls ∷ left) from to (o ∷ []) (n ∷ [])
+first_ask j ls o n left from to e made = record {
+  first = Ask ls ∷ [];
+  left = left;
+  whole = refl;
+  mid = to;
+  later = [];
+  steps = refl;
+  serves = subst (λ cs. ServesCommands j from to cs (o ∷ []) (n ∷ [])) (sym (accepted_next j (Ask ls) [] e)) (made_ask to made made_none);
+}
+
+-- some commands were served, and then others
+first_later : (budget : ℕ) (a b : RunPlace) (cs commands : List Command) (to : List Step) (text : List ℕ) (rs qs : List AskReport) (os : List Outcome) (k : ℕ)
+    → (f : Serves budget a b cs text rs k) → ServesFirst b.judge commands b.steps to os (rounds_of_asks qs) → ServesFirst a.judge (cs ++ commands) a.steps to (f.outcomes ++ os) (rounds_of_asks (rs ++ qs))
+first_later budget a b cs commands to text rs qs os k f g = record {
+  first = cs ++ g.first;
+  left = g.left;
+  whole = ap (λ (xs : List Command). cs ++ xs) g.whole ∙ sym (append_assoc cs g.first g.left);
+  mid = g.mid;
+  later = g.later;
+  steps = g.steps;
+  serves =
+      subst (ServesCommands a.judge a.steps g.mid (accepted_commands a.judge (cs ++ g.first)) (f.outcomes ++ os)) (sym (map-append (λ (r : AskReport). r.steps) rs qs))
+      (f.follows g.mid g.first os (rounds_of_asks qs) g.serves);
+}
+
 -- PREFIXES THAT A WRITER RECEIVED
 
-module _ (budget before n : ℕ) (j : ScriptState) where
-  -- nothing was written
-  pub front_none : (script : Reading) (w : Writer) → TookAnswersPrefix budget before n j script w w
-  front_none script w = record { bytes = []; took = bytes_none w; front = begins_none budget before n j script }
+module _ (budget : ℕ) (a : RunPlace) (to : List Step) where
+  -- a prefix of a text was written
+  stops_broken : (script : Reading) (u v : Writer) (text : List ℕ) (h : BeginAnswers budget a.rounds a.number a.judge script text) → ServesFirst a.judge script.0 a.steps to h.answered (rounds_of_asks h.reports) → WriterFails u v text
+      → StopsServing budget a script to u v
+  stops_broken script u v text h s b = record { took = record { bytes = b.front; took = bytes_broken u v text b; front = begins_less budget a.rounds a.number a.judge script text b.front b.following b.whole h }; serves = s }
 
-  front_all : (script : Reading) (u v : Writer) (text : List ℕ) → BeginAnswers budget before n j script text → WriterAccepts u v text → TookAnswersPrefix budget before n j script u v
-  front_all script u v text h t = record { bytes = text; took = bytes_taken u v text t; front = h }
+  module _ (later : List Step) (more : to ≡ later ++ a.steps) where
+    -- nothing was written
+    pub stops_none : (script : Reading) (w : Writer) → StopsServing budget a script to w w
+    stops_none script w = record { took = record { bytes = []; took = bytes_none w; front = begins_none budget a.rounds a.number a.judge script }; serves = first_none a.judge script.0 a.steps to later more }
 
-  front_broken : (script : Reading) (u v : Writer) (text : List ℕ) → BeginAnswers budget before n j script text → WriterFails u v text → TookAnswersPrefix budget before n j script u v
-  front_broken script u v text h b = record { bytes = b.front; took = bytes_broken u v text b; front = begins_less budget before n j script b.front b.following (subst (BeginAnswers budget before n j script) b.whole h) }
+    -- a part of the line of a refusal was written
+    pub stops_refused : (c : Command) (r : Refusal) (left : Reading) (u v : Writer) → refusal_of a.judge c ≡ Some r → WriterFails u v (refused_line a.number r) → StopsServing budget a (prepend_commands (c ∷ []) left) to u v
+    stops_refused c r left u v e b = stops_broken (prepend_commands (c ∷ []) left) u v (refused_line a.number r) (begins_refused budget a.rounds a.number a.judge c r left e) (first_none a.judge (c ∷ left.0) a.steps to later more) b
 
-  -- a part of the line of a refusal was written
-  pub front_refused : (c : Command) (r : Refusal) (left : Reading) (u v : Writer) → refusal_of j c ≡ Some r → WriterFails u v (refused_line n r) → TookAnswersPrefix budget before n j (prepend_commands (c ∷ []) left) u v
-  front_refused c r left u v e b = front_broken (prepend_commands (c ∷ []) left) u v (refused_line n r) (begins_refused budget before n j c r left e) b
+    -- a part of the last line for a malformed text was written
+    pub stops_malformed : (u v : Writer) → WriterFails u v (malformed_line a.number) → StopsServing budget a ([], Malformed) to u v
+    stops_malformed u v b = stops_broken ([], Malformed) u v (malformed_line a.number) (begins_malformed budget a.rounds a.number a.judge) (first_none a.judge [] a.steps to later more) b
 
-  -- a part of the last line for a malformed text was written
-  pub front_malformed : (u v : Writer) → WriterFails u v (malformed_line n) → TookAnswersPrefix budget before n j ([], Malformed) u v
-  front_malformed u v b = front_broken ([], Malformed) u v (malformed_line n) (begins_malformed budget before n j) b
-
-  -- the answer to an ask, or a prefix of it, was written
-  module _ (ls : List Literal) (o : Outcome) (report : AskReport) (left : Reading) (u v : Writer) (e : refusal_of j (Ask ls) ≡ None) (right : IsRight (state_after_accepted (Ask ls) j) ls o) (same : report.answer ≡ answer_kind o)
-      (spends : SpendsWithinBudget budget before report) (bounded : IsBounded (state_after_accepted (Ask ls) j).identity_count budget before report) where
-    pub front_answered : WriterAccepts u v (outcome_text o) → TookAnswersPrefix budget before n j (prepend_commands (Ask ls ∷ []) left) u v
-    front_answered t = front_all (prepend_commands (Ask ls ∷ []) left) u v (outcome_text o) (begins_ask budget before n j ls o report left e right same spends bounded) t
-
-    pub front_cut : WriterFails u v (outcome_text o) → TookAnswersPrefix budget before n j (prepend_commands (Ask ls ∷ []) left) u v
-    front_cut b = front_broken (prepend_commands (Ask ls ∷ []) left) u v (outcome_text o) (begins_ask budget before n j ls o report left e right same spends bounded) b
+  -- a part of the answer to an ask was written, after the ask was closed
+  pub stops_cut : (ls : List Literal) (o : Outcome) (report : AskReport) (left : Reading) (u v : Writer) → refusal_of a.judge (Ask ls) ≡ None → IsRight (state_after_accepted (Ask ls) a.judge) ls o → report.answer ≡ answer_kind o
+      → SpendsWithinBudget budget a.rounds report → IsBounded (state_after_accepted (Ask ls) a.judge).identity_count budget a.rounds report → AskStretches a.judge ls o report.steps a.steps to → WriterFails u v (outcome_text o)
+      → StopsServing budget a (prepend_commands (Ask ls ∷ []) left) to u v
+  stops_cut ls o report left u v e right same spends bounded made b =
+      stops_broken (prepend_commands (Ask ls ∷ []) left) u v (outcome_text o) (begins_ask budget a.rounds a.number a.judge ls o report left e right same spends bounded) (first_ask a.judge ls o report.steps left.0 a.steps to e made) b
 
 -- a prefix was written after the answers to commands that were served
-pub front_later : (budget : ℕ) (a b : RunPlace) (cs : List Command) (script : Reading) (text : List ℕ) (rs : List AskReport) (k : ℕ) (u v w : Writer)
-    → Serves budget a b cs text rs k → WriterAccepts u v text → TookAnswersPrefix budget b.rounds b.number b.judge script v w → TookAnswersPrefix budget a.rounds a.number a.judge (prepend_commands cs script) u w
-front_later budget a b cs script text rs k u v w f t g = record {
-  bytes = text ++ g.bytes;
-  took = bytes_later u v w text g.bytes t g.took;
-  front = begins_later budget a b cs script text g.bytes rs k f g.front;
+pub stops_later : (budget : ℕ) (a b : RunPlace) (cs : List Command) (script : Reading) (to : List Step) (text : List ℕ) (rs : List AskReport) (k : ℕ) (u v w : Writer)
+    → Serves budget a b cs text rs k → WriterAccepts u v text → StopsServing budget b script to v w → StopsServing budget a (prepend_commands cs script) to u w
+stops_later budget a b cs script to text rs k u v w f t g = record {
+  took = record {
+    bytes = text ++ g.took.bytes;
+    took = bytes_later u v w text g.took.bytes t g.took.took;
+    front = begins_later budget a b cs script text g.took.bytes rs k f g.took.front;
+  };
+  serves = first_later budget a b cs script.0 to text rs g.took.front.reports g.took.front.answered k f g.serves;
 }
 
 -- only the answers to commands that were served were written
-pub front_served : (budget : ℕ) (a b : RunPlace) (cs : List Command) (script : Reading) (text : List ℕ) (rs : List AskReport) (k : ℕ) (u v : Writer)
-    → Serves budget a b cs text rs k → WriterAccepts u v text → TookAnswersPrefix budget a.rounds a.number a.judge (prepend_commands cs script) u v
-front_served budget a b cs script text rs k u v f t = front_later budget a b cs script text rs k u v v f t (front_none budget b.rounds b.number b.judge script v)
+pub stops_served : (budget : ℕ) (a b : RunPlace) (cs : List Command) (script : Reading) (text : List ℕ) (rs : List AskReport) (k : ℕ) (u v : Writer)
+    → Serves budget a b cs text rs k → WriterAccepts u v text → StopsServing budget a (prepend_commands cs script) b.steps u v
+stops_served budget a b cs script text rs k u v f t = stops_later budget a b cs script b.steps text rs k u v v f t (stops_none budget b b.steps [] refl script v)
 
 -- the answers to the complete script were written, and nothing more
-pub front_whole : (budget : ℕ) (a : RunPlace) (script : Reading) (to : List Step) (text : List ℕ) (rs : List AskReport) (k : ℕ) (u v w : Writer)
-    → ServesTo budget a script to text rs k → WriterAccepts u v text → TookBytes v w [] → TookAnswersPrefix budget a.rounds a.number a.judge script u w
-front_whole budget a script to text rs k u v w f t b = record {
-  bytes = text ++ [];
-  took = bytes_later u v w text [] t b;
-  front = record {
-    answered = f.outcomes;
-    later = [];
-    right = subst (AreRight a.judge (accepted_commands a.judge script.0)) (sym (append-nil f.outcomes)) f.right;
-    begins = λ others e.
-        let same = ap (λ os. f.outcomes ++ os) (none_left others e) ∙ append-nil f.outcomes in
-        ([], ap (answers_from a.number a.judge script.0 script.1) same ∙ f.says ∙ sym (append-nil text) ∙ sym (append-nil (text ++ [])));
-    reports = rs;
-    kinds = f.kinds;
-    spent = spent_first budget a.rounds (identities_given a.judge (accepted_commands a.judge script.0)) rs [] (subst (AreWithinBudget budget a.rounds (identities_given a.judge (accepted_commands a.judge script.0))) (sym (append-nil rs)) f.spent);
-  };
+pub stops_whole : (budget : ℕ) (a : RunPlace) (script : Reading) (to : List Step) (text : List ℕ) (rs : List AskReport) (k : ℕ) (u v w : Writer)
+    → ServesTo budget a script to text rs k → WriterAccepts u v text → TookBytes v w [] → StopsServing budget a script to u w
+stops_whole budget a script to text rs k u v w f t b = record {
+  took = record { bytes = text ++ []; took = bytes_later u v w text [] t b; front = begins_whole budget a script to text rs k f };
+  serves = record { first = script.0; left = []; whole = sym (append-nil script.0); mid = to; later = []; steps = refl; serves = f.follows };
 }
+
+-- the same for another number of the next command, if the answers do not depend on it
+pub stops_as : (budget : ℕ) (a : RunPlace) (number : ℕ) (script : Reading) (to : List Step) (u v : Writer)
+    → ((others : List Outcome) → answers_from number a.judge script.0 script.1 others ≡ answers_from a.number a.judge script.0 script.1 others) → StopsServing budget a script to u v
+    → StopsServing budget (record a { number = number }) script to u v
+stops_as budget a number script to u v same h =
+    let f = h.took.front in
+    record {
+      took = record {
+        bytes = h.took.bytes;
+        took = h.took.took;
+        front = record {
+          answered = f.answered;
+          later = f.later;
+          right = f.right;
+          begins = λ others e. let k = f.begins others e in (k.0, same (f.answered ++ others) ∙ k.1);
+          reports = f.reports;
+          kinds = f.kinds;
+          spent = f.spent;
+        };
+      };
+      serves = h.serves;
+    }
 
 keeps_appends : (a b : Option (List ℕ)) → Keeps a b → Appends a b []
 keeps_appends None b k = tt

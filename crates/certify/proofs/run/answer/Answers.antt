@@ -4,7 +4,7 @@ use Rattle.sat_base.specs.script.ScriptState.{initial_state}
 use Rattle.certify.specs.script.LastPiece.{source_in}
 use Rattle.sat_base.specs.script.Language.{reading, plain_reading}
 use Rattle.certify.specs.run.ServedScript.{ServesScript}
-use Rattle.certify.proofs.lemmas.run.Runs.{IsNew, counter_so, fresh_source, has_target, is_open_yet, runs_so, steps_so, unfinished_so}
+use Rattle.certify.proofs.lemmas.run.Runs.{IsNew, counter_so, fresh_source, has_target, is_open_yet, runs_so, steps_so, stopped_so}
 use Rattle.certify.proofs.lemmas.script.LastChunks.{reads_first}
 use Rattle.certify.proofs.run.answer.Given.{Over}
 use Rattle.certify.proofs.run.answer.Goals as goal
@@ -41,7 +41,7 @@ returns-clause-runs g c =
 pub returns-clause-unfinished : goal.returns-clause-unfinished
 returns-clause-unfinished g c =
     let x = (goal.at.returns-clause-unfinished g c).After-serve_all-served in
-    unfinished_so g.C.CountedWrite.seen c.args.budget (g.C.CountedWrite.seen c.args.certificate) c.new-session.result c.serve_all-served.new.session (fresh g x) (g.S.CountedRead.seen c.args.script.now) (left g x) c.serve_all-served.new.stream.ahead.bounded c.end_run.result.0 (g.A.CountedWrite.seen c.args.answers.now) (g.A.CountedWrite.seen c.serve_all-served.new.answers) (g.A.CountedWrite.seen c.end_run.new.answers) c.serve_all-served.result c.end_run.result.1 (ends g x) c.end_run.ensures.ends
+    stopped_so g.C.CountedWrite.seen c.args.budget (g.C.CountedWrite.seen c.args.certificate) c.new-session.result c.serve_all-served.new.session (fresh g x) (g.S.CountedRead.seen c.args.script.now) (left g x) c.serve_all-served.new.stream.ahead.bounded c.end_run.result.0 (g.A.CountedWrite.seen c.args.answers.now) (g.A.CountedWrite.seen c.serve_all-served.new.answers) (g.A.CountedWrite.seen c.end_run.new.answers) c.serve_all-served.result c.end_run.result.1 (ends g x) c.end_run.ensures.ends
 
 pub returns-clause-steps : goal.returns-clause-steps
 returns-clause-steps g c =

@@ -1,12 +1,15 @@
 use Rattle.std.proofs.lemmas.Grind.{common_steps}
 use Rattle.std.proofs.lemmas.Result.{err_from_is_err_and}
-use Rattle.std.proofs.Common.{◌+◌, arith, [], Err, refl}
+use Rattle.std.proofs.Common.{ℕ, ◌+◌, ◌≡◌, arith, [], Err, refl, subst}
 use Rattle.certify.specs.script.Commands.{end_reading}
 use Rattle.sat_solver.specs.solver.View.{proof_in}
-use Rattle.sat_base.specs.script.Script.{Clean}
+use Rattle.sat_solver.specs.solver.Whole.{steps_in}
+use Rattle.certify.specs.run.BetweenCommands.{place_in}
+use Rattle.certify.specs.run.Stopping.{StopsServing}
+use Rattle.sat_base.specs.script.Script.{Clean, Malformed}
 use Rattle.certify.proofs.lemmas.run.RunStateCalls.{took_none}
 use Rattle.certify.proofs.lemmas.run.ServedThrough.{asked_stops, ends_asked, ends_clean, ends_malformed}
-use Rattle.certify.proofs.lemmas.run.Stopping.{front_none}
+use Rattle.certify.proofs.lemmas.run.Stopping.{stops_none}
 use Rattle.certify.proofs.lemmas.run.Caused.{asked_caused}
 use Rattle.certify.proofs.run.serve.serve_end.Goals as goal
 
@@ -27,14 +30,23 @@ pub returns-in_ok-report_malformed-in-Malformed-clause-serves : goal.returns-in_
 returns-in_ok-report_malformed-in-Malformed-clause-serves g c = grind (arith, common_steps, ends_malformed)
 
 pub returns-in_default-clause-stops : goal.returns-in_default-clause-stops
-returns-in_default-clause-stops g c = λ j at. front_none c.args.session.now.budget c.args.session.now.solver.clock.rounds (c.args.session.now.commands + 1) j (end_reading c.args.end) (g.A.CountedWrite.seen c.args.answers.now)
+returns-in_default-clause-stops g c = λ j at. stops_none c.args.session.now.budget (place_in c.args.session.now j) (steps_in c.args.session.now.solver) [] refl (end_reading c.args.end) (g.A.CountedWrite.seen c.args.answers.now)
 
 pub returns-in_err-answer_ask-in-Asked-clause-stops : goal.returns-in_err-answer_ask-in-Asked-clause-stops
 returns-in_err-answer_ask-in-Asked-clause-stops g c =
     let p = err_from_is_err_and c.from_residual.result c.from_residual.ensures.1 in
     let u = g.A.CountedWrite.seen c.args.answers.now in
     let v = g.A.CountedWrite.seen c.answer_ask.new.answers in
-    rw (p.1, c.in-Asked.is) (asked_stops g.C.CountedWrite.seen {T = Unit {0}} (Err c.in_err-answer_ask-in-Asked.field-0.0) c.args.session.now u v (c.in_err-answer_ask-in-Asked.ensures.stops ([], Clean)))
+    rw (p.1, c.in-Asked.is) (asked_stops g.C.CountedWrite.seen {T = Unit {0}} (Err c.in_err-answer_ask-in-Asked.field-0.0) c.args.session.now c.answer_ask.new.session u v (c.in_err-answer_ask-in-Asked.ensures.stops ([], Clean)))
 
 pub returns-in_err-answer_ask-in-Asked-clause-cause : goal.returns-in_err-answer_ask-in-Asked-clause-cause
 returns-in_err-answer_ask-in-Asked-clause-cause g c = grind (arith, common_steps, err_from_is_err_and, asked_caused)
+
+pub returns-in_err-report_malformed-in-Malformed-clause-stops : goal.returns-in_err-report_malformed-in-Malformed-clause-stops
+returns-in_err-report_malformed-in-Malformed-clause-stops g c =
+    let p = err_from_is_err_and c.from_residual-in_err-report_malformed-in-Malformed.result c.from_residual-in_err-report_malformed-in-Malformed.ensures.1 in
+    let s = c.args.session.now in
+    let u = g.A.CountedWrite.seen c.args.answers.now in
+    let v = g.A.CountedWrite.seen c.report_malformed.new.answers in
+    let next : c.in-Some.number ≡ s.commands + 1 = grind (arith, common_steps) in
+    rw (p.1, c.in-Malformed.is) (λ j at. subst (λ (n : ℕ). StopsServing s.budget (record (place_in s j) { number = n }) ([], Malformed) (steps_in c.report_malformed.new.session.solver) u v) next (c.in_err-report_malformed-in-Malformed.ensures.stops j))

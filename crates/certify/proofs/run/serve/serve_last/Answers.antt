@@ -16,7 +16,7 @@ returns-clause-serves g c x is j at =
 pub returns-clause-stops : goal.returns-clause-stops
 returns-clause-stops g c x is =
     let A = g.A.CountedWrite.seen in
-    stops_following g.C.CountedWrite.seen c.serve_end.result x (end_reading c.args.end) c.args.session.now c.serve_next.new.session (A c.args.answers.now) (A c.serve_next.new.answers) (A c.serve_end.new.answers) (c.in_ok-serve_next.ensures.served x is) c.serve_end.ensures.stops
+    stops_following g.C.CountedWrite.seen c.serve_end.result x (end_reading c.args.end) c.args.session.now c.serve_next.new.session c.serve_end.new.session (A c.args.answers.now) (A c.serve_next.new.answers) (A c.serve_end.new.answers) (c.in_ok-serve_next.ensures.served x is) c.serve_end.ensures.stops
 
 pub returns-clause-written : goal.returns-clause-written
 returns-clause-written g c = grind (arith, common_steps, both_then)

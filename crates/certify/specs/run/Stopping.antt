@@ -1,0 +1,15 @@
+-- What a run that failed has written of the answers, and how far it had served the commands. Lists of steps have the newest first.
+use Rattle.std.specs.Prelude.{ℕ, List}
+use Rattle.sat_base.specs.device.Device.{Writer}
+use Rattle.sat_base.specs.script.Language.{Reading}
+use Rattle.sat_base.specs.steps.Steps.{Step}
+use Rattle.certify.specs.run.FinishedRun.{rounds_of_asks}
+use Rattle.certify.specs.run.Serving.{RunPlace}
+use Rattle.certify.specs.run.Stretches.{ServesFirst}
+use Rattle.certify.specs.run.Unfinished.{TookAnswersPrefix}
+
+-- That a run went on from place `a` and failed after the steps `to`. It wrote a prefix of correct answers to this script, and the answered asks were
+-- served in these steps.
+pub record StopsServing (budget : ℕ) (a : RunPlace) (script : Reading) (to : List Step) (old new : Writer) : Type 0 where
+  pub took : TookAnswersPrefix budget a.rounds a.number a.judge script old new
+  pub serves : ServesFirst a.judge script.0 a.steps to took.front.answered (rounds_of_asks took.front.reports)
