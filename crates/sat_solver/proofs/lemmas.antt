@@ -10,3 +10,4 @@ pub mod cdcl
 pub mod clause
 pub mod assumptions
 pub mod unit_simplify
+pub mod facade

@@ -2,6 +2,7 @@ pub mod session
 pub mod Configs
 pub mod Recovery
 pub mod solver
+pub mod facade
 pub mod analyze_conflict
 pub mod assumptions
 pub mod schedule

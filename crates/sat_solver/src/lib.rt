@@ -9,6 +9,7 @@ pub mod config;
 pub mod context;
 pub mod decision;
 pub mod error;
+pub mod facade;
 pub mod load;
 pub mod minimize;
 pub mod model;

@@ -1,0 +1,5 @@
+pub mod LawLemmas
+pub mod Seen
+pub mod SeenChecker
+pub mod SeenFormula
+pub mod SeenProof

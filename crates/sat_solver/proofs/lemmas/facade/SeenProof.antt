@@ -1,0 +1,227 @@
+-- What a call does to the proof and to the parameters, as callers see it.
+use Rattle.std.proofs.Common.{ℕ, ◌≡◌, ◌∙◌, ◌⊎◌, inl, inr, refl, sym, ap, subst, append-nil, Bool, true, false, Option, Some, None, Result, Ok, Err, List, [], ◌∷◌, ◌++◌}
+use Rattle.std.proofs.Math.Logic.{∥∥₁_elim, ∥∥₁_prop}
+use Rattle.std.specs.Prelude.{IfOk, IfSome}
+use Rattle.sat_base.specs.device.Device.{Writer}
+use Rattle.sat_base.specs.steps.Steps.{Step, End}
+use Rattle.sat_checker.specs.declared.processing.ProofProcessor.{Ghosts}
+use Rattle.sat_solver.specs.proof.Prefixes.{PrefixSince, TargetTakesPrefix}
+use Rattle.sat_solver.specs.proof.ProofTexts as texts
+use Rattle.sat_solver.specs.proof.ProofView as proofs
+use Rattle.sat_solver.specs.proof.ProofView.{Target, TargetTakes, FailsCheck, GivesWriter, returned_writer, target_of, steps_of, proof_listeners, has_missed_step, has_asked}
+use Rattle.sat_solver.specs.session.Session.{AreAllowedSteps}
+use Rattle.std.specs.Global.{Vec}
+use Rattle.sat_parts.specs.clause.Activity.{Scale}
+use Rattle.sat_parts.specs.declared.parts.SearchState.{SearchState}
+use Rattle.sat_solver.specs.Configs.{updated}
+use Rattle.sat_solver.specs.declared.config.SolverConfigUpdate.{SolverConfigUpdate}
+use Rattle.sat_solver.specs.declared.context.Context.{Context}
+use Rattle.sat_solver.specs.declared.error.SolverError.{SolverError}
+use Rattle.sat_solver.specs.declared.error.SolverError.TheVariants as errors
+use Rattle.sat_solver.specs.declared.proof.format.ProofFormat.{ProofFormat}
+use Rattle.sat_solver.specs.declared.proof.emitted.CheckFault.{CheckFault}
+use Rattle.sat_solver.specs.declared.progress.Progress.{Progress}
+use Rattle.sat_solver.specs.declared.solver.Solver.{Solver as Engine}
+use Rattle.sat_solver.specs.declared.state.SatState.{SatState}
+use Rattle.sat_solver.specs.declared.state.SatState.TheVariants as states
+use Rattle.sat_solver.specs.solver.Configuring as configuring
+use Rattle.sat_solver.specs.solver.Progressing as progressing
+use Rattle.sat_solver.specs.solver.Proving as proving
+use Rattle.sat_solver.specs.solver.Whole.{IsSolver}
+use Rattle.sat_solver.specs.facade.Answers.{IsOngoing}
+use Rattle.sat_solver.specs.solver.View as inner
+use Rattle.sat_solver.specs.facade.View.{Checking, SolverView, IsEmpty}
+use Rattle.sat_solver.specs.facade.Inner.{view_of, progress_of}
+use Rattle.sat_solver.specs.facade.Calls.{BreaksOff, TargetAfter}
+use Rattle.sat_solver.specs.facade.Configuring.{Configures, Configured, decay_after}
+use Rattle.sat_solver.specs.facade.Proving.{AddsProcessor, listed, CloseFails, ClosesProof, ClosesText, Enables, IsCertificate, IsDratRefutation, OpensProof, ReturnsAcceptedPrefix, writer_given}
+use Rattle.sat_solver.proofs.lemmas.session.PrefixLemmas.{fronts_are_accepted}
+use Rattle.sat_solver.proofs.lemmas.session.ProofLemmas.{carries_none}
+use Rattle.sat_solver.proofs.lemmas.facade.Seen.{v, refused, differs}
+use Rattle.sat_solver.proofs.lemmas.facade.SeenChecker.{begun_seen}
+
+-- a view in which only what the proof shows is replaced
+proved_alike : {L : Type 0} (w : SolverView L) {c : Checking} {s s' : List Step} {t t' : Target} {q q' : Bool} {l l' : Option (List L)} {x x' : Bool} → s ≡ s' → t ≡ t' → q ≡ q' → l ≡ l' → x ≡ x'
+    → record w { steps = s; target = t; asked = q; listeners = l; lost = x; checking = c } ≡ record w { steps = s'; target = t'; asked = q'; listeners = l'; lost = x'; checking = c }
+proved_alike w steps_are target_is asked_is listeners_are lost_is = rw (steps_are, target_is, asked_is, listeners_are, lost_is) refl
+
+numbers : {a b c d e f g h a' b' c' d' e' f' g' h' : ℕ} → a ≡ a' → b ≡ b' → c ≡ c' → d ≡ d' → e ≡ e' → f ≡ f' → g ≡ g' → h ≡ h'
+    → let r : Progress = record { conflicts = a; restarts = b; vars = c; binary = d; irred = e; core = f; mid = g; local = h } in
+    let r' : Progress = record { conflicts = a'; restarts = b'; vars = c'; binary = d'; irred = e'; core = f'; mid = g'; local = h' } in r ≡ r'
+numbers p1 p2 p3 p4 p5 p6 p7 p8 = rw (p1, p2, p3, p4, p5, p6, p7, p8) refl
+
+module _ {W L : Type 0} {G : Ghosts L} (seen : W → Writer) where
+  pub emptied : (s : Engine W L G) → inner.IsEmpty seen s → IsEmpty (v seen s)
+  emptied s h = record {
+    failed = ap (λ (x : inner.View L). x.failed) h.view;
+    used = ap (λ (x : inner.View L). x.used) h.view;
+    answer = ap (λ (x : inner.View L). x.answer) h.view;
+    assumptions = ap (λ (x : inner.View L). x.assumptions) h.view;
+    rounds = ap (λ (x : inner.View L). x.rounds) h.view;
+    restarts = ap (λ (x : inner.View L). x.restarts) h.view;
+    parameters = ap (λ (x : inner.View L). x.parameters) h.view;
+    steps = ap (λ (x : inner.View L). x.steps) h.view;
+    target = ap (λ (x : inner.View L). x.target) h.view;
+    listeners = ap (λ (x : inner.View L). x.listeners) h.view;
+    asked = ap (λ (x : inner.View L). x.asked) h.view;
+    state = h.state;
+  }
+
+  -- OPENING
+
+  pub opened : (r : Result (Unit {0}) SolverError) (format : ProofFormat) (target : W) (a b : Engine W L G) → proving.OpensProof seen r format target a b → OpensProof r format (seen target) (v seen a) (v seen b)
+  opened (Ok x) format target a b h = record {
+    going = h.going;
+    first = h.first;
+    shut = h.shut;
+    same = differs seen a b h.same ∙ proved_alike (v seen a) h.steps h.target_is h.asked h.checker.listening h.checker.taking;
+  }
+  opened (Err errors.HasFailed) format target a b h = refused seen a b _ h
+  opened (Err errors.TooLate) format target a b h = refused seen a b _ h
+  opened (Err e) format target a b h = absurd h
+
+  -- the listeners of a checker that is begun by a solver that has not failed
+  begun_with : (a : Engine W L G) (begun more : List L) → IsSolver a → a.failed ≡ false → proofs.ListenersAtRestart a.core.proof begun → Some (begun ++ more) ≡ Some (listed (proof_listeners a.core.proof) ++ more)
+  begun_with a begun more solver going h = ap (λ (begun : List L). Some (begun ++ more)) (begun_seen (has_missed_step a.core.proof) a.core.proof.made (proof_listeners a.core.proof) begun (solver going).taking h)
+
+  pub enabled : (r : Result (Unit {0}) SolverError) (a b : Engine W L G) → IsSolver a → proving.Enables seen r a b → Enables r (v seen a) (v seen b)
+  enabled (Ok x) a b solver h = record {
+    going = h.going;
+    first = h.first;
+    begun = h.begun;
+    same = differs seen a b h.same ∙ proved_alike (v seen a) h.checks.steps h.target h.asked (h.checks.listening ∙ ap Some (sym (append-nil h.checks.begun)) ∙ begun_with a h.checks.begun [] solver h.going h.checks.listed) (h.checks.taking ∙ sym (solver h.going).taking);
+  }
+  enabled (Err errors.HasFailed) a b solver h = refused seen a b _ h
+  enabled (Err errors.TooLate) a b solver h = refused seen a b _ h
+  enabled (Err e) a b solver h = absurd h
+
+  pub listened : (r : Result (Unit {0}) SolverError) (processor : L) (a b : Engine W L G) → IsSolver a → proving.AddsProcessor seen r processor a b → AddsProcessor r processor (v seen a) (v seen b)
+  listened (Ok x) processor a b solver h = record {
+    going = h.going;
+    first = h.first;
+    begun = h.begun;
+    same = differs seen a b h.same ∙ proved_alike (v seen a) h.steps h.target h.asked (h.listens.0.listening ∙ begun_with a h.listens.0.before (processor ∷ []) solver h.going h.listens.0.listed) (h.listens.1 ∙ sym (solver h.going).taking);
+  }
+  listened (Err errors.HasFailed) processor a b solver h = refused seen a b _ h
+  listened (Err errors.TooLate) processor a b solver h = refused seen a b _ h
+  listened (Err errors.OutOfMemory) processor a b solver h = record {
+    going = h.going;
+    first = h.first;
+    begun = h.begun;
+    failed = h.failed;
+    steps = h.steps;
+    target = h.target;
+    listeners = h.listens.listening ∙ begun_with a h.listens.before [] solver h.going h.listens.listed ∙ ap Some (append-nil (listed (proof_listeners a.core.proof)));
+    clock = h.clock;
+  }
+  listened (Err e) processor a b solver h = absurd h
+
+  -- CLOSING
+
+  pub closed : (r : Result (Option W) SolverError) (a b : Engine W L G) → proving.ClosesProof seen r a b → ClosesProof (writer_given seen r) (v seen a) (v seen b)
+  closed (Ok None) a b h = record {
+    going = h.going;
+    shut = h.closes.shut;
+    same = differs seen a b h.same ∙ proved_alike (v seen a) h.closes.history h.closes.target h.closes.asked h.closes.listening h.closes.taking;
+  }
+  closed (Ok (Some given)) a b h = record {
+    going = h.going;
+    names = h.does.kept;
+    target = h.closes.target;
+    same = differs seen a b h.same ∙ proved_alike (v seen a) h.closes.history refl h.closes.asked h.closes.listening h.closes.taking;
+  }
+  closed (Err errors.HasFailed) a b h = refused seen a b _ h
+  closed (Err (errors.ProofIoError cause)) a b h = record { going = h.going; failed = h.failed; clock = h.clock }
+  closed (Err errors.OutOfMemory) a b h = record { going = h.going; failed = h.failed; clock = h.clock }
+  closed (Err errors.CounterEnd) a b h = record { going = h.going; failed = h.failed; clock = h.clock }
+  closed (Err (errors.ProofProcessorError cause)) a b h = record { going = h.going; failed = h.failed; clock = h.clock }
+  closed (Err e) a b h = absurd h
+
+  pub closed_text : (r : Result (Option W) SolverError) (a b : Engine W L G) → proving.ClosesProof seen r a b → ClosesText (writer_given seen r) (v seen a) (v seen b)
+  closed_text (Ok None) a b h = tt
+  closed_text (Ok (Some given)) a b h = h.closes.takes
+  closed_text (Err errors.HasFailed) a b h = record {
+    breaks = record { steps = []; history = ap (λ (s : Engine W L G). steps_of s.core.proof) h.same; listening = ap (λ (s : Engine W L G). proof_listeners s.core.proof) h.same; target = subst (λ (s : Engine W L G). TargetTakes (target_of seen a.core.proof) [] (target_of seen s.core.proof)) (sym h.same) (carries_none (target_of seen a.core.proof)) };
+    last = refl;
+  }
+  closed_text (Err (errors.ProofIoError cause)) a b h = record {
+    breaks = record { steps = End ∷ []; history = h.fails.history; listening = h.fails.listening; target = h.fails.target };
+    last = refl;
+  }
+  closed_text (Err errors.OutOfMemory) a b h = elim h.adds [
+    | inl k ↦ record {
+      breaks = record { steps = []; history = k.history; listening = k.listening; target = k.target };
+      last = inl refl;
+    }
+    | inr k ↦ record {
+      breaks = record { steps = End ∷ []; history = k.adds.history; listening = k.adds.listening; target = k.adds.target };
+      last = inr refl;
+    }
+  ]
+  closed_text (Err errors.CounterEnd) a b h = record {
+    breaks = record { steps = End ∷ []; history = h.fails.adds.history; listening = h.fails.adds.listening; target = h.fails.adds.target };
+    last = refl;
+  }
+  closed_text (Err (errors.ProofProcessorError cause)) a b h = record {
+    breaks = record { steps = End ∷ []; history = h.fails.adds.history; listening = h.fails.adds.listening; target = h.fails.adds.target };
+    last = refl;
+  }
+  closed_text (Err e) a b h = absurd h
+
+  pub certificate : (given : W) (a b : Engine W L G) → proving.ClosesProof seen (Ok (Some given)) a b → IsCertificate (seen given) (v seen a) (v seen b)
+  certificate given a b h f from before begun wrote = h.certificate f from before begun (record { steps = wrote.steps; following = wrote.following; target = wrote.target })
+
+  pub refutes : (given : W) (a b : Engine W L G) → proving.ClosesProof seen (Ok (Some given)) a b → IsDratRefutation (v seen a) (v seen b)
+  refutes given a b h = record { derives = h.derives; refutes = h.refutes }
+
+  pub certified : (r : Result (Option W) SolverError) (a b : Engine W L G) → proving.ClosesProof seen r a b → IfOk r (λ o. IfSome o (λ given. IsCertificate (seen given) (v seen a) (v seen b)))
+  certified (Ok None) a b h = tt
+  certified (Ok (Some given)) a b h = certificate given a b h
+  certified (Err e) a b h = tt
+
+  pub drat_refuted : (r : Result (Option W) SolverError) (a b : Engine W L G) → proving.ClosesProof seen r a b → IfOk r (λ o. IfSome o (λ _. IsDratRefutation (v seen a) (v seen b)))
+  drat_refuted (Ok None) a b h = tt
+  drat_refuted (Ok (Some given)) a b h = refutes given a b h
+  drat_refuted (Err e) a b h = tt
+
+  pub returns_front : (s : Engine W L G) (returned : Option W) → GivesWriter (target_of seen s.core.proof) (returned_writer seen returned) → ReturnsAcceptedPrefix (returned_writer seen returned) (v seen s)
+  returns_front s returned g opened f from given is open_then begun went =
+      let follows = subst (λ (t : Target). TargetTakesPrefix t went.steps (target_of seen s.core.proof)) open_then went.target in
+      let gives = subst (λ (o : Option Writer). GivesWriter (target_of seen s.core.proof) o) is g in
+      ∥∥₁_elim s.core.proof.made.may ∥∥₁_prop (λ may.
+      let front = fronts_are_accepted f from given opened.steps went.steps (target_of seen s.core.proof) begun (subst AreAllowedSteps went.history may) follows gives in
+      ∣ subst (PrefixSince f from given opened.steps) (sym went.history) front ∣₁)
+
+  -- PARAMETERS
+
+  alike : (parts : SearchState) (decay : ℕ) (u : SolverConfigUpdate) (a b : Engine W L G) → configuring.Configured u a b → b.core.search.parts ≡ record a.core.search.parts { vsids = parts.vsids } → b.core.search.activity.decay ≡ decay
+      → v seen b ≡ record (v seen a) { parameters = updated u a.core.config; clock = configuring.at_scale u.luby_restart_interval_scale a.clock; decay = parts.vsids.decay; clause_decay = decay }
+  alike parts decay u a b h parts_are decay_is =
+      let assumed = ap (λ (t : Vec ℕ). t.items) h.same.assumed in
+      rw (h.failed ∙ sym h.going, h.same.used, h.same.state, h.same.names, parts_are, decay_is, assumed, h.same.reported, h.clock, h.config, h.same.proof) refl
+
+  passed : (u : SolverConfigUpdate) (a b : Engine W L G) → configuring.Configured u a b → configuring.SetsDecays (record a.core { config = updated u a.core.config }) b.core
+      → v seen b ≡ record (v seen a) { parameters = updated u a.core.config; clock = configuring.at_scale u.luby_restart_interval_scale a.clock; decay = (updated u a.core.config).vsids_decay; clause_decay = (updated u a.core.config).clause_activity_decay }
+  passed u a b h k =
+      alike b.core.search.parts (updated u a.core.config).clause_activity_decay u a b h (k.parts ∙ ap (λ (q : SearchState). record a.core.search.parts { vsids = q.vsids }) (sym k.parts)) (ap (λ (q : Scale). q.decay) k.activity)
+      ∙ ap (λ (q : SearchState). record (v seen a) { parameters = updated u a.core.config; clock = configuring.at_scale u.luby_restart_interval_scale a.clock; decay = q.vsids.decay; clause_decay = (updated u a.core.config).clause_activity_decay }) k.parts
+
+  changed : (st : SatState) (u : SolverConfigUpdate) (a b : Engine W L G) → configuring.Configured u a b → configuring.PassesToSearch st (record a.core { config = updated u a.core.config }) b.core
+      → v seen b ≡ record (v seen a) { parameters = updated u a.core.config; clock = configuring.at_scale u.luby_restart_interval_scale a.clock; decay = decay_after st a.core.search.parts.vsids.decay (updated u a.core.config).vsids_decay; clause_decay = decay_after st a.core.search.activity.decay (updated u a.core.config).clause_activity_decay }
+  changed states.Unsat u a b h k = alike a.core.search.parts a.core.search.activity.decay u a b h (ap (λ (c : Context W L G). c.search.parts) k) (ap (λ (c : Context W L G). c.search.activity.decay) k)
+  changed states.Unknown u a b h k = passed u a b h k
+  changed states.Sat u a b h k = passed u a b h k
+  changed states.UnsatUnderAssumptions u a b h k = passed u a b h k
+
+  pub configured : (r : Result (Unit {0}) SolverError) (u : SolverConfigUpdate) (a b : Engine W L G) → configuring.Configures r u a b → Configures r u (v seen a) (v seen b)
+  configured (Ok x) u a b h = record { going = h.going; range = h.range; same = changed a.state u a b h h.decays }
+  configured (Err errors.HasFailed) u a b h = refused seen a b _ h
+  configured (Err errors.OutOfRange) u a b h = refused seen a b _ h
+  configured (Err e) u a b h = absurd h
+
+  -- NUMBERS
+
+  pub progressed : (s : Engine W L G) → IsSolver s → (r : Progress) → r.conflicts ≡ s.clock.rounds → r.restarts ≡ s.clock.restarts.count → (IsSolver s → s.failed ≡ false → r.vars ≡ progressing.solver_unassigned_count s) → (progressing.IsOngoing s → progressing.CountsClausesIn r s) → IsOngoing (v seen s) → r ≡ progress_of s
+  progressed s solver r conflicts restarts vars clauses on =
+      let c = clauses (record { solver = solver; going = on.going; left = on.left }) in
+      numbers conflicts restarts (vars solver on.going) c.binary c.irred c.core c.mid c.local

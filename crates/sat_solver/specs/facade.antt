@@ -1,0 +1,12 @@
+pub mod View
+pub mod Inner
+pub mod Calls
+pub mod Checking
+pub mod Adding
+pub mod Naming
+pub mod Answers
+pub mod Configuring
+pub mod Proving
+pub mod Extending
+pub mod Formulas
+pub mod Laws

@@ -1,0 +1,78 @@
+-- What calls of a solver change.
+use Rattle.std.specs.Prelude.{ℕ, ◌≡◌, ◌-◌, ◌<◌, ◌^◌, true, false, List, ◌++◌, Result, Ok, Err}
+use Rattle.sat_base.specs.script.ScriptState.{ScriptState}
+use Rattle.sat_base.specs.steps.Steps.{Step}
+use Rattle.sat_checker.specs.matching.Expected.{Expected}
+use Rattle.sat_checker.specs.matching.Bridge.{LiveVariables}
+use Rattle.sat_solver.specs.cdcl.StepEffects.{IsFaultOr}
+use Rattle.sat_solver.specs.declared.error.SolverError.{SolverError}
+use Rattle.sat_solver.specs.declared.error.SolverError.TheVariants as errors
+use Rattle.sat_solver.specs.proof.Prefixes.{TargetTakesPrefix}
+use Rattle.sat_solver.specs.proof.ProofView.{Target, TargetTakes, TargetFails}
+use Rattle.sat_solver.specs.variables.Calls.{ReachesScriptState}
+use Rattle.sat_solver.specs.facade.View.{SolverView, IsInState}
+
+-- `Refuses old new why` holds if the call was refused for this reason, and changed nothing
+pub record Refuses {L : Type 0} (old new : SolverView L) (why : Type 0) : Type 0 where
+  pub same : new ≡ old
+  pub cause : why
+
+-- `Effect old new judge due` holds if a call changes the script state so, and makes these ordered steps; other steps
+-- may be in between
+pub record Effect {L : Type 0} (old new : SolverView L) (judge : ScriptState → ScriptState) (due : ScriptState → List Expected) : Type 0 where
+  pub going : old.failed ≡ false
+  pub failed : new.failed ≡ false
+  pub used : new.used ≡ true
+  pub parameters : new.parameters ≡ old.parameters
+  pub names : (j : ScriptState) (live : LiveVariables) → IsInState old j live → ReachesScriptState new.names old.steps new.steps (judge j) (due j)
+
+-- `Fails full e old new` holds if a call failed for a reason that the input does not determine, and so does every later
+-- call; `StoreFull` is returned only if `full` holds
+pub record Fails {L : Type 0} (full : Type 0) (e : SolverError) (old new : SolverView L) : Type 0 where
+  pub going : old.failed ≡ false
+  pub failed : new.failed ≡ true
+  pub fault : IsFaultOr full e
+
+-- `FailsAtNames full e old new` holds if a call over names failed so; the schedule is unchanged
+pub record FailsAtNames {L : Type 0} (full : Type 0) (e : SolverError) (old new : SolverView L) : Type 0 where
+  pub fails : Fails full e old new
+  pub clock : new.clock ≡ old.clock
+
+-- `HasFullStore v` holds if the clause buffer has more than 2^32-1 words, so that it can store no further clause
+abbrev pub HasFullStore : {L : Type 0} → SolverView L → Type 0
+HasFullStore v = 2 ^ 32 - 1 < v.words
+
+-- THE TEXT OF THE STEPS
+
+-- `MakesSteps old new` holds if steps were made, and an open target received their text
+pub record MakesSteps {L : Type 0} (old new : SolverView L) : Type 0 where
+  pub steps : List Step
+  pub history : new.steps ≡ steps ++ old.steps
+  pub listening : new.listeners ≡ old.listeners
+  pub target : TargetTakes old.target steps new.target
+
+-- `TargetAfter e old steps new` holds if the target became `new` by these steps of a call that failed with this error
+abbrev pub TargetAfter : SolverError → Target → List Step → Target → Type 0
+TargetAfter (errors.ProofIoError cause) old steps new = TargetFails old steps new
+TargetAfter e old steps new = TargetTakes old steps new
+
+-- `BreaksOff e old new` holds if a call that failed with this error made steps; a call of the target may have failed
+-- while their text was written
+pub record BreaksOff {L : Type 0} (e : SolverError) (old new : SolverView L) : Type 0 where
+  pub steps : List Step
+  pub history : new.steps ≡ steps ++ old.steps
+  pub listening : new.listeners ≡ old.listeners
+  pub target : TargetAfter e old.target steps new.target
+
+-- `Writes r old new` holds if an open target received the text of all steps that the call has made, or a prefix of it
+-- if a call of the target failed
+abbrev pub Writes : {L T : Type 0} → Result T SolverError → SolverView L → SolverView L → Type 0
+Writes (Ok x) old new = MakesSteps old new
+Writes (Err e) old new = BreaksOff e old new
+
+-- `ReachesBySteps old new` holds if steps were made, and the target received their text, or a call of it failed while
+-- the text of the oldest ones was written
+pub record ReachesBySteps {L : Type 0} (old new : SolverView L) : Type 0 where
+  pub steps : List Step
+  pub history : new.steps ≡ steps ++ old.steps
+  pub target : TargetTakesPrefix old.target steps new.target

@@ -1,0 +1,70 @@
+-- What callers see of a solver: one record. Public contracts are stated in terms of it and of the script state.
+use Rattle.std.specs.Prelude.{◌≡◌, ℕ, Bool, true, false, Option, None, List, []}
+use Rattle.sat_base.specs.script.ScriptState.{ScriptState, initial_state}
+use Rattle.sat_base.specs.steps.Steps.{Step}
+use Rattle.sat_checker.specs.matching.Bridge.{LiveVariables}
+use Rattle.sat_solver.specs.proof.Counting.{nothing_counted}
+use Rattle.sat_solver.specs.proof.ProofView.{Target, Closed}
+use Rattle.sat_solver.specs.variables.Calls.{HasScriptState, NamesAgree}
+use Rattle.sat_solver.specs.Configs.{defaults}
+use Rattle.sat_solver.specs.declared.config.SolverConfig.{SolverConfig}
+use Rattle.sat_solver.specs.declared.progress.Progress.{Progress}
+use Rattle.sat_solver.specs.declared.solver.find.Schedule.{Schedule}
+use Rattle.sat_solver.specs.declared.variables.Variables.{Variables}
+use Rattle.sat_solver.specs.declared.state.SatState.{SatState}
+use Rattle.sat_solver.specs.declared.state.SatState.TheVariants as states
+
+-- the solver's own checker, besides its listeners
+pub record OwnChecker : Type 0 where
+  pub width : ℕ  -- the number of bits of hashes that it was last set to
+  pub has_conflict : Bool  -- whether it has a unit conflict that it has not announced yet
+
+-- the width of hashes, and the solver's own checker
+pub record Checking : Type 0 where
+  pub width : ℕ  -- the number of bits of hashes in the text of the steps
+  pub own : Option OwnChecker  -- `None` without a checker
+
+-- the observable state of a solver
+pub record SolverView (L : Type 0) : Type 0 where
+  pub failed : Bool  -- whether a call failed; then every later call fails
+  pub used : Bool  -- whether a clause, a name, assumptions or an ask came before; then no proof can be opened
+  pub answer : SatState  -- what is known about the answer
+  pub names : Variables  -- the names, and the variables that they refer to
+  pub values : List (Option Bool)  -- the values of the variables in the search
+  pub assumptions : List ℕ  -- as codes of literals over names
+  pub core : List ℕ  -- the last failed core, over names
+  pub clock : Schedule  -- the rounds of all asks, and when restarts are due
+  pub parameters : SolverConfig
+  pub decay : ℕ  -- the decay of variables that the search uses
+  pub clause_decay : ℕ  -- the decay of clauses that the search uses
+  pub progress : Progress  -- the numbers of variables and clauses in the search
+  pub words : ℕ  -- the number of words in the clause buffer
+  pub steps : List Step  -- all steps, the newest first
+  pub target : Target  -- where the text of the steps is written
+  pub asked : Bool  -- whether an ask has begun since a proof was opened
+  pub listeners : Option (List L)  -- those added to its own checker, or `None` without a checker
+  pub lost : Bool  -- whether its own checker has missed a step
+  pub checking : Checking  -- the width of hashes, and its own checker
+
+-- `IsInState v j live` holds if names and steps agree with the script state `j` and these variables
+abbrev pub IsInState : {L : Type 0} → SolverView L → ScriptState → LiveVariables → Type 0
+IsInState v j live = NamesAgree v.names v.steps j live
+
+-- `MatchesSomeState v` holds if names and steps agree with some script state
+abbrev pub MatchesSomeState : {L : Type 0} → SolverView L → Type 0
+MatchesSomeState v = HasScriptState v.names v.steps
+
+-- `IsEmpty v` holds if the solver is in its initial state
+pub record IsEmpty {L : Type 0} (v : SolverView L) : Type 0 where
+  pub failed : v.failed ≡ false
+  pub used : v.used ≡ false
+  pub answer : v.answer ≡ states.Unknown
+  pub assumptions : v.assumptions ≡ []
+  pub rounds : v.clock.rounds ≡ 0
+  pub restarts : v.clock.restarts.count ≡ 0
+  pub parameters : v.parameters ≡ defaults
+  pub steps : v.steps ≡ []
+  pub target : v.target ≡ Closed nothing_counted
+  pub listeners : v.listeners ≡ None
+  pub asked : v.asked ≡ false
+  pub state : IsInState v initial_state []

@@ -1,0 +1,375 @@
+//! An incremental solver that writes a proof. Contracts describe it by one record, `SolverView`.
+ghost use Rattle.std.specs.Prelude.{◌≡◌, ◌≤◌, ◌+◌, true, false, Ok, Err, OnOk, IfOk, IfErr, IsErrOf, MatchOption, IfSome};
+ghost use Rattle.sat_base.specs.device.Device.{most_reads};
+ghost use Rattle.sat_base.specs.dimacs.Parsing.{StopsReading};
+ghost use Rattle.sat_solver.specs.proof.EmittedView.{ReturnsIfChecked, ReturnsNotifiedIfChecked};
+ghost use Rattle.sat_solver.specs.proof.ProofView.{GivesWriter, returned_writer};
+ghost use Rattle.sat_solver.specs.variables.NamingSteps.{IsDue, LeavesNoneIdle, IsHidingStep, IsModeStep};
+ghost use Rattle.sat_solver.specs.facade.View.{IsEmpty};
+ghost use Rattle.sat_solver.specs.solver.Calls.{MakesRounds};
+ghost use Rattle.sat_solver.specs.facade.Calls.{ReachesBySteps, Writes};
+ghost use Rattle.sat_solver.specs.facade.Checking.{CheckerAfter, CheckerAfterAsk, CheckerAfterClosing};
+ghost use Rattle.sat_solver.specs.facade.Adding.{AddsClause, AssumesOrRefuses, IsDrat, IsPastDrat, StepsOfAssumptions};
+ghost use Rattle.sat_solver.specs.facade.Adding.{StepsOfClause};
+ghost use Rattle.sat_solver.specs.facade.Answers.{HasNoCore, HasNone, IsCore, IsModel, IsOngoing, ModelFails, Solves};
+ghost use Rattle.sat_solver.specs.facade.Answers.{StepsOfAsk};
+ghost use Rattle.sat_solver.specs.facade.Configuring.{Configures};
+ghost use Rattle.sat_solver.specs.facade.Extending.{CallsAddClause, CallsNewVar};
+ghost use Rattle.sat_solver.specs.facade.Formulas.{AddsFormula, AddsText};
+ghost use Rattle.sat_solver.specs.facade.Inner.{Between};
+ghost use Rattle.sat_solver.specs.facade.Naming.{Hides, NamesFail, NamesNew, Observed, OnlyMakes, Samples, Witnesses};
+ghost use Rattle.sat_solver.specs.facade.Proving.{AddsProcessor, ClosesProof, ClosesText, Enables, IsCertificate};
+ghost use Rattle.sat_solver.specs.facade.Proving.{IsDratRefutation, OpensProof, ReturnsAcceptedPrefix, writer_given};
+
+pub mod laws;
+
+use crate::proof::format::ProofFormat;
+use crate::solver::Solver as Engine;
+use crate::solver::proof::ReturnedParts;
+use crate::state::SatState;
+use crate::{Progress, SolverConfigUpdate, SolverError};
+use sat_base::{CnfFormula, CountedRead, CountedWrite, ExtendFormula, Lit, Var};
+use sat_checker::{Nobody, ProofProcessor};
+use std::alloc::Global;
+use std::marker::Model;
+
+/// A solver for clauses over names. It answers any number of asks, under assumptions, and writes a proof.
+#[derive(Drop)]
+pub struct Solver<W: CountedWrite + Drop, P: ProofProcessor = Nobody> {
+    inner: Engine<W, P>,
+}
+
+impl<W: CountedWrite + Drop, P: ProofProcessor> Model for Solver<W, P> {
+    ghost use Rattle.sat_solver.specs.facade.View.{SolverView};
+    ghost use Rattle.sat_solver.specs.facade.Inner.{view_of};
+    ghost use Rattle.sat_solver.specs.solver.Whole.{IsSolver};
+
+    ghost Value = { SolverView P };
+
+    ghost view = { λ s. view_of W.seen s.inner };
+
+    ghost invariant = { λ s. IsSolver s.inner };
+}
+
+impl<W: CountedWrite + Drop> Solver<W, Nobody> {
+    /// Creates a solver without clauses, names or listeners. Never allocates.
+    pub fn new(alloc: Global) -> Solver<W, Nobody>
+        ensures { IsEmpty result }
+    {
+        Solver::notifying(alloc)
+    }
+}
+
+impl<W: CountedWrite + Drop, P: ProofProcessor> Solver<W, P> {
+    /// Creates a solver without clauses or names, whose listeners are of type `P`. It has no listeners yet.
+    /// Never allocates.
+    pub fn notifying(alloc: Global) -> Solver<W, P>
+        ensures { IsEmpty result }
+    {
+        Solver {
+            inner: Engine::notifying(alloc),
+        }
+    }
+
+    /// Returns the number of rounds (not proof steps) so far, over all calls to `solve`, even after a failed call. A
+    /// round ends in a conflict or an answer. The number saturates at 2^64-1.
+    pub fn steps(&self) -> u64
+        ensures { result ≡ self.now.clock.rounds }
+    {
+        self.inner.steps()
+    }
+
+    /// Returns the current numbers of rounds, restarts, variables without a value, and clauses of each kind.
+    /// Never allocates.
+    ///
+    /// After a failed call, only the numbers of rounds and restarts are exact. Once the clauses are known to be
+    /// unsatisfiable, the numbers of clauses are not exact either.
+    pub fn progress(&self) -> Progress
+        ensures conflicts { result.conflicts ≡ self.now.clock.rounds }
+        ensures restarts { result.restarts ≡ self.now.clock.restarts.count }
+        ensures vars { self.now.failed ≡ false → result.vars ≡ self.now.progress.vars }
+        ensures clauses { IsOngoing self.now → result ≡ self.now.progress }
+    {
+        self.inner.progress()
+    }
+
+    /// Adds a clause, and introduces its names from left to right.
+    ///
+    /// A hidden name gets a new variable. A name that was never used is introduced together with all lower names that
+    /// were never used. Clauses can also be added after asks, which discards the answer. Once the clauses alone are
+    /// known to be unsatisfiable, only the names of the clause are introduced. Errors: `NotInDrat` after the first
+    /// `solve` if DRAT lines are written; `WitnessVariable` if a name in `lits` has the mode witness; `VariableLimit`
+    /// if there is no variable for a name that would be introduced.
+    pub fn add_clause(&mut self, lits: &[Lit]) -> Result<(), SolverError>
+        ensures adds { AddsClause result self.old self.new lits.now }
+        ensures drat { self.old.failed ≡ false → IsPastDrat self.old → IsErrOf result SolverError.NotInDrat }
+        ensures steps { OnOk result (StepsOfClause self.old self.new lits.now) }
+        ensures text { Writes result self.old self.new }
+        ensures checker { CheckerAfter P.takes result self.old self.new }
+    {
+        self.inner.add_clause(lits)
+    }
+
+    /// Adds the clauses of a formula in order, as if by calling `add_clause` for each, and stops at the first that is
+    /// refused. The clauses before it remain. The formula's variable count introduces no name.
+    pub fn add_formula(&mut self, formula: &CnfFormula) -> Result<(), SolverError>
+        ensures adds { AddsFormula P.takes result self.old self.new formula.now.clauses }
+        ensures text { ReachesBySteps self.old self.new }
+    {
+        self.inner.add_formula(formula)
+    }
+
+    /// Adds the clauses of a text in DIMACS CNF, in order. The text is read in chunks of 4,096 bytes.
+    ///
+    /// The text may have one header, before its first clause; a header anywhere else is malformed. The numbers in the
+    /// header are ignored, and its variable count introduces no name. A line that begins with `%` ends the text, and
+    /// nothing is read after it. A text that ends inside a clause is malformed.
+    ///
+    /// Clauses before an error, or before a clause that is refused, remain. The solver can still be used if the text is
+    /// malformed (`Malformed`), has a number above the limit (`VariableLimit`), or cannot be read (`Read`).
+    pub fn add_dimacs_cnf<R: CountedRead>(&mut self, reader: &mut R) -> Result<(), SolverError>
+        ensures adds { AddsText P.takes result self.old self.new (R.seen reader.old) (R.seen reader.new) }
+        // Nothing is read after the line that ends the text.
+        ensures stops { StopsReading (R.seen reader.old) (R.seen reader.new) }
+        ensures reads { (R.seen reader.new).calls ≤ (R.seen reader.old).calls + most_reads }
+        ensures text { ReachesBySteps self.old self.new }
+    {
+        self.inner.add_dimacs_cnf(reader)
+    }
+
+    /// Replaces the assumptions with `lits`, and introduces the names in `lits` from left to right.
+    ///
+    /// The assumptions apply to every later `solve` until the next `assume`. The answer is discarded even if the
+    /// assumptions are unchanged, unless the clauses alone are known to be unsatisfiable. Errors: `NotInDrat` if DRAT
+    /// lines are written; `WitnessVariable` if a name in `lits` has the mode witness; `VariableLimit` if there is no
+    /// variable for a name that would be introduced.
+    pub fn assume(&mut self, lits: &[Lit]) -> Result<(), SolverError>
+        ensures assumes { AssumesOrRefuses result self.old self.new lits.now }
+        ensures drat { self.old.failed ≡ false → IsDrat self.old → IsErrOf result SolverError.NotInDrat }
+        ensures steps { OnOk result (StepsOfAssumptions self.old self.new lits.now) }
+        ensures text { Writes result self.old self.new }
+        ensures checker { CheckerAfter P.takes result self.old self.new }
+    {
+        self.inner.assume(lits)
+    }
+
+    /// Returns whether the clauses and the assumptions can be satisfied.
+    ///
+    /// Returns `Interrupted` if the rounds that the parameters allow for this call are exhausted, or if the number of
+    /// rounds over all calls has reached 2^64-1. If neither a clause nor assumptions have been accepted since the last
+    /// answer, returns that answer again, without running a round or making a step. By the time this call returns an
+    /// answer or `Interrupted`, it has flushed the open target, if any. The solver's own checker, if any, has by then
+    /// received all steps and announced everything that was pending.
+    pub fn solve(&mut self) -> Result<bool, SolverError>
+        ensures solves { Solves result self.old self.new }
+        ensures steps { self.old.failed ≡ false → self.new.failed ≡ false → StepsOfAsk self.old self.new }
+        ensures rounds { self.old.failed ≡ false → self.new.failed ≡ false → self.old.answer ≡ SatState.Unknown
+            → Between ⟦<P as ProofProcessor>⟧ W.seen (MakesRounds W.seen) self.old self.new }
+        ensures text { Writes result self.old self.new }
+        ensures checker { CheckerAfterAsk P.takes result self.old self.new }
+    {
+        self.inner.solve()
+    }
+
+    /// Returns a model, or `None` if there is none. A model has one literal for every name in use, in increasing order.
+    ///
+    /// There is a model only after a `solve` that returned true, and only until a clause or assumptions are accepted.
+    /// Names that were introduced after this `solve` are false, except those that `observe_internal_vars` introduced,
+    /// which have the values of their variables. The solver can still be used after `OutOfMemory`.
+    pub fn model(&self) -> Result<Option<Vec<Lit>>, SolverError>
+        ensures model { IfOk result (λ o. MatchOption o (HasNone self.now) (λ lits. IsModel self.now lits.items)) }
+        ensures fails { IfErr result (λ e. ModelFails e self.now) }
+    {
+        self.inner.model()
+    }
+
+    /// Returns a list of assumptions that together contradict the clauses, or `None` if no such list is known.
+    ///
+    /// The list is neither minimal nor sorted. A list is known after a `solve` that returned false, until a clause or
+    /// assumptions are accepted. Once the clauses alone are known to be unsatisfiable, even without a `solve`, the list
+    /// is known and empty. Returns `None` after a failed call.
+    pub fn failed_core(&self) -> Option<&[Lit]>
+        ensures { MatchOption result (HasNoCore self.now) (λ core. IsCore self.now core.now) }
+    {
+        self.inner.failed_core()
+    }
+
+    /// Applies `update` to the parameters. If one of its fields is out of range, returns `OutOfRange` and
+    /// changes nothing.
+    ///
+    /// The new parameters apply to all later rounds; the answer is unchanged. A new `luby_restart_interval_scale`
+    /// changes only the gaps after the next restart, not when that restart is due.
+    pub fn config(&mut self, update: &SolverConfigUpdate) -> Result<(), SolverError>
+        ensures { Configures result update.now self.old self.new }
+    {
+        self.inner.config(update)
+    }
+
+    /// Hides a name, which is introduced first if it is not in use.
+    ///
+    /// The variable of the name remains in the clauses, and the name can be introduced again, for a new variable. A
+    /// variable that no clause or assumption has used is deleted immediately, and so is one that a simplification has
+    /// found to be no longer used by any clause. Any other variable remains in use, at least until a later
+    /// simplification finds that no clause uses it. The answer is unchanged. Errors: `AssumedVariable` if the name is
+    /// assumed; `VariableLimit` if there is no variable for a name that would be introduced.
+    pub fn hide_var(&mut self, user: Var) -> Result<(), SolverError>
+        ensures hides { Hides result self.old self.new user }
+        ensures gone { OnOk result (LeavesNoneIdle self.new.steps) }
+        ensures steps { OnOk result (OnlyMakes IsHidingStep self.old self.new) }
+        ensures text { Writes result self.old self.new }
+        ensures checker { CheckerAfter P.takes result self.old self.new }
+    {
+        self.inner.hide_var(user)
+    }
+
+    /// Sets the mode of a name to witness. If the name is not in use, it is introduced first.
+    ///
+    /// From now on, clauses and assumptions that contain the name are refused. The answer is unchanged. Errors:
+    /// `AssumedVariable` if the name is assumed; `VariableLimit` if there is no variable for a name that would
+    /// be introduced.
+    pub fn witness_var(&mut self, user: Var) -> Result<(), SolverError>
+        ensures witnesses { Witnesses result self.old self.new user }
+        ensures steps { OnOk result (OnlyMakes (IsModeStep (user + 1) false) self.old self.new) }
+        ensures text { Writes result self.old self.new }
+        ensures checker { CheckerAfter P.takes result self.old self.new }
+    {
+        self.inner.witness_var(user)
+    }
+
+    /// Sets the mode of a name to sample, which is also the mode of new names. If the name is not in use, it is
+    /// introduced first.
+    ///
+    /// The answer is unchanged. Errors: `AssumedVariable` if the name is assumed, even if it already has this mode;
+    /// `VariableLimit` if there is no variable for a name that would be introduced.
+    pub fn sample_var(&mut self, user: Var) -> Result<(), SolverError>
+        ensures samples { Samples result self.old self.new user }
+        ensures steps { OnOk result (OnlyMakes (IsModeStep (user + 1) true) self.old self.new) }
+        ensures text { Writes result self.old self.new }
+        ensures checker { CheckerAfter P.takes result self.old self.new }
+    {
+        self.inner.sample_var(user)
+    }
+
+    /// Introduces a name and returns it: the lowest hidden name, or the lowest name never used if no name is hidden.
+    ///
+    /// The answer is unchanged; if it is a model, the new name is false in it. Returns `VariableLimit` only if every
+    /// proof variable is in use, and then changes nothing.
+    pub fn new_var(&mut self) -> Result<Var, SolverError>
+        ensures names { NamesNew result self.old self.new }
+        ensures steps { OnOk result (OnlyMakes IsDue self.old self.new) }
+        ensures text { Writes result self.old self.new }
+        ensures checker { CheckerAfter P.takes result self.old self.new }
+    {
+        self.inner.new_var()
+    }
+
+    /// Gives a name with the mode witness to every hidden variable that is still in use. Returns the names.
+    ///
+    /// Visits the variables in increasing order, and gives each the name that `new_var` would return. The answer is
+    /// unchanged. If there is no hidden variable, this call does not prevent a proof from being opened. If memory runs
+    /// out, the solver fails permanently.
+    pub fn observe_internal_vars(&mut self) -> Result<Vec<Var>, SolverError>
+        ensures observes { IfOk result (λ users. Observed self.old self.new users.items) }
+        ensures fails { IfErr result (λ e. NamesFail e self.old self.new) }
+        ensures text { Writes result self.old self.new }
+        ensures checker { CheckerAfter P.takes result self.old self.new }
+    {
+        self.inner.observe_internal_vars()
+    }
+
+    /// Opens a proof: all further steps are written to `target` in the format `format`.
+    ///
+    /// Returns `TooLate` if the solver has received a clause, a name, assumptions or an ask, or if a proof is open. If
+    /// an error is returned, the target is dropped. While DRAT lines are written, `assume` returns `NotInDrat`, and so
+    /// does `add_clause` after the first `solve`.
+    ///
+    /// DRAT lines list derived and deleted clauses, but not added ones. Their literals refer to proof variables, which
+    /// are numbered from 1. Until a name is hidden, the variable of name n has the number n; afterwards the numbers
+    /// may differ.
+    pub fn write_proof(&mut self, target: W, format: ProofFormat) -> Result<(), SolverError>
+        ensures { OpensProof result format (W.seen target) self.old self.new }
+    {
+        self.inner.write_proof(target, format)
+    }
+
+    /// Starts the solver's own checker, which receives all further steps.
+    ///
+    /// The checker receives the steps that a proof in the format `Varisat` would contain, except for the ends of
+    /// proofs, and rejects none of these steps. If there is a checker already, nothing changes. Returns `TooLate` if
+    /// the solver has received a clause, a name, assumptions or an ask.
+    pub fn enable_self_checking(&mut self) -> Result<(), SolverError>
+        ensures { Enables result self.old self.new }
+    {
+        self.inner.enable_self_checking()
+    }
+
+    /// Adds a listener to the solver's own checker, starting one if there is none.
+    ///
+    /// Returns `TooLate` when `enable_self_checking` does. If memory runs out, the solver fails permanently. If an
+    /// error is returned, the listener is dropped.
+    pub fn add_proof_processor(&mut self, processor: P) -> Result<(), SolverError>
+        ensures { AddsProcessor result processor self.old self.new }
+    {
+        self.inner.add_proof_processor(processor)
+    }
+
+    /// Writes the `End` step, flushes the target and returns it. Returns `None` if no proof is open. After an error,
+    /// the solver keeps the target.
+    pub fn close_proof(&mut self) -> Result<Option<W>, SolverError>
+        ensures closes { ClosesProof (writer_given W.seen result) self.old self.new }
+        ensures text { ClosesText (writer_given W.seen result) self.old self.new }
+        ensures checker { CheckerAfterClosing P.takes result self.old self.new }
+        ensures certificate { IfOk result (λ o. IfSome o (λ given. IsCertificate (W.seen given) self.old self.new)) }
+        ensures drat { IfOk result (λ o. IfSome o (λ _. IsDratRefutation self.old self.new)) }
+    {
+        self.inner.close_proof()
+    }
+
+    /// Returns the target without flushing it, if a proof is open or its target failed. Pending bytes are lost. The
+    /// target has received a prefix of the text of steps that a checker accepts, even if the solver has failed. It can
+    /// have received the `End` step only if `close_proof` returned an error.
+    pub fn into_target(self) -> Option<W>
+        ensures gives { GivesWriter self.target (returned_writer W.seen result) }
+        ensures front { ReturnsAcceptedPrefix (returned_writer W.seen result) self }
+    {
+        let solver = self;
+        solver.inner.into_target()
+    }
+
+    /// Returns the listeners in the order in which they were added, and the target, even after a failure.
+    ///
+    /// After two contradictory units, the empty clause that follows from them is announced with the next step or the
+    /// next `solve`. If neither has followed, the listeners have not been notified of the empty clause. The target is
+    /// the one that `into_target` would return.
+    pub fn into_processors(self) -> ReturnedParts<W, P>
+        ensures target { GivesWriter self.target (returned_writer W.seen result.target) }
+        ensures front { ReturnsAcceptedPrefix (returned_writer W.seen result.target) self }
+        ensures processors { ReturnsIfChecked P.takes self.listeners result.processors.items self.steps }
+        ensures whole { self.lost ≡ false → ReturnsNotifiedIfChecked P.takes self.listeners result.processors.items self.steps }
+    {
+        let solver = self;
+        solver.inner.into_processors()
+    }
+}
+
+impl<W: CountedWrite + Drop, P: ProofProcessor> ExtendFormula for Solver<W, P> {
+    type Error = SolverError;
+
+    ghost ready = { λ _. Unit {0} };
+
+    ghost adds = { λ old clause new. CallsAddClause P.takes (Ok tt) old new clause };
+
+    ghost refuses_clause = { λ old clause e new. CallsAddClause P.takes (Err e) old new clause };
+
+    ghost makes = { λ old v new. CallsNewVar P.takes (Ok v) old new };
+
+    ghost refuses_variable = { λ old e new. CallsNewVar P.takes (Err e) old new };
+
+    fn add_clause(&mut self, lits: &[Lit]) -> Result<(), SolverError> {
+        Solver::add_clause(self, lits)
+    }
+
+    fn new_var(&mut self) -> Result<Var, SolverError> {
+        Solver::new_var(self)
+    }
+}

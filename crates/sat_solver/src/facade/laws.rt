@@ -1,0 +1,26 @@
+//! Laws about solvers. Each law is the contract of a function that does nothing.
+ghost use Rattle.std.specs.Prelude.{◌≡◌, false};
+ghost use Rattle.sat_solver.specs.facade.Laws.{CallsGoOn};
+ghost use Rattle.sat_solver.specs.facade.View.{MatchesSomeState};
+
+use crate::facade::Solver;
+use sat_base::CountedWrite;
+use sat_checker::ProofProcessor;
+
+/// States that a call only appends steps, and that the target receives only their text, whatever the call returns.
+pub fn calls_go_on<W: CountedWrite + Drop, P: ProofProcessor>(
+    _old: &Solver<W, P>,
+    _new: &Solver<W, P>,
+)
+    ensures { CallsGoOn _old.now _new.now }
+{}
+
+/// States that the names and the steps of a solver that has not failed match some state of the judge. Therefore,
+/// whatever contracts state for every matching state holds for at least one state. Its own checker has missed no step.
+pub fn solvers_are_judged<W: CountedWrite + Drop, P: ProofProcessor>(solver: &Solver<W, P>)
+    ensures judged { solver.now.failed ≡ false → MatchesSomeState solver.now }
+    ensures checked { solver.now.failed ≡ false → solver.now.lost ≡ false }
+{
+    // The invariant of the fields says so.
+    let _ = &solver.inner;
+}
