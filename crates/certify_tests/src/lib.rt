@@ -23,8 +23,6 @@ mod files;
 #[cfg(test)]
 mod hints;
 #[cfg(test)]
-mod mismatches;
-#[cfg(test)]
 mod names;
 #[cfg(test)]
 mod pieces;

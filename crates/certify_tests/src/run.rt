@@ -17,7 +17,7 @@ const FOURTH: &[u8] = b"1 2 0\na 0\n";
 const SIXTH: &[u8] = b"1 2 0\n1 -2 0\n-1 2 0\n-1 -2 0\na 0\n";
 
 /// A script, a budget, and the answers.
-static ANSWERS: [(&[u8], u64, &[u8]); 55] = [
+static ANSWERS: [(&[u8], u64, &[u8]); 52] = [
     (
         b"1 2 0\n3 4 0\n5 6 0\n-1 -3 0\n-1 -5 0\n-3 -5 0\n-2 -4 0\n-2 -6 0\n-4 -6 0\na 0\n",
         AMPLE,
@@ -96,13 +96,6 @@ static ANSWERS: [(&[u8], u64, &[u8]); 55] = [
         b"c refused 1 limit\nc refused 2 limit\nc refused 3 limit\nc refused 4 limit\n",
     ),
     (b"h 0\nw 0\ns 0\na 0\n", AMPLE, b"s SATISFIABLE\nv 0\n"),
-    (b"h 1 1 0\na 0\n", AMPLE, b"s SATISFIABLE\nv 0\n"),
-    (
-        b"w 1 0\nh 1 0\n1 0\na 0\n",
-        AMPLE,
-        b"s SATISFIABLE\nv 1 0\n",
-    ),
-    (b"1 0\nh -1 0\n", AMPLE, b"c malformed 2\n"),
     (b"268435457 0\n", AMPLE, b"c refused 1 limit\n"),
     (
         b"1 0\n268435457 0\na 0\n",
@@ -145,7 +138,7 @@ fn all_answers() -> &'static [(&'static [u8], u64, &'static [u8])] {
 }
 
 /// Returns the verdict on three texts that are read in pieces of `size` bytes.
-pub(crate) fn said_in(
+fn said_in(
     alloc: Global,
     (script, answers, certificate): (&[u8], &[u8], &[u8]),
     size: usize,
