@@ -1,8 +1,7 @@
 //! Tests of the program's statuses and of what it prints.
 
-use crate::devices::{FailsAt, fails_at};
-use certify::program::opened::{OpenCall, OpenFile, OpenRun};
-use certify::program::{carry_out, program};
+use crate::devices::fails_at;
+use certify::program::program;
 use sat_base::{Counted, CountedRead};
 use std::alloc::{AllocError, Global};
 use std::io;
@@ -249,43 +248,4 @@ fn standard_error_fails(rt: HostRuntime) {
     for failing in 1..5 {
         assert!(rt; errors_fail(&rt, failing) == (3, true), "{failing}");
     }
-}
-
-/// Tests whether a script is answered when a line begins with `%`, although the next read would fail.
-#[test]
-fn nothing_is_read_after_the_end(rt: HostRuntime) {
-    let mut input = fails_at(b"1 0\na 0\n%", 10);
-    let wanted = (0, "s SATISFIABLE\nv 1 0\nc confirmed\n", NO_NAME);
-    assert!(rt; does(&rt, Ok(Vec::new(rt.alloc())), &mut input, wanted));
-}
-
-/// Returns a file in memory that holds `text`.
-fn file<'a>(path: &'a str, text: &'a [u8]) -> OpenFile<'a, FailsAt<'a>> {
-    OpenFile {
-        path,
-        device: fails_at(text, 0),
-    }
-}
-
-/// Returns the status of a run over files in memory, and how many bytes of answers it wrote.
-fn run_in_memory(rt: &HostRuntime, script: &[u8]) -> (u8, usize) {
-    let mut call = OpenCall::Run(OpenRun {
-        script: file("s", script),
-        answers: file("a", b""),
-        certificate: file("c", b""),
-        budget: u64::MAX,
-    });
-    let mut input = fails_at(b"", 1);
-    let mut output = fails_at(b"", 1);
-    let mut errors = Counted::new(Vec::new(rt.alloc()));
-    let status = carry_out(rt.alloc(), &mut call, &mut input, &mut output, &mut errors);
-    match call {
-        OpenCall::Run(run) => (status, run.answers.device.into_inner().taken),
-        _ => (status, 0),
-    }
-}
-
-#[test]
-fn a_run_is_carried_out_in_memory(rt: HostRuntime) {
-    assert!(rt; run_in_memory(&rt, b"1 2 0\na 0\n") == (0, 23));
 }
