@@ -1,11 +1,12 @@
 #!/usr/bin/env python3
-"""Counts the definitions that the contract of each public call of `Solver` reaches, and their levels.
+"""Counts the definitions that the contract of each public call of `Solver` or `Checker` reaches, and their levels.
 
-bench/count.py [--each] [--cut NAME,..] [--list CALL] [--root CHECKOUT]
+bench/count.py [--crate CRATE] [--each] [--cut NAME,..] [--list CALL] [--root CHECKOUT]
 
-A level is one definition below another. --each counts each clause by itself, --cut does not look into these
-definitions, and --list prints what a call reaches. What lies below `SolverView` is counted; its `view` and `invariant`,
-which no reader of a contract needs, are not. CHECKOUT can be one of before `facade` was there.
+CRATE is `sat_solver`, unless it is given, or `sat_checker`. A level is one definition below another. --each counts
+each clause by itself, --cut does not look into these definitions, and --list prints what a call reaches. What lies
+below `SolverView` is counted; its `view` and `invariant`, which no reader of a contract needs, are not. CHECKOUT can be
+one of before `facade` was there.
 """
 import argparse
 import re
@@ -16,7 +17,14 @@ HERE = Path(__file__).resolve().parent
 sys.path.insert(0, str(HERE))
 import statement
 
-CALLS = {
+# The calls of each crate's main type, by the modules that have them.
+OF_CHECKER = {
+    'checker': 'new notifying with_listeners add_processor add_transcript into_processors add_clause accept_step unsat'
+               ' is_settled ended var_deleted user_name knows looks self_check_step self_check_delayed_steps',
+    'checker.formula': 'add_formula', 'checker.dimacs': 'add_dimacs_cnf',
+    'checker.proof': 'check_proof check_proof_with',
+}
+OF_SOLVER = {
     '': 'new notifying steps', '.solve': 'solve', '.assume': 'assume', '.clauses': 'add_clause',
     '.configure': 'config', '.formulas': 'add_formula add_dimacs_cnf',
     '.names': 'hide_var witness_var sample_var new_var observe_internal_vars', '.progress': 'progress',
@@ -25,15 +33,18 @@ CALLS = {
 }
 
 
-def calls(root):
+def calls(root, crate):
     """The public calls, each with its module."""
+    if crate == 'sat_checker':
+        return [(module, name) for module, names in OF_CHECKER.items() for name in names.split()]
     facade = (root / 'crates/sat_solver/src/facade.rt').exists()
-    return [('facade' if facade else 'solver' + part, name) for part, names in CALLS.items() for name in names.split()]
+    return [('facade' if facade else 'solver' + part, name)
+            for part, names in OF_SOLVER.items() for name in names.split()]
 
 
 def clauses(file, function):
     """The place of a function, its signature, and its clauses: kind, label, lines."""
-    at = next(i for i, line in enumerate(file.text) if re.match(rf'\s*pub fn {function}\b', line))
+    at = next(i for i, line in enumerate(file.text) if re.match(rf'\s*(pub )?fn {function}\b', line))
     signature, found, block, depth = [], [], [], 0
     for line in file.text[at:]:
         if line.strip() == '{':
@@ -57,7 +68,8 @@ def item_of(file, function, at, signature, chosen):
     lines = ['fn ' + function + ' ' + ' '.join(signature)] + [line for clause in chosen for line in clause[2]]
     item = statement.Item(file.module, file.path, function, 'clause', [], lines)
     item.place = at
-    item.traits = ['CountedWrite'] if re.search(r'\bW\.seen', '\n'.join(lines)) else []
+    devices = {'W': 'CountedWrite', 'R': 'CountedRead'}
+    item.traits = [of for name, of in devices.items() if re.search(rf'\b{name}\.seen', '\n'.join(lines))]
     return item
 
 
@@ -88,6 +100,7 @@ def levels(repository, item, cut, known, path=()):
 def main():
     parser = argparse.ArgumentParser(description=__doc__.split('\n')[0])
     parser.add_argument('--root', type=Path, default=HERE.parent)
+    parser.add_argument('--crate', choices=['sat_solver', 'sat_checker'], default='sat_solver')
     parser.add_argument('--each', action='store_true')
     parser.add_argument('--cut', default='')
     parser.add_argument('--list', default='')
@@ -102,8 +115,8 @@ def main():
         print(f'{label:28} {len(found):4} definitions {size:6,} lines {levels(repository, item, cut, {}):3} levels')
         return found
 
-    for module, function in calls(options.root):
-        file = repository.code('sat_solver', module)
+    for module, function in calls(options.root, options.crate):
+        file = repository.code(options.crate, module)
         at, signature, found = clauses(file, function)
         reached = report(function, item_of(file, function, at, signature, found))
         total.update(reached)

@@ -5,7 +5,9 @@
 # meant for them must not be written into a file. Then memory runs out in a run, after an answer: nothing may be printed. A line says what
 # went wrong; the last one counts the checks. It takes seconds.
 set -euo pipefail
+[ $# -eq 1 ] || { echo "usage: bench/descriptors.sh PROGRAM" >&2; exit 2; }
 program=$(realpath "$1")
+[ -x "$program" ] || { echo "$0: no program $program; \`rt run\` in crates/certify_cli makes the proved one" >&2; exit 2; }
 work=$(mktemp -d)
 trap 'rm -rf "$work"' EXIT
 cd "$work"

@@ -26,7 +26,7 @@ SOURCES = ('.rt', '.antt', '.py', '.sh', '.edit', '.txt', '.rs', '.tsv')
 
 # Words of the toolchain, of other programs and of Rust, and placeholders.
 ELSEWHERE = set('''
-    rattle kit logic dac8208d650f15bf plant touch rm1 sim inccnf runners trim
+    rattle kit logic dac8208d650f15bf plant touch rm1 sim inccnf runners trim timeout gunzip lim rnd
     f32 isize non_exhaustive partial_ref follows_so
     doc CRATE CRATE_tests DEP Trait law_ rechecked
 '''.split())

@@ -4,8 +4,8 @@
     examples.py --rows [PROGRAM]    prints rows for tests: script, printed text, status and standard error; or script, answers and budget
     examples.py --check FILE        checks that FILE, a source with such rows, has each script and its answers without a budget
 
-NAME.answers has the answers to NAME.script, and NAME-STEPS.answers those with a budget of STEPS rounds for each ask. PROGRAM is by default
-the proved program, crates/certify_cli/out/certify_cli.
+NAME.answers has the answers to NAME.script, and NAME-STEPS.answers those with a budget of STEPS rounds for each ask. Then shrink.py shrinks
+a core. PROGRAM is by default the proved program, crates/certify_cli/out/certify_cli.
 """
 import os
 import re
@@ -56,6 +56,8 @@ def main():
         sys.exit(f"{words[1]} doesn't have {', '.join(wrong)}" if wrong else 0)
     show_rows = words[:1] == ["--rows"]
     program = os.path.abspath((words[show_rows:] or [PROVED])[0])
+    if not os.access(program, os.X_OK):
+        sys.exit(f"{sys.argv[0]}: no program {program}; `rt run` in crates/certify_cli makes the proved one")
     if show_rows:
         return rows(program)
     with tempfile.TemporaryDirectory() as folder:
@@ -66,6 +68,13 @@ def main():
                 sys.exit(f"{file}: other answers:\n{read(texts[0])}")
             subprocess.run([program, "confirm", script, *texts], check=True, stdout=subprocess.DEVNULL)
             print(f"{file}: as kept, confirmed")
+        clauses = os.path.join(folder, "clauses")
+        with open(clauses, "w", encoding="ascii") as file:
+            file.writelines(line for line in read(os.path.join(EXAMPLES, "features.script")).splitlines(True) if line[0] != "a")
+        shrunk = subprocess.run([sys.executable, os.path.join(EXAMPLES, "shrink.py"), clauses, "-5 3 9", program], check=True, capture_output=True, text=True)
+        if shrunk.stdout != "3 9\n":
+            sys.exit(f"shrink.py: another core: {shrunk.stdout}")
+        print("shrink.py: the core 3 9")
 
 
 if __name__ == "__main__":

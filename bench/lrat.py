@@ -5,14 +5,15 @@
     lrat.py verify FORMULA PROOF [PROGRAM]    does both, compares the `i` lines with the formula, and prints `verified by certify`
     lrat.py convert HINTS CNF PROOF           writes the clauses of the `i` lines as DIMACS CNF, and the derivation as an LRAT proof
     lrat.py check CNF PROOF                   prints `verified`: a small checker of LRAT proofs, which shares no code with certify
-    lrat.py try [PROGRAM]                     tries all of this on forty formulas, and on damaged proofs
+    lrat.py try [PROGRAM [CADICAL]]           tries all of this on forty formulas and damaged proofs, and with a CaDiCaL that has `--lrat`
 
 A proof that is not accepted gets the line `refused: REASON`, with the number of the line or step where there is one, and status 1.
 
-`import` reads text, and the binary form that CaDiCaL writes (`cadical --lrat`). Its memory grows with the number of clauses that are present
-at a time. The clauses of the formula get the ids 1 to n, as in LRAT, and every other clause keeps its id. A step with the RAT property (its
-hints have negative numbers) has no line in a hint text. Hints have to be exact: every clause but the last is unit when its turn comes.
-`verify` trusts this script to compare the `i` lines with the formula, and the proved program to check the derivation.
+`import` reads text, and the binary form that CaDiCaL and drat-trim write. Its memory grows with the number of clauses that are present at a
+time. The clauses of the formula get the ids 1 to n, as in LRAT, and every other clause keeps its id. A step with the RAT property (it has
+negative hints, or none) has no line in a hint text. Hints have to be exact: every clause but the last is unit when its turn comes. A deletion
+of a clause of the formula is a line like any other: CaDiCaL deletes those that it has strengthened, and the text still says which clauses the
+formula has. `verify` trusts this script to compare the `i` lines with the formula, and the proved program to check the derivation.
 
 HINTS, for `convert`, is written by `certify hints` from the certificate of a formula that is asked once, without literals. The clauses of
 the CNF are those of the formula, with its own names, without repeated clauses and literals and without tautologies. In an LRAT proof the
@@ -26,12 +27,14 @@ import itertools
 import os
 import random
 import re
+import shutil
 import subprocess
 import sys
 import tempfile
 
 HERE = os.path.dirname(os.path.abspath(__file__))
 PROVED = os.path.join(HERE, "../crates/certify_cli/out/certify_cli")
+NUMBER = re.compile(r"-?[0-9]+")
 ADDED = re.compile(r"([1-9]\d*) ((?:-?[1-9]\d* )*)0 ((?:-?[1-9]\d* )*)0")
 DELETED = re.compile(r"\S+ d ((?:[1-9]\d* )*)0")
 
@@ -139,18 +142,17 @@ def check(cnf, proof):
 def clauses_of(path):
     """Yields the clauses of a DIMACS formula."""
     clause = []
-    with open(path, encoding="ascii", errors="replace") as file:
+    with open(path, encoding="ascii", errors="replace", newline="\n") as file:
         for number, line in enumerate(file, 1):
-            if line.startswith(("c", "p")):
+            words = line.split()
+            if not words or words[0][0] in "cp":
                 continue
-            if line.startswith("%"):
+            if words[0][0] == "%":
                 break
-            for word in line.split():
-                try:
-                    literal = int(word)
-                except ValueError:
-                    raise Refused(f"line {number} of the formula: {word!r} is no number") from None
-                if literal:
+            for word in words:
+                if not NUMBER.fullmatch(word):
+                    raise Refused(f"line {number} of the formula: {word!r} is no number")
+                if literal := int(word):
                     clause.append(literal)
                 else:
                     yield clause
@@ -159,79 +161,72 @@ def clauses_of(path):
         raise Refused("the formula ends within a clause")
 
 
-def numbers_of(file):
-    """Yields the kind and the numbers of every step of a binary proof. A number is written in groups of seven bits, the lowest first."""
-    while kind := file.read(1):
-        if kind not in b"ad":
-            raise Refused("a step begins neither with `a` nor with `d`")
-        found, zeros = [], 0
-        while zeros < (2 if kind == b"a" else 1):
-            value, shift, byte = 0, 0, 128
-            while byte >= 128:
-                read = file.read(1)
-                if not read:
-                    raise Refused("the proof ends within a step")
-                byte = read[0]
-                value |= (byte & 127) << shift
-                shift += 7
+def lists_of(file):
+    """Yields the lists of a binary proof, without the zero that ends each of them."""
+    rest = b""
+    while more := file.read(1 << 20):
+        *whole, rest = (rest + more).split(b"\0")
+        yield from whole
+    if rest:
+        raise Refused("the proof ends within a step")
+
+
+def numbers(code):
+    """Returns the numbers of a list. A number is written in groups of seven bits, the lowest first; all but the last have the bit 128."""
+    found, value, shift = [], 0, 0
+    for byte in code:
+        value |= (byte & 127) << shift
+        shift += 7
+        if byte < 128:
             found.append(value)
-            zeros += value == 0
-        yield kind, found
+            value = shift = 0
+    if shift:
+        raise Refused("a number ends with a group of zeros")
+    return found
 
 
-def signed(value):
-    """Returns the number whose double, plus one if it is negative, is `value`."""
-    return -(value >> 1) if value & 1 else value >> 1
+def signed(values):
+    """Returns the numbers whose doubles, plus one if they are negative, are `values`, each with a space."""
+    return "".join(f"-{value >> 1} " if value & 1 else f"{value >> 1} " for value in values)
 
 
-# The forms of ids in binary proofs: of added and deleted clauses, and of hints.
-FORMS = ((signed, signed), (int, signed), (int, int))
+def binary_steps(file, clauses):
+    """Yields the lines of a binary proof for a formula of this many clauses.
 
-
-def spelt_step(kind, values, form):
-    """Returns the text of a binary step."""
-    id_of, hint_of = form
-    if kind == b"d":
-        return " ".join(["0 d", *(str(id_of(v)) for v in values[:-1]), "0"])
-    end = values.index(0, 1)
-    return f"{id_of(values[0])} " + spelt(map(signed, values[1:end]), map(hint_of, values[end + 1 : -1]))[:-1]
-
-
-def form_of(step, clauses):
-    """Returns the form of ids in which `step`, the first one that adds a clause, follows from the formula."""
-    for form in FORMS:
-        found = ADDED.fullmatch(spelt_step(b"a", step, form))
-        if found and int(found[1]) > len(clauses):
-            try:
-                hints = [int(hint) for hint in found[3].split()]
-                follows([int(literal) for literal in found[2].split()], hints, dict(enumerate(clauses, 1)))
-                return form
-            except Refused:
-                continue
-    raise Refused("step 1: the first added clause does not follow, in no form of binary ids")
-
-
-def steps_of(path, formula):
-    """Yields the lines of a proof with their numbers, in one spelling."""
-    with open(path, "rb") as file:
-        binary = file.read(1) in (b"a", b"d")
-    if not binary:
-        with open(path, encoding="ascii", errors="replace") as file:
-            for number, line in enumerate(file, 1):
-                if not line.startswith("c") and (words := line.split()):
-                    yield f"line {number}", " ".join(words)
-        return
-    with open(path, "rb") as file:
-        steps, before = numbers_of(file), []
-        for kind, values in steps:
-            before.append((kind, values))
-            if kind == b"a":
-                form = form_of(values, list(clauses_of(formula)))
-                break
+    Numbers are doubled, with one added if they are negative. CaDiCaL 1.7 doesn't double the ids of the clauses that it adds. The first one is
+    one more than `clauses`, or slightly more.
+    """
+    lists, is_doubled = lists_of(file), None
+    for code in lists:
+        values = numbers(code[1:])
+        if code[:1] == b"d":
+            yield f"0 d {signed(values)}0"
+        elif code[:1] == b"a" and values:
+            if is_doubled is None:
+                is_doubled = values[0] >> 1 > clauses
+            id = signed(values[:1]) if is_doubled else f"{values[0]} "
+            yield f"{id}{signed(values[1:])}0 {signed(numbers(next(lists, b'')))}0"
         else:
+            raise Refused("a step begins neither with `a` nor with `d`")
+
+
+def steps_of(path, clauses):
+    """Yields the lines of a proof for a formula of this many clauses, each with its number, in one spelling."""
+    with open(path, "rb") as file:
+        if re.match(rb"[ad][^\0]*\0", file.read(1 << 16)):  # no text has a zero byte
+            file.seek(0)
+            for number, line in enumerate(binary_steps(file, clauses), 1):
+                yield f"step {number}", line
             return
-        for number, (kind, values) in enumerate(itertools.chain(before, steps), 1):
-            yield f"step {number}", spelt_step(kind, values, form)
+    with open(path, encoding="ascii", errors="replace") as file:
+        for number, line in enumerate(file, 1):
+            if not line.startswith("c") and (words := line.split()):
+                yield f"line {number}", " ".join(words)
+
+
+def is_tautology(clause):
+    literals = clause.split()
+    return any("-" + literal in literals for literal in literals)
 
 
 def import_proof(formula, proof, hints):
@@ -244,10 +239,10 @@ def import_proof(formula, proof, hints):
         hints.write(f"d {last + 1} 0 {empty} 0\n")
         return
     present = set(map(str, range(1, last + 1)))
-    for place, step in steps_of(proof, formula):
+    for place, step in steps_of(proof, last):
         if added := ADDED.fullmatch(step):
             id, clause, used = added.groups()
-            if "-" in used:
+            if "-" in used or not (used or is_tautology(clause)):
                 raise Refused(f"{place}: a RAT step, which no hint text has")
             if int(id) <= last:
                 raise Refused(f"{place}: the id {id} is not above those before")
@@ -265,7 +260,7 @@ def import_proof(formula, proof, hints):
                 present.remove(id)
                 hints.write(f"x {id} 0\n")
         else:
-            raise Refused(f"{place}: no step of a proof")
+            raise Refused(f"{place}: no step of an LRAT proof")
     raise Refused("no empty clause is derived")
 
 
@@ -322,8 +317,7 @@ def formulas():
 
 def try_one(program, name, clauses, draw):
     """Converts and checks the proof of one formula, then drops lines of it. Returns the numbers of lines and of those dropped."""
-    with open("formula", "w", encoding="ascii") as file:
-        file.write(f"p cnf {max(abs(l) for c in clauses for l in c)} {len(clauses)}\n" + "".join(map(spelt, clauses)))
+    write_formula(clauses)
     for call in (["run", "formula", "answers", "certificate"], ["hints", "certificate", "hints"]):
         subprocess.run([program, *call], check=True, stderr=subprocess.DEVNULL)
     with open("hints", encoding="ascii") as file:
@@ -345,7 +339,12 @@ def try_one(program, name, clauses, draw):
     return len(proof), len(dropped)
 
 
-def try_all(program):
+def has_lrat(cadical):
+    """Returns `True` if there is such a program, and it writes LRAT proofs."""
+    return bool(cadical) and "--lrat=" in subprocess.run([cadical, "--help"], capture_output=True, encoding="utf-8", check=False).stdout
+
+
+def try_all(program, cadical):
     draw, count = random.Random(1), 0
     with tempfile.TemporaryDirectory() as folder:
         os.chdir(folder)
@@ -357,6 +356,10 @@ def try_all(program):
             count += 1
             print(f"{name}: {try_import(program, name, clauses)} lines, as text and in binary, verified by certify", flush=True)
         print(f"{count} formulas; {try_damaged(program, draw)} damaged proofs refused, or verified by both checkers")
+        if has_lrat(cadical):
+            print(f"{try_cadical(program, cadical)} proofs by {cadical} verified by certify")
+        else:
+            print("no proofs by CaDiCaL: no cadical that has --lrat")
         os.chdir("/")
 
 
@@ -400,29 +403,20 @@ def refute(clauses):
     return lines
 
 
-def encoded(lines, form):
-    """Returns the binary proof with these lines, in a form of ids."""
+def encoded(lines, is_doubled):
+    """Returns the binary proof with these lines. The ids of added clauses are doubled or not."""
     def groups(value):
         while value >= 128:
             yield value & 127 | 128
             value >>= 7
         yield value
 
-    def double(value):
-        return 2 * abs(value) + (value < 0)
-
-    id_of, hint_of = (double if part is signed else int for part in form)
     found = bytearray()
     for line in lines:
-        words = line.split()
-        if words[1] == "d":
-            numbers = [id_of(int(w)) for w in words[2:]]
-        else:
-            clause, hints = lists(words[1:])
-            numbers = [id_of(int(words[0])), *map(double, clause), 0, *map(hint_of, hints), 0]
-        found += b"d" if words[1] == "d" else b"a"
-        for number in numbers:
-            found += bytes(groups(number))
+        id, *words = line.split()
+        found += b"d" if words[0] == "d" else b"a" + bytes(groups(2 * int(id) if is_doubled else int(id)))
+        for word in words[words[0] == "d" :]:
+            found += bytes(groups(2 * abs(int(word)) + word.startswith("-")))
     return bytes(found)
 
 
@@ -431,17 +425,39 @@ def write(path, content):
         file.write(content if isinstance(content, bytes) else content.encode())
 
 
+def write_formula(clauses):
+    write("formula", f"p cnf {max(abs(l) for c in clauses for l in c)} {len(clauses)}\n" + "".join(map(spelt, clauses)))
+
+
 def try_import(program, name, clauses):
-    """Verifies the proof of one formula in all forms. Returns the number of its lines."""
-    write("formula", f"p cnf 99 {len(clauses)}\n" + "".join(map(spelt, clauses)))
+    """Verifies the proof of one formula as text and in binary. Returns the number of its lines."""
+    write_formula(clauses)
     lines = refute(clauses) if all(clauses) else []
-    for proof in ["".join(lines), *(encoded(lines, form) for form in FORMS)]:
+    for proof in ["".join(lines), encoded(lines, True), encoded(lines, False)]:
         write("proof", proof)
-        try:
-            verify("formula", "proof", program)
-        except Refused as why:
-            sys.exit(f"{name}: {why}")
+        verified(name, program)
     return len(lines)
+
+
+def verified(name, program):
+    try:
+        verify("formula", "proof", program)
+    except Refused as why:
+        sys.exit(f"{name}: {why}")
+
+
+def try_cadical(program, cadical):
+    """Verifies proofs by CaDiCaL, as text and in binary. Returns their number."""
+    count = 0
+    for name, clauses in formulas():
+        write_formula(clauses)
+        for form in (["--no-binary"], []):
+            status = subprocess.run([cadical, "-q", "--lrat", *form, "formula", "proof"], stdout=subprocess.DEVNULL, check=False).returncode
+            if status != 20:
+                sys.exit(f"{name}: the status of {cadical} is {status}")
+            verified(name, program)
+            count += 1
+    return count
 
 
 def accepts(call, *arguments):
@@ -491,6 +507,13 @@ def read(path):
         return file.read()
 
 
+def found(program):
+    """Returns the full path of a program."""
+    if not (os.path.isfile(program) and os.access(program, os.X_OK)):
+        raise Refused(f"there is no program {os.path.normpath(program)}: build it as README.md says, or give another one as PROGRAM")
+    return os.path.abspath(program)
+
+
 def main():
     words = sys.argv[1:]
     try:
@@ -498,7 +521,7 @@ def main():
             with open(words[3], "w", encoding="ascii") as hints:
                 import_proof(words[1], words[2], hints)
         elif words[:1] == ["verify"] and len(words) in (3, 4):
-            verify(words[1], words[2], os.path.abspath((words[3:] or [PROVED])[0]))
+            verify(words[1], words[2], found((words[3:] or [PROVED])[0]))
             print("verified by certify")
         elif words[:1] == ["convert"] and len(words) == 4:
             for path, lines in zip(words[2:], convert(read(words[1]))):
@@ -507,8 +530,8 @@ def main():
         elif words[:1] == ["check"] and len(words) == 3:
             check(read(words[1]), read(words[2]))
             print("verified")
-        elif words[:1] == ["try"] and len(words) <= 2:
-            try_all(os.path.abspath((words[1:] or [PROVED])[0]))
+        elif words[:1] == ["try"] and len(words) <= 3:
+            try_all(found((words[1:2] or [PROVED])[0]), (words[2:] or [shutil.which("cadical")])[0])
         else:
             sys.exit(__doc__)
     except Refused as why:

@@ -4,6 +4,7 @@
 # Prints what each wrote to standard error, its fastest and its median time in seconds, its peak memory, and the ratio of the medians. Standard
 # output is dropped. Needs GNU time.
 set -euo pipefail
+[ $# -ge 4 ] || { sed -n 2p "$0" >&2; exit 2; }
 times=$1 input=$2 plain=$3 proved=$4
 shift 4
 work=$(mktemp -d)

@@ -228,8 +228,12 @@ def exponent(rows):
 
 def main():
     words = sys.argv[1:]
+    if not words or words == ["-i"]:
+        sys.exit("usage: scale.py [-i] PROGRAM [NAME..]")
     cost, unit = (instructions, "M") if words[0] == "-i" else (seconds, "s")
     program, names = os.path.abspath(words[words[0] == "-i"]), words[1 + (words[0] == "-i") :]
+    if not os.access(program, os.X_OK):
+        sys.exit(f"{sys.argv[0]}: no program {program}; `rt run` in crates/certify_cli makes the proved one")
     with tempfile.TemporaryDirectory() as folder:
         os.chdir(folder)
         for make, commands, sizes in TEXTS:

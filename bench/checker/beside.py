@@ -87,8 +87,10 @@ def mean(ratios):
 
 def main():
     words = sys.argv[1:]
-    counts = words[0] == "-i"
+    counts = words[:1] == ["-i"]
     words = words[counts:]
+    if len(words) < 5:
+        sys.exit("usage: beside.py [-i] PROGRAM CHECKS FOLLOWER PLAIN FOLDER [NAME..]")
     tools, folder, names = [os.path.abspath(word) for word in words[:4]], words[4], words[5:]
     names = names or sorted(file[: -len(".certificate")] for file in os.listdir(folder) if file.endswith(".certificate"))
     costs, peaks = {}, {}

@@ -15,7 +15,7 @@
 #   refusals.rt.txt: refused steps are refused, whatever allocation fails while they are judged. So is a bad line, whatever allocation fails.
 #
 # For the first four, a line says for each N which call was out of memory. There is no line if only notes on a step's check were lost that no
-# listener reads, or if a check of a hint text reads a single byte first instead of a chunk. The last three report by their status. Not part
+# listener reads, or if a check of a hint text or a reader of steps reads a single byte first instead of a chunk. The last three report by their status. Not part
 # of the gate. Takes some minutes.
 #
 # `rt try --fail-alloc N` refuses the Nth allocation. Since a build takes longer than a run, one build serves for every N: it always refuses
@@ -132,21 +132,18 @@ mkdir "$work/calls-plain"
 behind "$work/texts/calls/none" 0 > "$work/calls-plain/none"
 run calls "$work/calls-plain" "$work/calls-all"
 sweep calls
-count=0
 for n in $(seq "$most"); do
     it=$work/calls-runs/none-$n
     [ "$(cat "$it.end")" = "run=ended status=0" ] || fail "calls $n: $(cat "$it.end")"
     [ ! -s "$it.err" ] || fail "calls $n: $(cat "$it.err")"
     call=$(awk "$beside" "$work/calls-all/none.out" "$it.out")
-    [ -n "$call" ] || continue
-    [ $((count += 1)) = "$n" ] || fail "calls $n: refused behind one that was not"
-    echo "$n: $call"
+    [ -z "$call" ] || echo "$n: $call"
 done | tee "$work/calls.txt"
-count=$(wc -l < "$work/calls.txt")
+count=$(tail -n 1 "$work/calls.txt" | cut -d : -f 1)
 [ "$count" -lt "$most" ] || fail "calls: more than $most allocations"
 directly calls "$work/calls-plain" "$count"
 directly calls "$work/calls-plain" $((count + 1))
-echo "calls: $count allocations"
+echo "calls: $(wc -l < "$work/calls.txt") of $count allocations"
 sed 's/^[0-9]*: //' "$work/calls.txt" | sort | uniq -c
 
 # Compares a run of feeds.rt.txt with the one with all memory. Prints which call was out of memory, if any.

@@ -5,7 +5,9 @@
 # read, after the first 20 MB. Needs GNU time and Python 3.
 set -euo pipefail
 here=$(cd "$(dirname "$0")" && pwd)
+[ $# -eq 1 ] || { echo "usage: bench/memory/run.sh PROGRAM" >&2; exit 2; }
 program=$(realpath "$1")
+[ -x "$program" ] || { echo "$0: no program $program; \`rt run\` in crates/certify_cli makes the proved one" >&2; exit 2; }
 work=$(mktemp -d)
 trap 'rm -rf "$work"' EXIT
 

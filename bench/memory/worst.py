@@ -143,4 +143,5 @@ def main():
             put(f"{out}/{name}/{part}", text)
 
 
-main()
+if __name__ == "__main__":
+    main()

@@ -8,6 +8,8 @@ import sys
 
 kept = "--kept" in sys.argv
 numbers = [int(a) for a in sys.argv[1:] if a != "--kept"]
+if not numbers:
+    sys.exit("usage: hidden.py COUNT [EVERY] [--kept]")
 count, every = numbers[0], numbers[1] if len(numbers) > 1 else 1000
 for k in range(count):
     print("1 3 0\n1 -3 2 0\n3 2 1 0\nh 3 0")

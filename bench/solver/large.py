@@ -45,7 +45,11 @@ def measured(command):
 
 
 def main():
+    if len(sys.argv) != 2:
+        sys.exit("usage: large.py PROGRAM")
     program = os.path.abspath(sys.argv[1])
+    if not os.access(program, os.X_OK):
+        sys.exit(f"{sys.argv[0]}: no program {program}; `rt run` in crates/certify_cli makes the proved one")
     with tempfile.TemporaryDirectory() as folder:
         os.chdir(folder)
         print("| Text | `run` | `confirm` | MiniSat | `run` / MiniSat |\n|---|---|---|---|---|")

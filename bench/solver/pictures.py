@@ -162,6 +162,8 @@ def picture(title, across, up, points, limit):
 
 
 def main():
+    if len(sys.argv) < 3:
+        sys.exit("usage: pictures.py ROWS OUT [LIMIT]")
     with open(sys.argv[1], encoding="utf-8") as file:
         rows = [Row(line) for line in file if line.strip()]
     limit = sys.argv[3] if len(sys.argv) > 3 else "60"

@@ -5,13 +5,18 @@ The scripts have clauses and asks over up to 8 names. More than half of the asks
 arguments) answers each. Prints how many asks were compared, or the first script with a wrong answer, with status 1.
 """
 import itertools
+import os
 import random
 import subprocess
 import sys
 
 plain = "--plain" in sys.argv
 args = [a for a in sys.argv[1:] if a != "--plain"]
+if len(args) < 2:
+    sys.exit("usage: scripts.py PROGRAM COUNT [SEED] [--plain]")
 program, count = args[0], int(args[1])
+if not os.access(program, os.X_OK):
+    sys.exit(f"{sys.argv[0]}: no program {program}; `rt run` in crates/certify_cli makes the proved one")
 rng = random.Random(int(args[2]) if len(args) > 2 else 1)
 
 

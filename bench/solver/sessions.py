@@ -10,6 +10,8 @@ import random
 import subprocess
 import sys
 
+if len(sys.argv) < 3:
+    sys.exit("usage: sessions.py PROGRAM COUNT [SEED]")
 program, count = sys.argv[1], int(sys.argv[2])
 rng = random.Random(int(sys.argv[3]) if len(sys.argv) > 3 else 1)
 NAMES = 6

@@ -10,10 +10,12 @@ reader_before_after seen old new = (seen old, seen new)
 abbrev pub writer_before_after : {D : Type 0} → (D → Writer) → D → D → Writer × Writer
 writer_before_after seen old new = (seen old, seen new)
 
--- that no call of the writer failed; it is lent through the same borrows
+-- `NoneFailed old new` holds if no call of the writer failed between `old` and `new`, and it is lent through the same
+-- borrows.
 abbrev pub NoneFailed : Writer → Writer → Type 0
 NoneFailed old new = (new.failures ≡ old.failures) × (new.loans ≡ old.loans)
 
--- that exactly one call of the writer failed, and it was the last; the writer is lent through the same borrows
+-- `OneFailed old new` holds if exactly one call of the writer failed between `old` and `new`, which was the last, and
+-- it is lent through the same borrows.
 abbrev pub OneFailed : Writer → Writer → Type 0
 OneFailed old new = (new.failures ≡ old.failures + 1) × (new.failed ≡ true) × (new.loans ≡ old.loans)

@@ -84,15 +84,16 @@ pub fn confirm<S: CountedRead, A: CountedRead, C: CountedRead>(
     certificate: &mut C,
     looks: &mut Looks,
 ) -> Result<Verdict, ConfirmFault>
-    // `Yes` means that the bytes given by the three readers match, whatever bytes might follow; and if they match, the
-    // verdict is `Yes`.
+    // The verdict is `Yes` exactly when the bytes given by the three readers match, whatever bytes might follow them. So
+    // `No` means that they do not match, whatever might follow.
     ensures exact { IsExact result S.seen A.seen C.seen (script.old, answers.old, certificate.old)
         (script.new, answers.new, certificate.new) }
     // `Yes` means that the answers are correct, whoever wrote the answers and the certificate.
     ensures sound { IfOk result (λ v. v ≡ Verdict.Yes → GaveRightAnswers (reader_before_after S.seen script.old script.new)
         (reader_before_after A.seen answers.old answers.new)) }
 
-    // A reader's fault is returned only if exactly one of its reads failed, or none of 2^48 reads did.
+    // A reader's fault is returned only if exactly one of its reads failed, which was the last, or if 2^48 reads were
+    // made and none failed.
     ensures script_read { IsErrOf result ConfirmFault.ScriptRead → ReadFails (S.seen script.old) (S.seen script.new) }
     ensures answers_read { IsErrOf result ConfirmFault.AnswersRead
         → ReadFails (A.seen answers.old) (A.seen answers.new) }

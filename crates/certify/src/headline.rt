@@ -44,7 +44,7 @@ pub enum HeadlineFault {
     Confirm(ConfirmFault),
 }
 
-/// Answers a script, and keeps the answers and the certificate in memory.
+/// Answers a script. Returns the answers and the certificate, which are kept in memory.
 pub(crate) fn run_in_memory<S: CountedRead>(
     alloc: Global,
     script: &mut S,
@@ -68,14 +68,14 @@ pub(crate) fn run_in_memory<S: CountedRead>(
     }
 }
 
-/// Answers a script in memory.
+/// Answers a script in memory. Returns the answers and the certificate.
 pub(crate) fn run_over(alloc: Global, script: &[u8], budget: u64) -> Result<Written, RunFault>
     ensures { IfOk result (λ w. CertificateGuarantee script.now budget w.summary w.answers.items w.certificate.items) }
 {
     run_in_memory(alloc, &mut Counted::new(script), budget)
 }
 
-/// Compares a script, answers and a certificate in memory.
+/// Compares a script, answers and a certificate in memory. Returns the verdict.
 pub(crate) fn confirm_over(
     alloc: Global,
     script: &[u8],
@@ -117,6 +117,7 @@ fn verdicts_over(
 }
 
 /// Answers a script, confirms what was written, and confirms the answers `claimed` with the certificate `shown`.
+/// Returns both verdicts, with what was written.
 pub fn certify_over(
     alloc: Global,
     script: &[u8],
@@ -151,9 +152,9 @@ pub fn headline_over(
     shown: &[u8],
     looks: &mut Looks,
 ) -> Result<Verdicts, HeadlineFault>
-    // Every accepted ask gets one correct answer, which is unknown only if its rounds are exhausted. The verdict on
-    // these answers is `Yes`. If the other verdict is `Yes`, the other answers are correct. The number of looks is
-    // bounded.
+    // Every accepted ask gets one correct answer, which is unknown only if its rounds are exhausted. The certificate
+    // has an empowering clause for every round, except one that found the answer. The verdict on these answers is
+    // `Yes`. If the other verdict is `Yes`, the other answers are correct. The number of looks is bounded.
     ensures headline { IfOk result (λ v. Headline script.now budget (rounds_of_asks v.written.summary.asks.items)
         v.written.answers.items v.written.certificate.items v.own claimed.now shown.now v.other looks.old looks.new) }
     // As for `confirm`, both verdicts are `Yes` exactly when the three texts match, and then the answers are correct.

@@ -1,7 +1,7 @@
-//! Decides which commands of a script are refused. This depends only on the names in use and their modes.
+//! Decides which commands of a script are refused.
 //!
-//! A command is refused if it has a name past the limit, or if it is a clause or an ask that contains a name in use
-//! whose mode is witness. The leftmost such name is the reason.
+//! This depends only on the names in use and their modes. A command is refused if it has a name past the limit, or if
+//! it is a clause or an ask that contains a name in use whose mode is witness. The leftmost such name is the reason.
 
 mod names;
 

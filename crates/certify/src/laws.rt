@@ -1,4 +1,6 @@
-//! Laws about answers, matching and the checker. Each law is the contract of a function that does nothing.
+//! Laws about answers, matching and the checker.
+//!
+//! Each law is the contract of a function that does nothing.
 ghost use Rattle.certify.specs.laws.Confirmed.{CertifiedMatches};
 ghost use Rattle.certify.specs.laws.EndToEnd.{FinishedIsConfirmed};
 ghost use Rattle.certify.specs.laws.HeadlineLaws.{CertifiedIsHeadline, RightByEvents, RightByOutcomes, SameAnswers};

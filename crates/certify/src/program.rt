@@ -15,6 +15,7 @@ pub mod opened;
 mod overlap;
 mod printing;
 mod progress;
+mod reason;
 mod standard;
 mod texts;
 mod verdict_line;
@@ -24,6 +25,7 @@ use crate::program::call::call_of;
 use crate::program::fault::ProgramFault;
 use crate::program::opened::{OpenCall, open_call};
 use crate::program::printing::{failed, misused};
+use crate::program::reason::{broken, not_opened};
 use crate::program::standard::answer;
 use crate::program::texts::{check_text, confirm_given, run_text, write_hints};
 use sat_base::{CountedRead, CountedWrite};
@@ -67,7 +69,8 @@ pub fn program<R: AllocGlobal + Files, I: CountedRead, O: CountedWrite, E: Count
     output: &mut O,
     errors: &mut E,
 ) -> u8
-    // The call that the arguments ask for is made: `DoesCall` has one line for each call. Other arguments change nothing.
+    // The call that the arguments ask for is made: `DoesCall` has one line for each call. For other arguments,
+    // nothing is read from `input`, and nothing is written to `output`.
     ensures { MatchResult arguments
         (λ words. Obeys R.File.remaining R.File.contents (map string_bytes words.items)
         (effect result (reader_before_after I.seen input.old input.new) (writer_before_after O.seen output.old output.new)))
@@ -102,7 +105,7 @@ fn obey<R: AllocGlobal + Files, I: CountedRead, O: CountedWrite, E: CountedWrite
     match open_call(rt, &call) {
         Ok(Some(mut opened)) => carry_out(rt.alloc(), &mut opened, input, output, errors),
         Ok(None) => misused(errors),
-        Err(fault) => failed(errors, fault),
+        Err(unopened) => not_opened(errors, &unopened),
     }
 }
 
@@ -119,7 +122,7 @@ pub fn carry_out<F: Read, G: Write, I: CountedRead, O: CountedWrite, E: CountedW
 {
     match make_call(alloc, call, input, output, errors) {
         Ok(status) => status,
-        Err(fault) => failed(errors, fault),
+        Err(fault) => broken(errors, call, fault),
     }
 }
 

@@ -53,7 +53,7 @@ fn answer<S: CountedRead, A: CountedWrite, C: CountedWrite + Drop>(
     end_run(session, answers, served)
 }
 
-/// Answers a script, and writes the certificate to a borrowed writer.
+/// Answers a script, and writes the certificate to a borrowed writer. Returns the summary.
 fn answer_into<S: CountedRead, A: CountedWrite, C: CountedWrite>(
     alloc: Global,
     script: &mut S,
@@ -94,11 +94,9 @@ pub fn run<S: CountedRead, A: CountedWrite, C: CountedWrite>(
     ensures answered { IfOk result
         (λ s. WritesAnswers budget s (reader_before_after S.seen script.old script.new) (writer_before_after A.seen answers.old answers.new)) }
     // The certificate's writer received steps that a checker accepts one by one, among them those of the accepted
-    // commands and of these answers, in order. Once the steps record that the clauses are unsatisfiable, those of
-    // clauses and of empty cores may be missing, and every later ask gets the empty core, without a round of search.
-    // Any other ask derives as many empowering clauses as it took rounds, or one fewer if it has a model or a core. A
-    // clause is empowering if it is new to unit propagation. If no accepted command hides a name, no variable is
-    // deleted.
+    // commands and of these answers, in order. Once the steps record that the clauses are unsatisfiable, some may be
+    // missing, and every ask without an answer gets the empty core. Every ask opened before derives as many empowering
+    // clauses as it took rounds, or one fewer if it has a model or a core.
     ensures guaranteed { CertificateIsGuaranteed result budget S.seen A.seen C.seen (script.old, answers.old, certificate.old)
         (script.new, answers.new, certificate.new) }
     ensures flushed { OnOk result (((A.seen answers.new).flushed ≡ true) × ((C.seen certificate.new).flushed ≡ true)) }
@@ -113,15 +111,15 @@ pub fn run<S: CountedRead, A: CountedWrite, C: CountedWrite>(
     // nothing else.
     ensures steps { TookSteps (writer_before_after C.seen certificate.old certificate.new) }
 
-    // A device's fault is returned only if exactly one call to the device failed, or none of 2^48 reads did.
+    // A device's fault is returned only if exactly one call to the device failed, which was the last, or if 2^48 reads
+    // were made and none failed.
     ensures script_read { IsErrOf result RunFault.ScriptRead → ReadFails (S.seen script.old) (S.seen script.new) }
     ensures answers_write { IsErrOf result RunFault.AnswersWrite
         → WriteFails (A.seen answers.old) (A.seen answers.new) }
     ensures certificate_write { IsErrOf result RunFault.CertificateWrite
         → WriteFails (C.seen certificate.old) (C.seen certificate.new) }
-    // `CounterEnd` is returned only if the bytes that were read contain 2^64-1 commands, or introduce more than 2^28
-    // variables and contain an accepted command whose names need more variables than are left after some steps. In the
-    // second case, the certificate's writer received a prefix of the text of these steps.
+    // `CounterEnd` is returned only if the bytes that were read contain at least 2^64-1 commands, or introduce more than
+    // 2^28 variables and contain an accepted command whose names need more than are left after some steps.
     ensures counter_end { IsErrOf result RunFault.CounterEnd → CounterEnds (reader_before_after S.seen script.old script.new)
         (writer_before_after C.seen certificate.old certificate.new) }
     // A call to a device has failed only if the fault of that device is returned.

@@ -11,7 +11,8 @@ use thiserror::Error;
 pub enum Verdict {
     /// The three texts match.
     Yes,
-    /// The three texts do not match. `ask` is one more than the number of accepted asks that are confirmed completely.
+    /// The three texts do not match. `why` is the first mismatch that was found, and `ask` is one more than the number
+    /// of accepted asks that were confirmed completely before. No contract says what these fields are.
     No { ask: u64, why: Why },
 }
 

@@ -37,7 +37,7 @@ fn arguments<R: Env + AllocGlobal>(rt: &R) -> io::Result<Vec<String>> {
     Ok(after_first(rt.alloc(), words)?)
 }
 
-/// Whether the descriptor of a stream is open.
+/// Returns `true` if the descriptor of a stream is open.
 fn is_open<S: AsFd>(stream: &S) -> bool {
     match stream.as_fd().try_clone_to_owned() {
         Ok(_) => true,

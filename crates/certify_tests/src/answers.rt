@@ -50,13 +50,13 @@ fn push(out: &mut Vec<u8>, kind: AnswerKind, line: &[Lit]) -> Result<(), AllocEr
     }
 }
 
-/// Tests whether `text` is what is written for an answer with the literals `line`.
+/// Returns `true` if `text` is what is written for an answer with the literals `line`.
 fn is_written(alloc: Global, kind: AnswerKind, line: &[Lit], text: &[u8]) -> bool {
     let mut out = Vec::new(alloc);
     push(&mut out, kind, line).is_ok() && out.as_slice() == text
 }
 
-/// Tests whether an answer of kind `kind` with the literals `line` is read from the start of `text`, and `rest` is
+/// Returns `true` if an answer of kind `kind` with the literals `line` is read from the start of `text`, and `rest` is
 /// left. The vector that receives the literals isn't empty before.
 fn is_read(alloc: Global, text: &[u8], kind: AnswerKind, line: &[Lit], rest: &[u8]) -> bool {
     let mut found = Vec::new(alloc);
@@ -65,8 +65,8 @@ fn is_read(alloc: Global, text: &[u8], kind: AnswerKind, line: &[Lit], rest: &[u
         && found.as_slice() == line
 }
 
-/// Tests whether `text` is written for an answer with the literals `line`, and is read as that answer, both on its own
-/// and when another answer follows.
+/// Returns `true` if `text` is written for an answer with the literals `line`, and is read as that answer, both on its
+/// own and when another answer follows.
 fn is_text_of(alloc: Global, kind: AnswerKind, line: &[Lit], text: &[u8]) -> bool {
     let mut longer = Vec::new(alloc);
     longer.extend_from_slice(text).is_ok()
@@ -117,7 +117,7 @@ fn out_of_form() -> &'static [&'static [u8]] {
 /// Texts that end where a line is expected.
 static MISSING: [&[u8]; 3] = [b"", b"s SATISFIABLE\n", b"s UNSATISFIABLE\n"];
 
-/// Tests whether every text is refused with `fault`.
+/// Returns `true` if every text is refused with `fault`.
 fn are_refused(alloc: Global, texts: &[&[u8]], fault: AnswerFault) -> bool {
     for text in texts {
         if fault_of(alloc, *text) != Some(fault) {
@@ -133,7 +133,7 @@ fn other_texts_are_no_answers(rt: HostRuntime) {
     assert!(rt; are_refused(rt.alloc(), &MISSING, AnswerFault::Missing));
 }
 
-/// Tests whether the literals `core` are read from the line of a core at the start of `text`, and `rest` is left.
+/// Returns `true` if the literals `core` are read from the line of a core at the start of `text`, and `rest` is left.
 fn core_is_read(alloc: Global, text: &[u8], core: &[i64], rest: &[u8]) -> bool {
     let mut wanted = Vec::new(alloc);
     let mut line = Vec::new(alloc);

@@ -10,7 +10,7 @@ use sat_base::{Counted, CountedRead};
 use sat_checker::Looks;
 use std::alloc::Global;
 
-/// Whether a certificate shows that the answers to a script are correct.
+/// Returns `true` if a certificate shows that the answers to a script are correct.
 fn are_right<S: CountedRead, A: CountedRead, C: CountedRead>(
     alloc: Global,
     script: &mut S,
@@ -27,7 +27,7 @@ fn are_right<S: CountedRead, A: CountedRead, C: CountedRead>(
     }
 }
 
-/// Tests whether the answers and the certificate are confirmed for a script of one unit clause and an ask.
+/// Returns `true` if the answers and the certificate are confirmed for a script of one unit clause and an ask.
 fn is_shown(alloc: Global, answers: &[u8], certificate: &[u8]) -> bool {
     are_right(
         alloc,

@@ -42,7 +42,7 @@ pub(crate) fn said_at(
     )
 }
 
-/// Tests whether the verdict on texts is `verdict`, both in one piece and byte by byte.
+/// Returns `true` if the verdict on texts is `verdict`, both in one piece and byte by byte.
 fn is_said(alloc: Global, texts: Texts<'_>, verdict: Verdict) -> bool {
     said_whole(alloc, texts) == Ok(verdict) && said_at(alloc, texts, (0, 0, 0)) == Ok(verdict)
 }
@@ -184,8 +184,8 @@ fn texts_that_do_not_match(rt: HostRuntime) {
     }
 }
 
-/// Tests whether the verdict on `ROW` with the given answers is `verdict`, when its certificate consists of `front`,
-/// `steps` and `following`.
+/// Returns `true` if the verdict on `ROW` with the given answers is `verdict`, when its certificate consists of
+/// `front`, `steps` and `following`.
 fn is_said_of(
     alloc: Global,
     answers: &[u8],
@@ -197,13 +197,14 @@ fn is_said_of(
         && is_said(alloc, (ROW, answers, certificate.as_slice()), verdict)
 }
 
-/// Tests whether the verdict is `verdict` when `step` is inserted into the certificate of `ROW` at byte `place`.
+/// Returns `true` if the verdict is `verdict` when `step` is inserted into the certificate of `ROW` at byte `place`.
 fn is_said_with(alloc: Global, place: usize, step: &[u8], verdict: Verdict) -> bool {
     let (front, following) = ROW_STEPS.split_at(place.min(ROW_STEPS.len()));
     is_said_of(alloc, ROW_ANSWERS, (front, step, following), verdict)
 }
 
-/// Tests whether the certificate of `ROW`, cut inside a step that begins at byte `place`, is refused because it ends.
+/// Returns `true` if the certificate of `ROW`, cut inside a step that begins at byte `place`, is refused because it
+/// ends.
 fn is_cut_in(alloc: Global, place: usize, step: &[u8]) -> bool {
     let ends = Verdict::No {
         ask: 1,
@@ -298,7 +299,7 @@ const FOUR_AT_0: &[u8] = &[
     0, 6, 0, 0, 1, 0,
 ];
 
-/// Tests whether each prefix of the certificate `whole` is confirmed exactly when it has at least `from` bytes.
+/// Returns `true` if each prefix of the certificate `whole` is confirmed exactly when it has at least `from` bytes.
 fn counts_from(alloc: Global, whole: &[u8], from: usize) -> bool {
     let ends = Verdict::No {
         ask: 1,
@@ -313,7 +314,7 @@ fn counts_from(alloc: Global, whole: &[u8], from: usize) -> bool {
     is_yes(alloc, (SIXTH, NONE_LEFT, whole))
 }
 
-/// Tests whether `certificate`, with an ask and the end appended, is confirmed exactly when all of `certificate`
+/// Returns `true` if `certificate`, with an ask and the end appended, is confirmed exactly when all of `certificate`
 /// is there.
 fn is_confirmed_from_its_end(alloc: Global, certificate: &[u8]) -> bool {
     let mut whole = Vec::new(alloc);
@@ -373,7 +374,7 @@ fn looked_at() -> &'static [(&'static [u8], &'static [u8])] {
     &LOOKED_AT
 }
 
-/// Tests whether a verdict adds as many looks as the checker takes, and at least one.
+/// Returns `true` if a verdict adds as many looks as the checker takes, and at least one.
 fn are_counted(alloc: Global, answers: &[u8], certificate: &[u8], looks: &mut Looks) -> bool {
     let counted = looks_of(alloc, certificate);
     counted > 0 && looks_added(alloc, (SIXTH, answers, certificate), looks) == counted
@@ -426,7 +427,7 @@ fn cores() -> &'static [(&'static [u8], &'static [u8], Why)] {
     &CORES
 }
 
-/// Tests whether the verdict is `No` because of `why`, when `following` follows the ask's assumptions in the
+/// Returns `true` if the verdict is `No` because of `why`, when `following` follows the ask's assumptions in the
 /// certificate of `ROW`.
 fn is_refused_after(alloc: Global, answers: &[u8], following: &[u8], why: Why) -> bool {
     let verdict = Verdict::No { ask: 1, why };
@@ -657,8 +658,8 @@ fn nothing_is_read_after_the_decision(rt: HostRuntime) {
     }
 }
 
-/// Tests whether `fault` is returned whenever one of the first `reads` reads of a text fails. The text is the script
-/// (0), the answers (1) or the certificate (2).
+/// Returns `true` if `fault` is returned whenever one of the first `reads` reads of a text fails. The text is the
+/// script (0), the answers (1) or the certificate (2).
 fn each_fails(alloc: Global, texts: Texts<'_>, text: u8, reads: u64, fault: ConfirmFault) -> bool {
     for failing in 1..=reads {
         let reads = match text {
@@ -673,8 +674,8 @@ fn each_fails(alloc: Global, texts: Texts<'_>, text: u8, reads: u64, fault: Conf
     true
 }
 
-/// Tests whether every failing read is reported as a fault of its text, and no further read is made. Script and answers
-/// are read up to their end, which takes one more read; the certificate is read `reads` times.
+/// Returns `true` if every failing read is reported as a fault of its text, and no further read is made. Script and
+/// answers are read up to their end, which takes one more read; the certificate is read `reads` times.
 fn each_read_fails(alloc: Global, texts: Texts<'_>, reads: u64) -> bool {
     let script = (texts.0.len() as u64).saturating_add(1);
     let answers = (texts.1.len() as u64).saturating_add(1);

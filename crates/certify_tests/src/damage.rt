@@ -12,7 +12,7 @@ fn turn(bytes: &mut [u8], place: usize, bit: usize) {
     }
 }
 
-/// Whether there is a verdict, which may be `Yes` only if `may_match`.
+/// Returns `true` if there is a verdict, which may be `Yes` only if `may_match`.
 fn may_be(said: Result<Verdict, ConfirmFault>, may_match: bool) -> bool {
     match said {
         Ok(Verdict::Yes) => may_match,
@@ -21,7 +21,7 @@ fn may_be(said: Result<Verdict, ConfirmFault>, may_match: bool) -> bool {
     }
 }
 
-/// Tests whether answers with one flipped bit are never confirmed.
+/// Returns `true` if answers with one flipped bit are never confirmed.
 fn answers_are_denied(
     alloc: Global,
     script: &[u8],
@@ -41,7 +41,7 @@ fn answers_are_denied(
     true
 }
 
-/// Tests whether there is a verdict for every certificate with one flipped bit. It may be `Yes`, since the answers
+/// Returns `true` if there is a verdict for every certificate with one flipped bit. It may be `Yes`, since the answers
 /// are correct.
 fn certificates_are_reported(
     alloc: Global,

@@ -145,7 +145,7 @@ pub(crate) fn append(bytes: &mut Vec<u8>, parts: &[&[u8]]) -> bool {
     true
 }
 
-/// Tests whether `words` is what is printed for a value.
+/// Returns `true` if `words` is what is printed for a value.
 pub(crate) fn is_printed<T: Display>(alloc: Global, value: &T, words: &str) -> bool {
     match format!(in alloc; "{value}") {
         Ok(printed) => printed.as_str() == words,

@@ -89,8 +89,8 @@ fn rows() -> &'static [(
     &ENDLESS
 }
 
-/// Tests whether the verdict is `No` because of `why`, after at most 11 reads of the answers: one for `text`, and at
-/// most ten of one or two bytes, for the digits of a number past the limit.
+/// Returns `true` if the verdict is `No` because of `why`, after at most 11 reads of the answers: one for `text`, and
+/// at most ten of one or two bytes, for the digits of a number past the limit.
 fn is_refused(alloc: Global, texts: (&[u8], &[u8]), text: &[u8], again: &[u8], why: Why) -> bool {
     let (said, reads) = said_of(alloc, texts, text, again);
     match said {
@@ -123,8 +123,8 @@ fn malformed_there() -> &'static [(&'static [u8], &'static [u8])] {
     &MALFORMED_THERE
 }
 
-/// Tests whether a script that is read byte by byte has the answers `answers`, and they are confirmed, although a read
-/// after its last byte would fail.
+/// Returns `true` if a script that is read byte by byte has the answers `answers`, and they are confirmed, although a
+/// read after its last byte would fail.
 fn is_decided(alloc: Global, text: &[u8], answers: &[u8]) -> bool {
     let following = (text.len() as u64).saturating_add(1);
     let written = run_on(alloc, &mut fails_at(text, following), AMPLE);
@@ -143,7 +143,7 @@ fn nothing_is_read_after_a_wrong_word(rt: HostRuntime) {
     }
 }
 
-/// Tests whether a script that repeats `again` without end is malformed at once, and is read only once.
+/// Returns `true` if a script that repeats `again` without end is malformed at once, and is read only once.
 fn is_read_once(alloc: Global, again: &[u8]) -> bool {
     let mut script = Counted::new(Endless {
         text: b"",
@@ -180,8 +180,8 @@ fn with_zeros(text: &[u8]) -> Counted<Endless<'_>> {
     })
 }
 
-/// Tests whether a script with zeros after it has the answers `answers`, and they are confirmed, with one read of the
-/// script by each of `run` and `confirm`.
+/// Returns `true` if a script with zeros after it has the answers `answers`, and they are confirmed, with one read of
+/// the script by each of `run` and `confirm`.
 fn is_ended(alloc: Global, text: &[u8], answers: &[u8]) -> bool {
     let mut script = with_zeros(text);
     let written = run_on(alloc, &mut script, AMPLE);

@@ -1,6 +1,7 @@
 //! Tests of the program's calls on files, each in a folder of its own.
 
 use crate::devices::fails_at;
+use crate::program::USAGE;
 use certify::program::program;
 use sat_base::Counted;
 use std::os::unix::fs::symlink;
@@ -86,7 +87,7 @@ impl Folder<'_> {
         (status, output.into_inner(), errors.into_inner())
     }
 
-    /// Tests whether a call ends with the given status, output and errors.
+    /// Returns `true` if a call ends with the given status, output and errors.
     fn does(&self, call: Words<'_>, (status, printed, reported): End) -> bool {
         let (found, output, errors) = self.call(call);
         found == status
@@ -94,16 +95,27 @@ impl Folder<'_> {
             && errors.as_slice() == reported.as_bytes()
     }
 
-    /// Tests whether a call ends with `status` and prints nothing, whatever it writes to its errors.
+    /// Returns `true` if a call ends with a fault: it prints nothing, and writes the fault's name to its errors, and
+    /// then the path of the file that failed, and the reason.
+    fn breaks(&self, call: Words<'_>, (fault, name, reason): Fault<'_>) -> io::Result<bool> {
+        let path = self.path_of(name)?;
+        let reported = format!(in self.rt.alloc();
+            "certify: {fault}\ncertify: {path}: {reason}\n"
+        )?;
+        Ok(self.does(call, (3, "", reported.as_str())))
+    }
+
+    /// Returns `true` if a call ends with `status` and prints nothing, whatever it writes to its errors.
     fn ends(&self, call: Words<'_>, status: u8) -> bool {
         let (found, output, _) = self.call(call);
         found == status && output.is_empty()
     }
 
-    /// Tests whether a call reports that its output can't be written, when call number `failing` of the output fails.
+    /// Returns `true` if a call reports that its output can't be written, when call number `failing` of the output
+    /// fails.
     fn reports_fault(&self, call: Words<'_>, failing: u64) -> bool {
         let (found, errors) = self.call_failing(call, failing);
-        found == 3 && errors.as_slice() == b"certify: AnswersWrite\n".as_slice()
+        found == 3 && errors.as_slice() == NOT_PRINTED.as_bytes()
     }
 
     /// Carries out an action. Returns whether it succeeds or, for a check, whether the check holds.
@@ -114,6 +126,7 @@ impl Folder<'_> {
             Action::Name(original, name) => self.link(original, name, true).is_ok(),
             Action::Holds(name, bytes) => self.holds(name, bytes),
             Action::Does(call, end) => self.does(*call, *end),
+            Action::Breaks(call, fault) => self.breaks(*call, *fault).unwrap_or(false),
             Action::Ends(call, status) => self.ends(*call, *status),
             Action::Fails(call, failing) => self.reports_fault(*call, *failing),
         }
@@ -141,6 +154,12 @@ type Words<'a> = (&'a str, &'a [&'a str], &'a str);
 /// The outcome of a call: the status, the output and the errors.
 type End<'a> = (u8, &'a str, &'a str);
 
+/// The name of a fault, the name of the file that failed, and the reason.
+type Fault<'a> = (&'a str, &'a str, &'a str);
+
+/// What is written to standard error when standard output fails.
+const NOT_PRINTED: &str = "certify: AnswersWrite\ncertify: standard output: a write failed\n";
+
 /// An action in a folder, or a check of a file or a call.
 #[derive(Drop)]
 enum Action<'a> {
@@ -151,6 +170,8 @@ enum Action<'a> {
     Name(&'a str, &'a str),
     Holds(&'a str, &'a [u8]),
     Does(Words<'a>, End<'a>),
+    /// Calls the program, which ends with a fault of a file.
+    Breaks(Words<'a>, Fault<'a>),
     /// Calls the program, which ends with the given status and prints nothing.
     Ends(Words<'a>, u8),
     /// Calls the program while one call of its output fails, which it reports.
@@ -238,15 +259,23 @@ const CHECKED: &[&[Action<'static>]] = &[
         Action::Does(("check", &["h"], ""), (1, "bad 2 NotFalsified\n", "")),
     ],
     &[
+        Action::Put("h", b"i 1 1 2 0\ne 2 0\n"),
+        Action::Does(("check", &["h"], ""), (1, "bad 2 VarInUse\n", "")),
+    ],
+    &[
         Action::Put("h", b""),
         Action::Fails(("check", &["h"], ""), 1),
         Action::Fails(("check", &["h"], ""), 2),
     ],
 ];
 
-/// Standard error of runs: without rounds, with the binary clause 1 2, and with only one name, which has a unit.
+/// Standard error of runs: without rounds, with a malformed first command, with the binary clause 1 2, and with only one
+/// name, which has a unit.
 const NO_ROUND: &str =
     "[INFO  certify] progress conflicts=0 restarts=0 vars=0 binary=0 irred=0 core=0 mid=0 local=0\n";
+
+const MALFORMED: &str =
+    "[INFO  certify] progress conflicts=0 restarts=0 vars=0 binary=0 irred=0 core=0 mid=0 local=0 malformed at command 1\n";
 
 const ONE_PAIR: &str =
     "[INFO  certify] progress conflicts=1 restarts=1 vars=2 binary=1 irred=0 core=0 mid=0 local=0\n";
@@ -279,7 +308,7 @@ const RUN: &[&[Action<'static>]] = &[
     ],
     &[
         Action::Put("s", b"1 2"),
-        Action::Does(("run", &["s", "a", "c"], ""), (1, "", NO_ROUND)),
+        Action::Does(("run", &["s", "a", "c"], ""), (1, "", MALFORMED)),
         Action::Holds("a", b"c malformed 1\n"),
         Action::Does(("confirm", &["s", "a", "c"], ""), (0, "yes\n", "")),
         Action::Put("a", b"s UNSATISFIABLE\nf 0\n"),
@@ -290,45 +319,44 @@ const RUN: &[&[Action<'static>]] = &[
     ],
 ];
 
+/// The system's reason for a missing file.
+const MISSING: &str = "No such file or directory (os error 2)";
+
 /// Calls with the file `s`, a missing file, and a file in a missing folder.
 const UNOPENED: &[&[Action<'static>]] = &[&[
     Action::Put("s", b"1 0\na 0\n"),
-    Action::Does(("check", &["n"], ""), (3, "", "certify: Read\n")),
-    Action::Does(("hints", &["n", "n/h"], ""), (3, "", "certify: Read\n")),
-    Action::Does(("hints", &["s", "n/h"], ""), (3, "", "certify: Write\n")),
-    Action::Does(
+    Action::Breaks(("check", &["n"], ""), ("Read", "n", MISSING)),
+    Action::Breaks(("hints", &["n", "n/h"], ""), ("Read", "n", MISSING)),
+    Action::Breaks(("hints", &["s", "n/h"], ""), ("Write", "n/h", MISSING)),
+    Action::Breaks(
         ("run", &["n", "n/a", "n/c"], ""),
-        (3, "", "certify: ScriptRead\n"),
+        ("ScriptRead", "n", MISSING),
     ),
-    Action::Does(
+    Action::Breaks(
         ("run", &["s", "n/a", "n/c"], ""),
-        (3, "", "certify: AnswersWrite\n"),
+        ("AnswersWrite", "n/a", MISSING),
     ),
-    Action::Does(
+    Action::Breaks(
         ("run", &["s", "a", "n/c"], ""),
-        (3, "", "certify: CertificateWrite\n"),
+        ("CertificateWrite", "n/c", MISSING),
     ),
-    Action::Does(
+    Action::Breaks(
         ("confirm", &["n", "n", "n"], ""),
-        (3, "", "certify: ScriptRead\n"),
+        ("ScriptRead", "n", MISSING),
     ),
-    Action::Does(
+    Action::Breaks(
         ("confirm", &["s", "n", "n"], ""),
-        (3, "", "certify: AnswersRead\n"),
+        ("AnswersRead", "n", MISSING),
     ),
-    Action::Does(
+    Action::Breaks(
         ("confirm", &["s", "s", "n"], ""),
-        (3, "", "certify: CertificateRead\n"),
+        ("CertificateRead", "n", MISSING),
     ),
-    Action::Does(("check", &["."], ""), (3, "", "certify: Read\n")),
+    Action::Breaks(("check", &["."], ""), ("Read", ".", "a read failed")),
 ]];
 
 /// The usage, printed for a call that would overwrite its input, or write a file twice.
-const REFUSED: End<'static> = (
-    2,
-    "",
-    "usage: certify [run S A C [STEPS] | confirm S A C | hints C H | check H]\n",
-);
+const REFUSED: End<'static> = (2, "", USAGE);
 
 /// Outputs that are the input or the other output: by the same path, another path, a symbolic link, or a hard link.
 /// Nothing is overwritten.
@@ -359,7 +387,7 @@ const OVERLAPPING: &[&[Action<'static>]] = &[
         Action::Does(("run", &["s", "o", "./o"], ""), REFUSED),
         Action::Holds("o", b"old"),
         Action::Does(("run", &["s", "p", "p"], ""), REFUSED),
-        Action::Does(("check", &["p"], ""), (3, "", "certify: Read\n")),
+        Action::Breaks(("check", &["p"], ""), ("Read", "p", MISSING)),
         Action::Does(("run", &["s", "p", "./p"], ""), REFUSED),
         Action::Holds("p", b""),
     ],
@@ -375,19 +403,19 @@ const OVERLAPPING: &[&[Action<'static>]] = &[
 const FULL: &[&[Action<'static>]] = &[&[
     Action::Put("s", b"1 0\na 0\n"),
     Action::Link("/dev/full", "full"),
-    Action::Does(
+    Action::Breaks(
         ("run", &["s", "full", "c"], ""),
-        (3, "", "certify: AnswersWrite\n"),
+        ("AnswersWrite", "full", "a write failed"),
     ),
-    Action::Does(
+    Action::Breaks(
         ("run", &["s", "a", "full"], ""),
-        (3, "", "certify: CertificateWrite\n"),
+        ("CertificateWrite", "full", "a write failed"),
     ),
 ]];
 
 const TABLES: &[&[&[Action<'static>]]] = &[HINTED, CHECKED, RUN, UNOPENED];
 
-/// Tests whether all actions of every row succeed, in a new folder.
+/// Returns `true` if all actions of every row succeed, in a new folder.
 fn are_so(rt: &HostRuntime, name: &str, rows: &[&[Action<'_>]]) -> bool {
     match Folder::new(rt, name) {
         Ok(folder) => {
@@ -561,8 +589,8 @@ static WORKED: [(&str, u8, &str, &str); 24] = [
     ),
 ];
 
-/// Tests whether a script has the answers `answers`, they are confirmed, and `check` prints `proved` for the hint text
-/// of its certificate.
+/// Returns `true` if a script has the answers `answers`, they are confirmed, and `check` prints `proved` for the hint
+/// text of its certificate.
 fn is_worked<'x>(
     folder: &Folder<'_>,
     (script, status, answers, proved): (&'x str, u8, &'x str, &'x str),

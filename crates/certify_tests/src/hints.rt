@@ -37,8 +37,8 @@ fn hinted_in(alloc: Global, certificate: &[u8], size: usize) -> (Vec<u8>, Option
 /// Whether a text derives an empty clause, how many cores it has, and how many lines.
 type Fields = (bool, u64, u64);
 
-/// Tests whether `text` is the hint text of a script's certificate, and is proved with the given fields, in one piece
-/// and byte by byte.
+/// Returns `true` if `text` is the hint text of a script's certificate, and is proved with the given fields, in one
+/// piece and byte by byte.
 fn is_hinted(alloc: Global, script: &[u8], text: &[u8], (empty, cores, lines): Fields) -> bool {
     let certificate = certificate_of(alloc, script);
     let proved = HintVerdict::Proved {
@@ -119,7 +119,7 @@ fn certificates_have_hint_texts(rt: HostRuntime) {
     }
 }
 
-/// Whether a hint text was proved. `wanted` is whether it derives an empty clause, and how many cores it has.
+/// Returns `true` if a hint text was proved. `wanted` is whether it derives an empty clause, and how many cores it has.
 fn is_proved_with(said: Option<HintVerdict>, wanted: (bool, u64)) -> bool {
     match said {
         Some(HintVerdict::Proved { empty, cores, .. }) => (empty, cores) == wanted,
@@ -127,8 +127,8 @@ fn is_proved_with(said: Option<HintVerdict>, wanted: (bool, u64)) -> bool {
     }
 }
 
-/// Tests whether the hint text of a script's certificate is proved, in one piece and byte by byte. `wanted` is whether
-/// it derives an empty clause, and how many cores it has.
+/// Returns `true` if the hint text of a script's certificate is proved, in one piece and byte by byte. `wanted` is
+/// whether it derives an empty clause, and how many cores it has.
 pub(crate) fn is_proved(alloc: Global, script: &[u8], wanted: (bool, u64)) -> bool {
     let certificate = certificate_of(alloc, script);
     for size in [1, 4096] {
@@ -166,7 +166,8 @@ fn convert_at(alloc: Global, certificate: &[u8], failing: (u64, u64)) -> (End, u
     (end, reader.into_inner().calls, out.into_inner().calls)
 }
 
-/// Tests whether a failure of each read and each write of a conversion is reported, and is the last call of its device.
+/// Returns `true` if a failure of each read and each write of a conversion is reported, and is the last call of its
+/// device.
 fn each_call_fails(alloc: Global, certificate: &[u8]) -> bool {
     let (end, reads, writes) = convert_at(alloc, certificate, (0, 0));
     for at in 1..=reads {
@@ -184,7 +185,7 @@ fn each_call_fails(alloc: Global, certificate: &[u8]) -> bool {
     end == End::Done && reads > 50 && writes > 0
 }
 
-/// Tests whether a failure of each read of a hint text is reported, including the read that finds its end.
+/// Returns `true` if a failure of each read of a hint text is reported, including the read that finds its end.
 fn each_read_fails(alloc: Global, text: &[u8]) -> bool {
     for at in 0..=text.len() {
         let failing = (at as u64).saturating_add(1);
@@ -195,7 +196,7 @@ fn each_read_fails(alloc: Global, text: &[u8]) -> bool {
     true
 }
 
-/// Tests whether every failing call is reported, for the certificate that a run writes for a script, and for its
+/// Returns `true` if every failing call is reported, for the certificate that a run writes for a script, and for its
 /// hint text.
 fn are_reported(alloc: Global, script: &[u8]) -> bool {
     let certificate = certificate_of(alloc, script);

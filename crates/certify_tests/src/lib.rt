@@ -23,6 +23,8 @@ mod files;
 #[cfg(test)]
 mod hints;
 #[cfg(test)]
+mod mismatches;
+#[cfg(test)]
 mod names;
 #[cfg(test)]
 mod pieces;

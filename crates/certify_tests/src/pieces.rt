@@ -90,7 +90,7 @@ fn said_in(
     (said, asked.max(certificate.into_inner().largest))
 }
 
-/// Tests whether texts are confirmed in pieces of various sizes.
+/// Returns `true` if texts are confirmed in pieces of various sizes.
 fn are_confirmed(alloc: Global, texts: (&[u8], &[u8], &[u8])) -> bool {
     for piece in [1, 2, 4095, 4096, 8192] {
         let (said, asked) = said_in(alloc, texts, piece);
@@ -101,7 +101,7 @@ fn are_confirmed(alloc: Global, texts: (&[u8], &[u8], &[u8])) -> bool {
     true
 }
 
-/// Tests whether the clause and its model are confirmed.
+/// Returns `true` if the clause and its model are confirmed.
 fn is_confirmed(alloc: Global) -> io::Result<bool> {
     let lits = literals(alloc)?;
     let script = script_of(alloc, &lits)?;
@@ -130,7 +130,7 @@ fn answers_in(alloc: Global, script: &[u8], piece: usize) -> Option<Vec<u8>> {
     }
 }
 
-/// Tests whether runs over a clause of all literals are confirmed, with the same answers in pieces of 1 byte and of
+/// Returns `true` if runs over a clause of all literals are confirmed, with the same answers in pieces of 1 byte and of
 /// 4,096 bytes.
 fn is_run(alloc: Global) -> Result<bool, AllocError> {
     let lits = literals(alloc)?;

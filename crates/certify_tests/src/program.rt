@@ -1,7 +1,8 @@
 //! Tests of the program's statuses and of what it prints.
 
-use crate::devices::fails_at;
-use certify::program::program;
+use crate::devices::{FailsAt, fails_at};
+use certify::program::opened::{OpenCall, OpenFile, OpenRun};
+use certify::program::{carry_out, program};
 use sat_base::{Counted, CountedRead};
 use std::alloc::{AllocError, Global};
 use std::io;
@@ -10,7 +11,7 @@ use std::io::ErrorKind;
 /// Arguments of the program.
 type Words = io::Result<Vec<String>>;
 
-/// Tests whether the program ends with the given status, output and errors.
+/// Returns `true` if the program ends with the given status, output and errors.
 pub(crate) fn does<I: CountedRead>(
     rt: &HostRuntime,
     words: Words,
@@ -48,6 +49,17 @@ const ONE_NAME: &str =
 const SEVEN_ROUNDS: &str =
     "[INFO  certify] progress conflicts=7 restarts=1 vars=0 binary=19 irred=3 core=1 mid=0 local=0\n";
 
+/// Standard error of runs without rounds: of a script that is malformed at its first command, one without asks, and one
+/// whose only command is refused.
+const MALFORMED: &str =
+    "[INFO  certify] progress conflicts=0 restarts=0 vars=0 binary=0 irred=0 core=0 mid=0 local=0 malformed at command 1\n";
+
+const NO_ASK: &str =
+    "[INFO  certify] progress conflicts=0 restarts=0 vars=0 binary=0 irred=0 core=0 mid=0 local=0 no ask in this script\n";
+
+const REFUSED: &str =
+    "[INFO  certify] progress conflicts=0 restarts=0 vars=0 binary=0 irred=0 core=0 mid=0 local=0 no accepted ask in this script\n";
+
 /// A script, the standard output, the status, and the standard error.
 static SCRIPTS: [(&str, &str, u8, &str); 15] = [
     (
@@ -62,7 +74,7 @@ static SCRIPTS: [(&str, &str, u8, &str); 15] = [
         0,
         ONE_PAIR,
     ),
-    ("", "c confirmed\n", 0, NO_ROUND),
+    ("", "c confirmed\n", 0, NO_ASK),
     (
         "1 0\n-1 0\na 0\n",
         "s UNSATISFIABLE\nf 0\nc confirmed\n",
@@ -73,13 +85,13 @@ static SCRIPTS: [(&str, &str, u8, &str); 15] = [
         "268435457 0\n",
         "c refused 1 limit\nc confirmed\n",
         0,
-        NO_ROUND,
+        REFUSED,
     ),
-    ("1 2", "c malformed 1\nc confirmed\n", 1, NO_ROUND),
-    ("-0 0\n", "c malformed 1\nc confirmed\n", 1, NO_ROUND),
-    ("+1 0\n", "c malformed 1\nc confirmed\n", 1, NO_ROUND),
-    ("1 a 0\n", "c malformed 1\nc confirmed\n", 1, NO_ROUND),
-    ("b 0\n", "c malformed 1\nc confirmed\n", 1, NO_ROUND),
+    ("1 2", "c malformed 1\nc confirmed\n", 1, MALFORMED),
+    ("-0 0\n", "c malformed 1\nc confirmed\n", 1, MALFORMED),
+    ("+1 0\n", "c malformed 1\nc confirmed\n", 1, MALFORMED),
+    ("1 a 0\n", "c malformed 1\nc confirmed\n", 1, MALFORMED),
+    ("b 0\n", "c malformed 1\nc confirmed\n", 1, MALFORMED),
     (
         "p cnf 2 1\n1 2 0\n%\n0\n",
         "s SATISFIABLE\nv -1 2 0\nc confirmed\n",
@@ -102,7 +114,7 @@ static SCRIPTS: [(&str, &str, u8, &str); 15] = [
         "p cnf 1 0\na 268435457 0\n",
         "c refused 1 limit\nc confirmed\n",
         0,
-        NO_ROUND,
+        REFUSED,
     ),
     (
         "1 2 0\na -1 0\nh 1 0\nw 2 0\na 2 0\n1 0\na -2 0\n",
@@ -136,16 +148,24 @@ fn words(alloc: Global, words: &[&str]) -> Result<Vec<String>, AllocError> {
     Ok(list)
 }
 
-/// Tests whether the program, called with the arguments `words`, ends with `status`, prints nothing, and writes
+/// Returns `true` if the program, called with the arguments `words`, ends with `status`, prints nothing, and writes
 /// `reported` to its errors.
 fn is_reported(rt: &HostRuntime, words: Words, status: u8, reported: &str) -> bool {
     let mut input = Counted::new("a 0\n".as_bytes());
     does(rt, words, &mut input, (status, "", reported))
 }
 
-const USAGE: &str = "usage: certify [run S A C [STEPS] | confirm S A C | hints C H | check H]\n";
+/// What is written for arguments that are no call.
+pub(crate) const USAGE: &str = "\
+    usage: certify [run S A C [STEPS] | confirm S A C | hints C H | check H]\n\
+    S: script, A: its answers, C: their certificate, H: hint text, STEPS: limit on search rounds per ask; \
+    an output must not be an input or the other output; without arguments, standard input is the script\n";
 
-static MISUSES: [&[&str]; 13] = [
+static MISUSES: [&[&str]; 17] = [
+    &["--help"],
+    &["-h"],
+    &["prove", "h"],
+    &["solve", "s", "a", "c"],
     &["confirm", "s", "a", "c", "1"],
     &["confirm", "s", "a"],
     &["check"],
@@ -165,7 +185,7 @@ fn misuses() -> &'static [&'static [&'static str]] {
     &MISUSES
 }
 
-/// Tests whether the program prints the usage when it is called with the arguments `list`.
+/// Returns `true` if the program prints the usage when it is called with the arguments `list`.
 fn is_misuse(rt: &HostRuntime, list: &[&str]) -> bool {
     match words(rt.alloc(), list) {
         Ok(words) => is_reported(rt, Ok(words), 2, USAGE),
@@ -188,10 +208,14 @@ fn arguments_want_memory(rt: HostRuntime) {
     assert!(rt; is_reported(&rt, no_memory, 3, "certify: OutOfMemory\n"));
 }
 
-/// Tests whether a failure of each read is reported, including the read that finds the end.
+/// Returns `true` if a failure of each read is reported, including the read that finds the end.
 #[test]
 fn standard_input_fails(rt: HostRuntime) {
-    let wanted = (3, "", "certify: ScriptRead\n");
+    let wanted = (
+        3,
+        "",
+        "certify: ScriptRead\ncertify: standard input: a read failed\n",
+    );
     for failing in 1..12 {
         let mut input = fails_at(b"1 2 0\na 0\n", failing);
         assert!(rt;
@@ -219,7 +243,7 @@ static TAKEN: [(u64, usize); 3] = [(1, 0), (2, 23), (3, 35)];
 
 /// Standard error when the output fails after a run with the binary clause 1 2.
 const NOT_PRINTED: &str =
-    "[INFO  certify] progress conflicts=1 restarts=1 vars=2 binary=1 irred=0 core=0 mid=0 local=0\ncertify: AnswersWrite\n";
+    "[INFO  certify] progress conflicts=1 restarts=1 vars=2 binary=1 irred=0 core=0 mid=0 local=0\ncertify: AnswersWrite\ncertify: standard output: a write failed\n";
 
 /// The calls that fail are the write of the answers, the write of the last line, and the flush. Nothing more is written
 /// after the failure.
@@ -242,10 +266,49 @@ fn errors_fail(rt: &HostRuntime, failing: u64) -> (u8, bool) {
     (status, output.into_inner().is_empty())
 }
 
-/// Tests whether the status is the same when any call of standard error fails.
+/// Returns `true` if the status is the same when any call of standard error fails.
 #[test]
 fn standard_error_fails(rt: HostRuntime) {
-    for failing in 1..5 {
+    for failing in 1..11 {
         assert!(rt; errors_fail(&rt, failing) == (3, true), "{failing}");
     }
+}
+
+/// Returns `true` if a script is answered when a line begins with `%`, although the next read would fail.
+#[test]
+fn nothing_is_read_after_the_end(rt: HostRuntime) {
+    let mut input = fails_at(b"1 0\na 0\n%", 10);
+    let wanted = (0, "s SATISFIABLE\nv 1 0\nc confirmed\n", NO_NAME);
+    assert!(rt; does(&rt, Ok(Vec::new(rt.alloc())), &mut input, wanted));
+}
+
+/// Returns a file in memory that holds `text`.
+fn file<'a>(path: &'a str, text: &'a [u8]) -> OpenFile<'a, FailsAt<'a>> {
+    OpenFile {
+        path,
+        device: fails_at(text, 0),
+    }
+}
+
+/// Returns the status of a run over files in memory, and how many bytes of answers it wrote.
+fn run_in_memory(rt: &HostRuntime, script: &[u8]) -> (u8, usize) {
+    let mut call = OpenCall::Run(OpenRun {
+        script: file("s", script),
+        answers: file("a", b""),
+        certificate: file("c", b""),
+        budget: u64::MAX,
+    });
+    let mut input = fails_at(b"", 1);
+    let mut output = fails_at(b"", 1);
+    let mut errors = Counted::new(Vec::new(rt.alloc()));
+    let status = carry_out(rt.alloc(), &mut call, &mut input, &mut output, &mut errors);
+    match call {
+        OpenCall::Run(run) => (status, run.answers.device.into_inner().taken),
+        _ => (status, 0),
+    }
+}
+
+#[test]
+fn a_run_is_carried_out_in_memory(rt: HostRuntime) {
+    assert!(rt; run_in_memory(&rt, b"1 2 0\na 0\n") == (0, 23));
 }

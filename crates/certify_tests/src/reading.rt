@@ -91,7 +91,7 @@ const READ: [(&str, &str); 17] = [
     ("a\nc 1\n 1\n0 b", "a 1;x"),
 ];
 
-/// Tests whether `expected` is returned for the text, read in one piece and in smaller ones.
+/// Returns `true` if `expected` is returned for the text, read in one piece and in smaller ones.
 fn reads(alloc: Global, (text, expected): (&str, &str)) -> bool {
     for size in [1, 2, 3, 4096] {
         match read_in(alloc, text.as_bytes(), size) {

@@ -17,7 +17,7 @@ const FOURTH: &[u8] = b"1 2 0\na 0\n";
 const SIXTH: &[u8] = b"1 2 0\n1 -2 0\n-1 2 0\n-1 -2 0\na 0\n";
 
 /// A script, a budget, and the answers.
-static ANSWERS: [(&[u8], u64, &[u8]); 52] = [
+static ANSWERS: [(&[u8], u64, &[u8]); 57] = [
     (
         b"1 2 0\n3 4 0\n5 6 0\n-1 -3 0\n-1 -5 0\n-3 -5 0\n-2 -4 0\n-2 -6 0\n-4 -6 0\na 0\n",
         AMPLE,
@@ -96,6 +96,13 @@ static ANSWERS: [(&[u8], u64, &[u8]); 52] = [
         b"c refused 1 limit\nc refused 2 limit\nc refused 3 limit\nc refused 4 limit\n",
     ),
     (b"h 0\nw 0\ns 0\na 0\n", AMPLE, b"s SATISFIABLE\nv 0\n"),
+    (b"h 1 1 0\na 0\n", AMPLE, b"s SATISFIABLE\nv 0\n"),
+    (
+        b"w 1 0\nh 1 0\n1 0\na 0\n",
+        AMPLE,
+        b"s SATISFIABLE\nv 1 0\n",
+    ),
+    (b"1 0\nh -1 0\n", AMPLE, b"c malformed 2\n"),
     (b"268435457 0\n", AMPLE, b"c refused 1 limit\n"),
     (
         b"1 0\n268435457 0\na 0\n",
@@ -131,6 +138,16 @@ static ANSWERS: [(&[u8], u64, &[u8]); 52] = [
     (b"p cnf 1 0\na 268435457 0\n", AMPLE, b"c refused 1 limit\n"),
     (b"p cnf 1 0\nw 1 0\n", AMPLE, b"s SATISFIABLE\nv -1 0\n"),
     (b"1 0\n%\na 0\n", AMPLE, b""),
+    (
+        b"1 2 0\na 0\na 0\n",
+        AMPLE,
+        b"s SATISFIABLE\nv -1 2 0\ns SATISFIABLE\nv -1 2 0\n",
+    ),
+    (
+        b"-1 -2 0\na 1 2 0\na 1 2 0\n",
+        AMPLE,
+        b"s UNSATISFIABLE\nf 1 2 0\ns UNSATISFIABLE\nf 1 2 0\n",
+    ),
 ];
 
 fn all_answers() -> &'static [(&'static [u8], u64, &'static [u8])] {
@@ -138,7 +155,7 @@ fn all_answers() -> &'static [(&'static [u8], u64, &'static [u8])] {
 }
 
 /// Returns the verdict on three texts that are read in pieces of `size` bytes.
-fn said_in(
+pub(crate) fn said_in(
     alloc: Global,
     (script, answers, certificate): (&[u8], &[u8], &[u8]),
     size: usize,
@@ -152,7 +169,7 @@ fn said_in(
     )
 }
 
-/// Tests whether a run over a script in pieces of `size` bytes writes the answers `answers`, and they are confirmed
+/// Returns `true` if a run over a script in pieces of `size` bytes writes the answers `answers`, and they are confirmed
 /// with its certificate.
 fn is_confirmed_in(alloc: Global, text: &[u8], budget: u64, answers: &[u8], size: usize) -> bool {
     let written = run_on(alloc, &mut in_pieces(text, size), budget);
@@ -164,7 +181,8 @@ fn is_confirmed_in(alloc: Global, text: &[u8], budget: u64, answers: &[u8], size
     written.has_answers(answers) && said_in(alloc, texts, size) == Ok(Verdict::Yes)
 }
 
-/// Tests whether a run over a script writes the answers `answers`, and they are confirmed, in pieces of various sizes.
+/// Returns `true` if a run over a script writes the answers `answers`, and they are confirmed, in pieces of various
+/// sizes.
 fn is_confirmed_in_pieces(alloc: Global, text: &[u8], budget: u64, answers: &[u8]) -> bool {
     for size in [1, 2, 4095, 4096] {
         if !is_confirmed_in(alloc, text, budget, answers, size) {
@@ -237,14 +255,14 @@ fn pieces_are_small(rt: HostRuntime) {
     assert!(rt; largest_piece(rt.alloc(), SIXTH) == 4096);
 }
 
-/// Tests whether `certificate` is what a run writes for a script.
+/// Returns `true` if `certificate` is what a run writes for a script.
 fn is_certified(alloc: Global, text: &[u8], budget: u64, certificate: &[u8]) -> bool {
     let written = run_on(alloc, &mut Counted::new(text), budget);
     written.fault.is_none() && written.certificate.as_slice() == certificate
 }
 
 /// A script, a budget, and the certificate.
-static CERTIFICATES: [(&[u8], u64, &[u8]); 9] = [
+static CERTIFICATES: [(&[u8], u64, &[u8]); 10] = [
     (b"", AMPLE, &[0x0d]),
     (
         b"a 0\n",
@@ -266,6 +284,15 @@ static CERTIFICATES: [(&[u8], u64, &[u8]); 9] = [
         &[
             0x02, 0x00, 0x01, 0x01, 0x00, 0x01, 0x02, 0x01, 0x02, 0x01, 0x01, 0x02, 0x05, 0x02,
             0x00, 0x02, 0x0b, 0x00, 0x09, 0x06, 0x0a, 0x02, 0x01, 0x02, 0x0b, 0x00, 0x0d,
+        ],
+    ),
+    (
+        b"1 2 0\na 0\na 0\n",
+        AMPLE,
+        &[
+            0x02, 0x00, 0x01, 0x01, 0x00, 0x01, 0x02, 0x01, 0x02, 0x01, 0x01, 0x02, 0x05, 0x02,
+            0x00, 0x02, 0x0b, 0x00, 0x09, 0x06, 0x0a, 0x02, 0x01, 0x02, 0x0b, 0x00, 0x0b, 0x00,
+            0x0a, 0x02, 0x01, 0x02, 0x0b, 0x00, 0x0d,
         ],
     ),
     (
@@ -336,7 +363,7 @@ fn certificates_are_written(rt: HostRuntime) {
 /// The number of commands, the number of refused ones, and the number of the command at which the text is malformed.
 type Counts = (u64, u64, Option<u64>);
 
-/// Tests whether a run over a script returns the counts `counts` and the reports `asks`.
+/// Returns `true` if a run over a script returns the counts `counts` and the reports `asks`.
 fn is_summed_up(
     alloc: Global,
     (text, budget, counts, asks): (&[u8], u64, Counts, &[AskReport]),
@@ -456,7 +483,7 @@ fn calls_of(calls: Calls, device: u8) -> u64 {
     }
 }
 
-/// Tests whether each of the first `calls` calls of a device, if it fails, gives `fault` and is the last call.
+/// Returns `true` if each of the first `calls` calls of a device, if it fails, gives `fault` and is the last call.
 fn each_fails(alloc: Global, text: &[u8], device: u8, calls: u64, fault: RunFault) -> bool {
     for failing in 1..=calls {
         let one = match device {
@@ -472,7 +499,7 @@ fn each_fails(alloc: Global, text: &[u8], device: u8, calls: u64, fault: RunFaul
     true
 }
 
-/// Tests whether a run makes the calls `wanted`, if given, and reports a failure of each.
+/// Returns `true` if a run makes the calls `wanted`, if given, and reports a failure of each.
 fn each_call_fails(alloc: Global, text: &[u8], wanted: Option<Calls>) -> bool {
     let (fault, calls) = run_at(alloc, text, (0, 0, 0));
     fault == None
@@ -482,7 +509,7 @@ fn each_call_fails(alloc: Global, text: &[u8], wanted: Option<Calls>) -> bool {
         && each_fails(alloc, text, 2, calls.2, RunFault::CertificateWrite)
 }
 
-/// Tests whether a failure of each call of a device, including flushes, gives the fault of its text.
+/// Returns `true` if a failure of each call of a device, including flushes, gives the fault of its text.
 #[test]
 fn each_call_fails_in_turn(rt: HostRuntime) {
     for &(text, calls) in all_calls() {

@@ -29,7 +29,7 @@ a -6 0 a 0
 a 0
 ";
 
-/// Whether the asks have the answers `answers`, in order.
+/// Returns `true` if the asks have the answers `answers`, in order.
 fn are(asks: &[AskReport], answers: &[Answer]) -> bool {
     if asks.len() != answers.len() {
         return false;
@@ -42,7 +42,7 @@ fn are(asks: &[AskReport], answers: &[Answer]) -> bool {
     true
 }
 
-/// Tests whether a run answers the asks of a script with `answers`.
+/// Returns `true` if a run answers the asks of a script with `answers`.
 fn is_answered(alloc: Global, script: &[u8], answers: &[Answer]) -> bool {
     let mut written = fails_at(b"", 0);
     let mut certificate = fails_at(b"", 0);
@@ -63,7 +63,7 @@ static SESSIONS: [(&[u8], [Answer; 3], bool); 2] = [
     ),
 ];
 
-/// Tests whether the asks of a session have the answers `answers`, they are confirmed, and its hint text is proved.
+/// Returns `true` if the asks of a session have the answers `answers`, they are confirmed, and its hint text is proved.
 fn is_right(alloc: Global, (script, answers, empty): (&[u8], [Answer; 3], bool)) -> bool {
     is_answered(alloc, script, &answers)
         && is_confirmed(alloc, script, AMPLE)

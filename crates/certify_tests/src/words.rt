@@ -3,6 +3,7 @@
 use crate::devices::is_printed;
 use certify::answers::read::AnswerFault;
 use certify::fault::RunFault;
+use certify::headline::HeadlineFault;
 use certify::verdict::{ConfirmFault, Why};
 use std::alloc::Global;
 
@@ -43,6 +44,18 @@ fn faults_of_a_confirmation(alloc: Global) -> bool {
         && is_printed(alloc, &ConfirmFault::CounterEnd, "CounterEnd")
 }
 
+fn faults_of_the_headline(alloc: Global) -> bool {
+    is_printed(
+        alloc,
+        &HeadlineFault::Run(RunFault::StoreFull),
+        "the run is not finished: the store of clauses is full",
+    ) && is_printed(
+        alloc,
+        &HeadlineFault::Confirm(ConfirmFault::CertificateRead),
+        "there is no verdict: CertificateRead",
+    )
+}
+
 fn causes_of_a_no(alloc: Global) -> bool {
     is_printed(alloc, &Why::AnswerMissing, "AnswerMissing")
         && is_printed(alloc, &Why::AnswerExtra, "AnswerExtra")
@@ -62,5 +75,6 @@ fn faults_and_causes_have_words(rt: HostRuntime) {
     assert!(rt; faults_of_a_run(rt.alloc()));
     assert!(rt; faults_of_answers(rt.alloc()));
     assert!(rt; faults_of_a_confirmation(rt.alloc()));
+    assert!(rt; faults_of_the_headline(rt.alloc()));
     assert!(rt; causes_of_a_no(rt.alloc()));
 }

@@ -17,7 +17,7 @@ pub(crate) struct Written {
 }
 
 impl Written {
-    /// Tests whether the run finished and wrote the answers `answers`.
+    /// Returns `true` if the run finished and wrote the answers `answers`.
     pub(crate) fn has_answers(&self, answers: &[u8]) -> bool {
         self.fault.is_none() && self.answers.as_slice() == answers
     }

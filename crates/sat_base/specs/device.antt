@@ -1,5 +1,6 @@
 pub mod Counting
 pub mod Device
+pub mod ReadRoom
 pub mod Reading
 pub mod Sink
 pub mod Waiting

@@ -25,7 +25,8 @@ use std::io::{ErrorKind, Read, Write};
 pub trait CountedRead: Read {
     ghost seen: { Self → Reader };
 
-    /// Reads once. Every `Err` counts as a failed call, even `Interrupted`, and the call is not repeated.
+    /// Reads once, and returns the number of bytes read. Every `Err` counts as a failed call, even `Interrupted`, and
+    /// the call is not repeated.
     fn read_counted(&mut self, buf: &mut [u8]) -> io::Result<usize>
         ensures bound { ReadsAtMost result buf.new }
         ensures once { ReadsOnce result buf.new (seen self.old) (seen self.new) };

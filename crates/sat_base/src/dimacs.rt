@@ -70,7 +70,7 @@ fn refusal_or<E: Drop>(
 }
 
 impl DimacsParser {
-    /// Returns a parser for a new text. Does not allocate.
+    /// Returns a parser for a new text. Never allocates.
     pub fn new(alloc: Global) -> DimacsParser
         ensures { result ≡ no_progress }
     {
@@ -131,8 +131,8 @@ impl DimacsParser {
         self.parser.clauses.header
     }
 
-    /// Whether a line that begins with `%` has ended the text. If so, all later bytes are ignored, and only `finish`
-    /// needs to be called.
+    /// Returns `true` if a line that begins with `%` has ended the text. If so, all later bytes are ignored, and only
+    /// `finish` needs to be called.
     pub fn has_ended(&self) -> bool
         ensures { ReportsEnded result self.now }
     {
@@ -160,7 +160,8 @@ impl DimacsParser {
         parser.read_formula(reader)
     }
 
-    /// Reads the next bytes of the text, or none if a line that begins with `%` has ended the text.
+    /// Reads the next bytes of the text, or none if a line that begins with `%` has ended the text. Returns the number
+    /// of bytes read.
     fn read_next<R: CountedRead>(&self, reader: &mut R, room: &mut [u8]) -> io::Result<usize>
         ensures bound { ReadsAtMost result room.new }
         ensures reads { ReadsNext result room.new self.now.fed (R.seen reader.old) (R.seen reader.new) }

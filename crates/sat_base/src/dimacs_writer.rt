@@ -85,7 +85,7 @@ impl<W: CountedWrite, P: Room> Output<W, P> {
 }
 
 /// Writes a formula in DIMACS CNF: a line `p cnf V C` with the numbers of variables and clauses, then a line for every
-/// clause, with the numbers of its literals and `0`. Writes in pieces of at most 4,096 bytes, and does not allocate.
+/// clause, with the numbers of its literals and `0`. Writes in pieces of at most 4,096 bytes, and never allocates.
 /// After an error, a prefix of the text may have been written.
 pub fn write_dimacs<W: CountedWrite>(writer: &mut W, formula: &CnfFormula) -> io::Result<()>
     ensures { WritesText (dimacs_text formula.now) result (W.seen writer.old) (W.seen writer.new) }

@@ -37,7 +37,7 @@ fn start_at(ends: &[usize], place: usize) -> usize
 }
 
 impl<T: Copy> FlatLists<T> {
-    /// Returns an empty list of lists. Does not allocate.
+    /// Returns an empty list of lists. Never allocates.
     pub fn new(alloc: Global) -> FlatLists<T>
         ensures { result ≡ [] }
     {
@@ -54,7 +54,7 @@ impl<T: Copy> FlatLists<T> {
         self.ends.len()
     }
 
-    /// Whether there are no lists.
+    /// Returns `true` if there are no lists.
     pub fn is_empty(&self) -> bool
         ensures { IsTrue result ↔ self.now ≡ [] }
     {

@@ -39,7 +39,7 @@ impl Model for CnfFormula {
 }
 
 impl CnfFormula {
-    /// Returns a formula without clauses or variables. Does not allocate.
+    /// Returns a formula without clauses or variables. Never allocates.
     pub fn new(alloc: Global) -> CnfFormula
         ensures { result ≡ no_formula }
     {
@@ -73,7 +73,7 @@ impl CnfFormula {
         self.clauses.len()
     }
 
-    /// Whether the formula has no clauses.
+    /// Returns `true` if the formula has no clauses.
     pub fn is_empty(&self) -> bool
         ensures { IsTrue result ↔ self.now.clauses ≡ [] }
     {

@@ -7,14 +7,14 @@ use crate::{Lit, Var};
 use std::cmp::Ordering;
 use std::hash::{DefaultHasher, Hash, Hasher};
 
-/// Compares two variables. States that variables are ordered by their indices.
+/// Returns the order of two variables. States that variables are ordered by their indices.
 pub fn order_of_variables(a: Var, b: Var) -> Ordering
     ensures { result ≡ nat_cmp a b }
 {
     a.cmp(&b)
 }
 
-/// Compares two literals. States that literals are ordered by their codes: by variable, with the positive
+/// Returns the order of two literals. States that literals are ordered by their codes: by variable, with the positive
 /// literal first.
 pub fn order_of_literals(l: Lit, m: Lit) -> Ordering
     ensures { result ≡ nat_cmp l m }

@@ -5,8 +5,8 @@ ghost use Rattle.sat_base.specs.steps.Steps.{Step};
 ghost use Rattle.sat_base.specs.steps.StepBytes.{step_bytes};
 ghost use Rattle.sat_base.specs.steps.StepText.{SpellsStep, SpellsSteps};
 
-/// States that no encoding of a step is a prefix of another step's encoding, and that no bytes encode two
-/// different steps.
+/// States that no encoding of a step is a proper prefix of another encoding, and that no bytes encode two different
+/// steps.
 pub fn steps_have_one_form()
     ensures { IsUniquelyDecodable SpellsStep }
 {}

@@ -1,9 +1,10 @@
-//! Literals.
+//! Literals: variables with a sign, stored as codes.
 ghost use Rattle.std.specs.Prelude.{ℕ, ◌≡◌, ◌*◌, ◌<◌, not, true, false, MatchOption};
 ghost use Rattle.sat_base.specs.values.Literals.{mk_lit, var_limit, variable, is_positive, negated, negated_if};
 ghost use Rattle.sat_base.specs.values.Numerals.{IsNoNumeral, numeral};
 
 use crate::Var;
+use std::fmt;
 use std::marker::Model;
 use std::ops::{BitXor, Not};
 
@@ -25,6 +26,13 @@ impl Model for Lit {
     ghost inverse = { λ n. record { code = n } };
 
     ghost invariant = { λ l. l.code < 2 * var_limit };
+}
+
+/// Writes the literal as in DIMACS, such as `-3` for the negative literal of the variable with index 2.
+impl fmt::Display for Lit {
+    fn fmt<W: fmt::Write>(&self, f: &mut fmt::Formatter<W>) -> fmt::Result {
+        write!(f, "{}", self.to_dimacs())
+    }
 }
 
 impl Lit {
@@ -109,14 +117,14 @@ impl Lit {
         self.code as usize
     }
 
-    /// Whether the literal is positive.
+    /// Returns `true` if the literal is positive.
     pub fn is_positive(self) -> bool
         ensures { result ≡ is_positive self }
     {
         self.code % 2 == 0
     }
 
-    /// Whether the literal is negative.
+    /// Returns `true` if the literal is negative.
     pub fn is_negative(self) -> bool
         ensures { result ≡ not (is_positive self) }
     {

@@ -7,6 +7,7 @@ mod kind;
 mod lists;
 mod numbers;
 mod push;
+mod read_state;
 mod reader;
 mod step;
 mod step_lists;

@@ -26,7 +26,7 @@ pub struct Table<T> {
 }
 
 impl<T: Copy> Table<T> {
-    /// Returns a table without values. Does not allocate.
+    /// Returns a table without values. Never allocates.
     pub fn new(alloc: Global) -> Table<T>
         ensures { (missing : T) (v : ℕ) → value_at missing result v ≡ missing }
     {
@@ -37,7 +37,7 @@ impl<T: Copy> Table<T> {
         }
     }
 
-    /// Allows all places below `limit` to become near. Does not allocate, and changes no value.
+    /// Allows all places below `limit` to become near. Never allocates, and changes no value.
     #[inline(always)]
     pub fn allow(&mut self, limit: usize)
         ensures same { (missing : T) → KeepsValues missing self.old self.new }
@@ -46,7 +46,7 @@ impl<T: Copy> Table<T> {
         self.limit = self.limit.max(limit);
     }
 
-    /// Allows `more` more places to become near. Does not allocate, and changes no value.
+    /// Allows `more` more places to become near. Never allocates, and changes no value.
     #[inline(always)]
     pub fn grant(&mut self, more: usize)
         ensures same { (missing : T) → KeepsValues missing self.old self.new }
@@ -204,7 +204,7 @@ impl<T: Copy> Table<T> {
         Ok(())
     }
 
-    /// Sets the value at `place`, for which room must have been made. Does not allocate.
+    /// Sets the value at `place`, for which room must have been made. Never allocates.
     #[inline(always)]
     pub fn put(&mut self, place: usize, value: T)
         requires { HasPlaceFor self.old place }
@@ -241,7 +241,7 @@ impl<T: Copy> Table<T> {
         Ok(())
     }
 
-    /// Resets the value at `place` to `missing`. Does not allocate, and needs no room.
+    /// Resets the value at `place` to `missing`. Never allocates, and needs no room.
     #[inline(always)]
     pub fn reset(&mut self, place: usize, missing: T)
         ensures set { SetsValue missing self.old self.new place missing }

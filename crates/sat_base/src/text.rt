@@ -72,21 +72,21 @@ pub struct Tokenizer {
 // place would be written to memory and read back. With all of the functions inlined, a tokenizer that is not passed to
 // any other function stays in registers.
 
-/// Whether a byte is a space, a tab, a CR or an LF.
+/// Returns `true` if a byte is a space, a tab, a CR or an LF.
 fn is_blank(byte: u8) -> bool
     ensures { result ≡ is_blank byte }
 {
     byte == b' ' || byte == b'\t' || byte == b'\r' || byte == b'\n'
 }
 
-/// Whether a byte is an ASCII digit.
+/// Returns `true` if a byte is an ASCII digit.
 fn is_digit(byte: u8) -> bool
     ensures { result ≡ is_digit byte }
 {
     byte > 47 && byte < 58
 }
 
-/// Whether a byte is an ASCII letter.
+/// Returns `true` if a byte is an ASCII letter.
 fn is_letter(byte: u8) -> bool
     ensures { result ≡ is_letter byte }
 {
@@ -230,7 +230,7 @@ fn number_in(bytes: &[u8]) -> Option<(bool, u64, usize)>
     Some((negative, value, count + sign))
 }
 
-/// Whether a digit or `-` begins a word at `place`.
+/// Returns `true` if a digit or `-` begins a word at `place`.
 #[inline(always)]
 fn begins_word(place: Place) -> bool
     ensures { result ≡ true → BeginsWord place }
@@ -352,7 +352,7 @@ fn after_blank(place: Place) -> Place
     }
 }
 
-/// Whether a header may still come on later lines.
+/// Returns `true` if a header may still come on later lines.
 fn may_come(place: Place) -> bool
     ensures { result ≡ may_come place }
 {
@@ -507,9 +507,9 @@ impl Tokenizer {
         (count + 1, self.push(bytes[count]))
     }
 
-    /// Whether the unfinished word or header line is malformed, whatever follows. It is malformed from the first byte
-    /// after which it can no longer become valid. So `1x` is malformed at the `x`, and `--` at the second `-`, but `-0`
-    /// only at its end, since it could continue as `-01`.
+    /// Returns `true` if the unfinished word or header line is malformed, whatever follows. It is malformed from the
+    /// first byte after which it can no longer become valid. So `1x` is malformed at the `x`, and `--` at the second
+    /// `-`, but `-0` only at its end, since it could continue as `-01`.
     #[inline(always)]
     pub fn is_wrong(&self) -> bool
         ensures wrong { result ≡ true → (before : List ℕ → Scan) → IsPositionedBefore self.now before → HasNoValidContinuation before }
@@ -522,8 +522,8 @@ impl Tokenizer {
         }
     }
 
-    /// Whether a line that begins with `%` has ended the text. This is true exactly when all bytes that follow are
-    /// ignored, so that they need not be read. In that case, no token is unfinished.
+    /// Returns `true` if a line that begins with `%` has ended the text. This is true exactly when all bytes that
+    /// follow are ignored, so that they need not be read. In that case, no token is unfinished.
     #[inline(always)]
     pub fn is_over(&self) -> bool
         ensures over { result ≡ true → (before : List ℕ → Scan) → IsPositionedBefore self.now before → IgnoresRest before }

@@ -1,9 +1,10 @@
-//! Variables.
+//! Variables, and optional variables that are packed into one number.
 ghost use Rattle.std.specs.Prelude.{◌≡◌, ◌+◌, ◌<◌, true, false, MatchOption, None, pos};
 ghost use Rattle.sat_base.specs.values.Literals.{mk_lit, var_limit};
 ghost use Rattle.sat_base.specs.values.Numerals.{IsNoVariable};
 
 use crate::Lit;
+use std::fmt;
 use std::marker::Model;
 
 /// The largest number of variables.
@@ -26,6 +27,13 @@ impl Model for Var {
     ghost inverse = { λ n. record { index = n } };
 
     ghost invariant = { λ v. v.index < var_limit };
+}
+
+/// Writes the number of the variable in DIMACS, such as `3` for the variable with index 2.
+impl fmt::Display for Var {
+    fn fmt<W: fmt::Write>(&self, f: &mut fmt::Formatter<W>) -> fmt::Result {
+        write!(f, "{}", self.to_dimacs())
+    }
 }
 
 impl Var {
@@ -131,7 +139,7 @@ impl MaybeVar {
         MaybeVar { above: 0 }
     }
 
-    /// Packs an optional variable.
+    /// Returns an optional variable, packed.
     #[inline(always)]
     pub fn new(var: Option<Var>) -> MaybeVar
         ensures { result ≡ var }

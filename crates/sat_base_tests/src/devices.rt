@@ -134,12 +134,12 @@ fn is_passed_on(alloc: Global, text: &[u8]) -> bool {
     passed && writer.into_inner().as_slice() == text
 }
 
-/// Tests whether `text` is what a reader returns up to its end.
+/// Returns `true` if `text` is what a reader returns up to its end.
 fn is_read<R: CountedRead>(alloc: Global, reader: &mut R, text: &[u8]) -> Result<bool, ReadError> {
     Ok(read_whole(alloc, reader)?.as_slice() == text)
 }
 
-/// Tests whether `text` is what `read_into` appends from a reader.
+/// Returns `true` if `text` is what `read_into` appends from a reader.
 fn is_fed<R: CountedRead>(alloc: Global, reader: &mut R, text: &[u8]) -> bool {
     let mut held = Vec::new(alloc);
     read_into(reader, &mut held).is_ok() && held.as_slice() == text

@@ -58,7 +58,7 @@ fn numbers(alloc: Global, formula: &CnfFormula) -> Result<Vec<i64>, AllocError> 
     Ok(all)
 }
 
-/// Tests whether `clauses` are the numbers of a formula's literals, with a 0 after each clause.
+/// Returns `true` if `clauses` are the numbers of a formula's literals, with a 0 after each clause.
 fn has(alloc: Global, formula: &CnfFormula, clauses: &[i64]) -> bool {
     match numbers(alloc, formula) {
         Ok(all) => all.as_slice() == clauses,
@@ -74,12 +74,12 @@ fn take(alloc: Global, parser: &mut DimacsParser, clauses: &[i64]) -> (bool, u64
     (is_right, formula.len() as u64, formula.var_count())
 }
 
-/// Tests whether no clauses are left to take, and the text is finished.
+/// Returns `true` if no clauses are left to take, and the text is finished.
 fn is_finished(parser: &mut DimacsParser) -> bool {
     parser.take_formula().is_empty() && parser.finish() == Err(DimacsError::HasFailed)
 }
 
-/// Tests whether no clauses are left to take, and nothing more is accepted.
+/// Returns `true` if no clauses are left to take, and nothing more is accepted.
 fn is_over(parser: &mut DimacsParser) -> bool {
     parser.take_formula().is_empty()
         && parser.feed(b"1 0\n") == Err(DimacsError::HasFailed)
@@ -119,15 +119,15 @@ fn rows() -> &'static [Row] {
     &ROWS
 }
 
-/// Tests whether a parser that has read the text of `row` has the header and clauses of `row`, also after the clauses
-/// are taken, and accepts nothing more.
+/// Returns `true` if a parser that has read the text of `row` has the header and clauses of `row`, also after the
+/// clauses are taken, and accepts nothing more.
 fn has_read(alloc: Global, parser: &mut DimacsParser, row: &Row) -> bool {
     let found = state(parser);
     let (is_right, count, _) = take(alloc, parser, row.2);
     is_right && found == (row.3, count, row.4) && state(parser) == found && is_over(parser)
 }
 
-/// Tests whether the text of `row`, in pieces of `piece` bytes, has the results of `row`.
+/// Returns `true` if the text of `row`, in pieces of `piece` bytes, has the results of `row`.
 fn says(alloc: Global, row: &Row, piece: usize) -> bool
     requires { 0 < piece }
 {
@@ -188,7 +188,8 @@ fn wrong_piece(alloc: Global, parser: &mut DimacsParser) -> Option<Piece> {
     None
 }
 
-/// Tests whether no clauses are left to take after the pieces, and the state doesn't change when the text is finished.
+/// Returns `true` if no clauses are left to take after the pieces, and the state doesn't change when the text is
+/// finished.
 fn ends(alloc: Global, parser: &mut DimacsParser) -> bool {
     take(alloc, parser, &[]) == (true, 0, 9)
         && read(parser, b"", 1) == Ok(())
@@ -203,7 +204,7 @@ fn clauses_are_taken_as_they_come(rt: HostRuntime) {
     assert!(rt; ends(rt.alloc(), &mut parser));
 }
 
-/// Tests whether a formula with `clauses` and `highest` variables is read from a text.
+/// Returns `true` if a formula with `clauses` and `highest` variables is read from a text.
 fn is_parsed(alloc: Global, text: &[u8], clauses: &[i64], highest: usize) -> bool {
     match DimacsParser::parse(alloc, &mut Counted::new(text)) {
         Ok(formula) => formula.var_count() == highest && has(alloc, &formula, clauses),
@@ -316,8 +317,8 @@ fn long_text(alloc: Global) -> (bool, Vec<u8>) {
     (is_written, writer.into_inner())
 }
 
-/// Tests whether a formula has `length` numbers, a closure that is called 4 times sees them in `text`, and the parser
-/// has the expected end.
+/// Returns `true` if a formula has `length` numbers, a closure that is called 4 times sees them in `text`, and the
+/// parser has the expected end.
 fn are_seen_again(alloc: Global, text: &[u8], formula: &CnfFormula, length: usize) -> bool {
     let end = Some((Some((1_000, 1_000)), 1_000, formula.var_count()));
     match numbers(alloc, formula) {
@@ -378,7 +379,7 @@ fn all_seen() -> &'static [Seeing] {
     &SEEN
 }
 
-/// Tests whether a caller sees what `row` has in a text that is read byte by byte.
+/// Returns `true` if a caller sees what `row` has in a text that is read byte by byte.
 fn is_seen(alloc: Global, row: &Seeing) -> bool {
     let (is_right, end) = looked(alloc, &mut by_one(row.0, 0), row.1, row.2);
     is_right && end == row.3

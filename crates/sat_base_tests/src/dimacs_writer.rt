@@ -96,7 +96,7 @@ fn wrong_call(alloc: Global, formula: &CnfFormula) -> Option<u64> {
     None
 }
 
-/// Tests whether a thousand clauses are written with three calls, and a failed call is the last one.
+/// Returns `true` if a thousand clauses are written with three calls, and a failed call is the last one.
 fn is_not_tried_again(alloc: Global, formula: &mut CnfFormula) -> bool {
     add_thousand(formula) == Ok(())
         && length(alloc, formula) == Some(8_909)
@@ -122,7 +122,7 @@ fn wrong_byte(alloc: Global, formula: &CnfFormula, text: &[u8]) -> Option<u64> {
     None
 }
 
-/// Tests whether a writer can accept a text byte by byte, up to a call that fails, and whether writing fails if the
+/// Returns `true` if a writer can accept a text byte by byte, up to a call that fails, and whether writing fails if the
 /// writer accepts no bytes.
 fn is_taken_by_bytes(alloc: Global, formula: &mut CnfFormula, text: &[u8]) -> bool {
     fill(formula, 1) == Ok(())

@@ -52,8 +52,9 @@ const READS: Rows<ReadError> = &[
     (ReadError::OutOfMemory, "out of memory"),
 ];
 
-fn is_printed<E: Display>(alloc: Global, error: &E, text: &str) -> bool {
-    match format!(in alloc; "{error}") {
+/// Returns `true` if the value is printed as this text.
+pub(crate) fn is_printed<T: Display>(alloc: Global, value: &T, text: &str) -> bool {
+    match format!(in alloc; "{value}") {
         Ok(printed) => printed.as_str() == text,
         Err(_) => false,
     }

@@ -25,7 +25,7 @@ fn counts(formula: &CnfFormula) -> (usize, bool, usize) {
     (formula.len(), formula.is_empty(), formula.var_count())
 }
 
-/// Tests whether an iterator returns the clause `first`, an empty clause, the clause `last`, and then `None`.
+/// Returns `true` if an iterator returns the clause `first`, an empty clause, the clause `last`, and then `None`.
 fn gives_three<'x>(formula: &'x CnfFormula, first: &'x [Lit], last: &'x [Lit]) -> bool {
     let mut clauses = formula.iter();
     let is_sized = clauses.len() == 3 && clauses.size_hint() == (3, Some(3));
@@ -54,7 +54,7 @@ fn add_three(formula: &mut CnfFormula, first: &[Lit], last: &[Lit]) -> Result<()
     formula.add_clause(last)
 }
 
-/// Tests whether three clauses that are added to an empty formula are returned in order.
+/// Returns `true` if three clauses that are added to an empty formula are returned in order.
 fn keeps_order(formula: &mut CnfFormula) -> bool {
     let (one, two, three) = (Var::from_index(0), Var::from_index(1), Var::from_index(2));
     let first = [one.positive(), two.negative()];
@@ -80,7 +80,7 @@ fn set(formula: &mut CnfFormula, count: usize) -> usize
     formula.var_count()
 }
 
-/// Tests whether the variables of an empty formula are counted when some are new and the number is set.
+/// Returns `true` if the variables of an empty formula are counted when some are new and the number is set.
 fn counts_variables(formula: &mut CnfFormula) -> bool {
     formula.var_count() == 0
         && formula.new_var() == Ok(Var::from_index(0))
@@ -98,8 +98,8 @@ fn variables_are_counted(rt: HostRuntime) {
     assert!(rt; formula.new_var() == Ok(Var::from_index(21)));
 }
 
-/// Tests whether a formula with as many variables as the limit allows returns no new one, but accepts a clause with the
-/// last variable.
+/// Returns `true` if a formula with as many variables as the limit allows returns no new one, but accepts a clause with
+/// the last variable.
 fn gives_no_more(formula: &mut CnfFormula) -> bool {
     formula.new_var() == Err(FormulaError::VariableLimit)
         && formula.new_lit() == Err(FormulaError::VariableLimit)
@@ -115,7 +115,7 @@ fn no_variable_is_left(rt: HostRuntime) {
     assert!(rt; gives_no_more(&mut formula));
 }
 
-/// Tests whether a unit clause of a new variable is added to a formula of one clause.
+/// Returns `true` if a unit clause of a new variable is added to a formula of one clause.
 fn takes_unit(formula: &mut CnfFormula) -> bool {
     formula.add_clause(&[Lit::from_index(2, true)]) == Ok(())
         && add_unit(formula) == Ok(Lit::from_index(3, true))
@@ -128,7 +128,7 @@ fn a_generic_caller(rt: HostRuntime) {
     assert!(rt; takes_unit(&mut formula));
 }
 
-/// Tests whether a formula's clause moves along when the formula is swapped with an empty one.
+/// Returns `true` if a formula's clause moves along when the formula is swapped with an empty one.
 fn is_taken_out(formula: &mut CnfFormula, empty: &mut CnfFormula) -> bool {
     let is_added = formula.add_clause(&[Lit::from_index(2, true)]) == Ok(());
     mem::swap(formula, empty);

@@ -2,6 +2,7 @@
 ghost use Rattle.std.specs.Prelude.{◌<◌, ◌*◌};
 ghost use Rattle.sat_base.specs.values.Literals.{var_limit};
 
+use crate::errors::is_printed;
 use sat_base::{Lit, MaybeVar, Var, clause_hash, lit_hash, order_of_literals, order_of_variables};
 use std::cmp::Ordering;
 use std::hash::{DefaultHasher, Hash, Hasher};
@@ -30,6 +31,14 @@ fn numbers_of_variables(rt: HostRuntime) {
 }
 
 #[test]
+fn numbers_are_printed(rt: HostRuntime) {
+    let (third, last) = (Lit::from_index(2, false), Lit::from_index(268_435_455, true));
+    assert!(rt; is_printed(rt.alloc(), &third, "-3"));
+    assert!(rt; is_printed(rt.alloc(), &last, "268435456"));
+    assert!(rt; is_printed(rt.alloc(), &Var::from_index(0), "1"));
+}
+
+#[test]
 fn optional_variables(rt: HostRuntime) {
     let last = Var::from_index(268_435_455);
     let found = (MaybeVar::new(Some(last)).get(), MaybeVar::none().get());
@@ -47,7 +56,7 @@ fn first_of_literal(numbers: &[i64]) -> Option<i64> {
     None
 }
 
-/// Tests whether the literal with the DIMACS number `number` has the code `code`, and vice versa.
+/// Returns `true` if the literal with the DIMACS number `number` has the code `code`, and vice versa.
 fn have(number: i64, code: usize) -> bool
     requires { code < 2 * var_limit }
 {
@@ -104,7 +113,7 @@ fn hash_of<T: Hash>(value: &T) -> u64 {
     hasher.finish()
 }
 
-/// Tests whether a variable is ordered before the next one, and so are their literals, with the positive literal of
+/// Returns `true` if a variable is ordered before the next one, and so are their literals, with the positive literal of
 /// each variable first.
 fn are_ordered(var: Var, next: Var) -> bool {
     order_of_variables(var, next) == Ordering::Less

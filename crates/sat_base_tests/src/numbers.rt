@@ -34,7 +34,7 @@ fn rows() -> &'static [Row] {
     &ROWS
 }
 
-/// Whether a number is appended as the digits of `row`, and as the bytes of `row`.
+/// Returns `true` if a number is appended as the digits of `row`, and as the bytes of `row`.
 fn is_appended(alloc: Global, row: &Row) -> bool {
     let mut digits = Vec::new(alloc);
     let mut bytes = Vec::new(alloc);

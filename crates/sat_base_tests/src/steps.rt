@@ -28,7 +28,7 @@ fn tried(alloc: Global, step: &ProofStep<'_>) -> (bool, Vec<u8>) {
     (is_tried && end.is_ok(), writer.into_inner())
 }
 
-/// Tests whether `text` is what `try_write` writes for a step.
+/// Returns `true` if `text` is what `try_write` writes for a step.
 fn is_tried_so(alloc: Global, step: &ProofStep<'_>, text: &[u8]) -> bool {
     let (is_tried, found) = tried(alloc, step);
     is_tried && found.as_slice() == text
@@ -65,7 +65,7 @@ fn copied<R: CountedRead>(
     None
 }
 
-/// Tests whether a reader returns the steps of `text`, and then the given errors.
+/// Returns `true` if a reader returns the steps of `text`, and then the given errors.
 fn gives<R: CountedRead>(alloc: Global, reader: &mut R, text: &[u8], errors: Errors) -> bool {
     let mut copy = Counted::new(Vec::new(alloc));
     let found = copied(&mut StepReader::new(alloc, reader), &mut copy);
@@ -91,7 +91,7 @@ fn pieces_give(
     (is_right, pieces.into_inner().calls)
 }
 
-/// Tests whether a text, read in one piece or byte by byte, has the given steps and the given end.
+/// Returns `true` if a text, read in one piece or byte by byte, has the given steps and the given end.
 fn both_give(alloc: Global, text: &[u8], steps: &[u8], (errors, following): End) -> bool {
     let calls = (text.len() as u64).saturating_add(following);
     whole_gives(alloc, text, steps, errors)
@@ -111,12 +111,12 @@ fn first_tag<R: CountedRead>(alloc: Global, reader: &mut R) -> Option<u8> {
     next_tag(&mut StepReader::new(alloc, reader))
 }
 
-/// Tests whether the tag of the step with the text `text` is the first byte of `text`.
+/// Returns `true` if the tag of the step with the text `text` is the first byte of `text`.
 fn begins_with_tag(alloc: Global, text: &[u8]) -> bool {
     first_tag(alloc, &mut Counted::new(text)) == text.first().copied()
 }
 
-/// Tests whether `text` is written for a step, is read as that step, in one piece and byte by byte, and begins with
+/// Returns `true` if `text` is written for a step, is read as that step, in one piece and byte by byte, and begins with
 /// its tag.
 fn has_text(alloc: Global, step: &ProofStep<'_>, text: &[u8]) -> bool {
     match written(alloc, step) {
@@ -342,7 +342,7 @@ fn steps_before(byte: u64) -> &'static [u8] {
     FOUR_STEPS.get(..whole as usize).unwrap_or(&[])
 }
 
-/// Tests whether a reader whose read number `failing` fails returns the steps before that read, and is not
+/// Returns `true` if a reader whose read number `failing` fails returns the steps before that read, and is not
 /// called again.
 fn is_a_fault(alloc: Global, failing: u64) -> bool {
     let steps = steps_before(failing);
@@ -544,7 +544,7 @@ fn by_few_calls(
     )
 }
 
-/// Tests whether writing a step fails if one of the first `calls` calls fails, and the failed call is the last one.
+/// Returns `true` if writing a step fails if one of the first `calls` calls fails, and the failed call is the last one.
 fn may_fail(alloc: Global, step: &ProofStep<'_>, most: usize, calls: u64, text: &[u8]) -> bool {
     for failing in 1..=calls {
         let (is_written, made, begins, _) = by_few_calls(alloc, step, (most, failing), text);
@@ -555,7 +555,7 @@ fn may_fail(alloc: Global, step: &ProofStep<'_>, most: usize, calls: u64, text: 
     true
 }
 
-/// Tests whether a step is written completely to a writer that accepts at most `most` bytes per call, and whether
+/// Returns `true` if a step is written completely to a writer that accepts at most `most` bytes per call, and whether
 /// writing fails if one of the calls fails.
 fn is_taken_by_few(alloc: Global, step: &ProofStep<'_>, most: usize) -> bool {
     let Some(text) = written(alloc, step) else {
@@ -578,7 +578,7 @@ fn each_write_of_a_short_step_may_fail(rt: HostRuntime) {
     }
 }
 
-/// Tests whether writing a step fails after one call if the writer accepts no bytes.
+/// Returns `true` if writing a step fails after one call if the writer accepts no bytes.
 fn is_not_taken(alloc: Global, step: &ProofStep<'_>) -> bool {
     let (is_written, calls, _, _) = by_few_calls(alloc, step, (0, 0), &[]);
     !is_written && calls == 1

@@ -107,7 +107,7 @@ fn gives_tokens_where_they_end(rt: HostRuntime) {
 /// A text, its tokens, each after its line, and the line on which the text ends.
 type Row = (&'static [u8], &'static [(u64, Token)], u64);
 
-/// Tests whether a token is the next one of `left`, or there is no token.
+/// Returns `true` if a token is the next one of `left`, or there is no token.
 fn is_next(left: &mut Iter<'_, (u64, Token)>, line: u64, token: Option<Token>) -> bool {
     match token {
         Some(token) => left.next() == Some(&(line, token)),
@@ -115,13 +115,14 @@ fn is_next(left: &mut Iter<'_, (u64, Token)>, line: u64, token: Option<Token>) -
     }
 }
 
-/// Tests whether the end of a text returns the last token of `left`, if one is left, and the text ends on line `line`.
+/// Returns `true` if the end of a text returns the last token of `left`, if one is left, and the text ends on line
+/// `line`.
 fn ends_on(tokenizer: &mut Tokenizer, left: &mut Iter<'_, (u64, Token)>, line: u64) -> bool {
     let token = tokenizer.finish();
     is_next(left, tokenizer.line(), token) && left.next() == None && tokenizer.line() == line
 }
 
-/// Tests whether a text has the tokens and the last line of `row`.
+/// Returns `true` if a text has the tokens and the last line of `row`.
 fn gives(row: &Row) -> bool {
     let mut tokenizer = Tokenizer::new();
     let mut left = row.1.iter();
@@ -148,8 +149,8 @@ fn take_some(tokenizer: &mut Tokenizer, bytes: &[u8], whole: bool) -> (usize, Op
     tokenizer.push_some(bytes)
 }
 
-/// Tests whether a text that is passed at once has the tokens and the last line of `row`. If `whole`, numbers are read
-/// together with the blank after them.
+/// Returns `true` if a text that is passed at once has the tokens and the last line of `row`. If `whole`, numbers are
+/// read together with the blank after them.
 fn gives_at_once(row: &Row, whole: bool) -> bool {
     let mut tokenizer = Tokenizer::new();
     let mut left = row.1.iter();
@@ -167,7 +168,7 @@ fn gives_at_once(row: &Row, whole: bool) -> bool {
     ends_on(&mut tokenizer, &mut left, row.2)
 }
 
-/// Tests whether bytes return no token.
+/// Returns `true` if bytes return no token.
 fn give_nothing(tokenizer: &mut Tokenizer, bytes: &[u8]) -> bool {
     for byte in bytes {
         if tokenizer.push(*byte) != None {
@@ -180,7 +181,7 @@ fn give_nothing(tokenizer: &mut Tokenizer, bytes: &[u8]) -> bool {
 /// A prefix of a text with a header whose line has not ended.
 const FRONT: &[u8] = b"c 1\n\n p\tcnf  007 18446744073709551616 ";
 
-/// Tests whether `FRONT` returns no token, and a header once the text ends.
+/// Returns `true` if `FRONT` returns no token, and a header once the text ends.
 fn gives_header_at_the_end(tokenizer: &mut Tokenizer) -> bool {
     give_nothing(tokenizer, FRONT) && tokenizer.finish() == LIMIT_HEADER && tokenizer.line() == 3
 }
@@ -274,7 +275,7 @@ fn lines_that_begin_with_p_or_percent(rt: HostRuntime) {
     assert!(rt; wrong == None, "{wrong:?}");
 }
 
-/// Tests whether a word on the first line returns its token only once the text ends.
+/// Returns `true` if a word on the first line returns its token only once the text ends.
 fn is_reported_at_the_end(word: &[u8], token: Option<Token>) -> bool {
     let mut tokenizer = Tokenizer::new();
     give_nothing(&mut tokenizer, word) && tokenizer.line() == 1 && tokenizer.finish() == token

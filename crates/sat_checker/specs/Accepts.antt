@@ -8,52 +8,57 @@ use Rattle.sat_checker.specs.Propagation.{PassesCheck}
 use Rattle.sat_checker.specs.Stored.{Sample, Witness, Hide, Stored, nothing_stored, is_known, mode_of, name_of, is_unit, unit_literals, bucket}
 use Rattle.sat_checker.specs.Storing.{clause_with, irredundant_count, redundant_count, last_literals, with_stored, with_input, with_unit, with_units, with_conflict_settled, with_variable, with_known, with_literals_known, with_solver_name, without_variable, without_clause}
 
--- that a clause passes the propagation check under the hashes of a step
+-- `PassesByHashes f clause hashes` holds if the clause passes the propagation check with the stored units and the
+-- clauses that have these hashes.
 abbrev pub PassesByHashes : Stored → List ℕ → List ℕ → Type 0
 PassesByHashes f clause hashes = PassesCheck (unit_literals f) clause (map (bucket f) hashes)
 
--- that a variable may get a name: no variable has the name, and the variable has no name and is not hidden
+-- `MayGetName f v name` holds if variable `v` may get the name: no variable has the name, and `v` has no name and is
+-- not hidden.
 pub record MayGetName (f : Stored) (v name : ℕ) : Type 0 where
   pub free : (w : ℕ) → name_of w f ≢ Some name
   pub nameless : name_of v f ≡ None
   pub not_hidden : mode_of v f ≢ Hide
 
--- That a variable may be deleted: it is known and has no name. It is in no stored clause of two or more literals, and
--- it is not assumed.
+-- `MayBeDeleted f v` holds if variable `v` may be deleted: it is known and has no name, it is in no stored clause of
+-- two or more literals, and it is not assumed.
 pub record MayBeDeleted (f : Stored) (v : ℕ) : Type 0 where
   pub known : is_known v f ≡ true
   pub nameless : name_of v f ≡ None
   pub unused : list_any (λ c. mentions c.literals v) f.clauses ≡ false
   pub not_assumed : mentions f.assumed v ≡ false
 
--- that a clause of the formula may be added: unsat is recorded, or every variable of the clause has mode sample
+-- `MayBeAdded f clause` holds if the clause may be added to the formula: unsat is recorded, or every variable of the
+-- clause has mode sample.
 abbrev pub MayBeAdded : Stored → List ℕ → Type 0
 MayBeAdded f clause = (f.unsat ≡ true) ⊎ AllByRecursion (λ l. mode_of (variable l) f ≡ Sample) clause
 
--- that every literal, as a unit clause, passes the check under its hash, once the literals before it are added as units
+-- `PassInTurn f us` holds if every literal, as a unit clause, passes the check under its hash, once the literals before
+-- it are stored as units. `us` has the literals, each with its hash.
 abbrev pub PassInTurn : Stored → List (ℕ × ℕ) → Type 0
 PassInTurn f [] = Unit {0}
 PassInTurn f (u ∷ us) = PassesByHashes f (u.0 ∷ []) (u.1 ∷ []) × PassInTurn (with_unit u.0 f) us
 
--- that there is a list, all its literals are in the clause, and some literal of the clause is not in the list
+-- `IsStrictSubset set clause` holds if `set` is not `None`, all its literals are in the clause, and some literal of the
+-- clause is not in it.
 abbrev pub IsStrictSubset : Option (List ℕ) → List ℕ → Type 0
 IsStrictSubset None clause = ⊥
 IsStrictSubset (Some ls) clause = (is_subset_of ls clause ≡ true) × (is_subset_of clause ls ≡ false)
 
--- that no variable occurs twice
+-- `VariablesDistinct ls` holds if no variable occurs twice in these literals.
 abbrev pub VariablesDistinct : List ℕ → Type 0
 VariablesDistinct [] = Unit {0}
 VariablesDistinct (l ∷ ls) = (mentions ls (variable l) ≡ false) × VariablesDistinct ls
 
--- That a model fits what is stored: unsat is not recorded, and no variable occurs twice in the model. The model
--- contradicts no unit, and it has a literal of every clause with an irredundant count.
+-- `FitsModel f ls` holds if the model `ls` fits what is stored: unsat is not recorded, and no variable occurs twice in
+-- the model. The model contradicts no unit, and has a literal of every clause with an irredundant count.
 pub record FitsModel (f : Stored) (ls : List ℕ) : Type 0 where
   pub consistent : f.unsat ≡ false
   pub apart : VariablesDistinct ls
   pub units : AllByRecursion (λ u. is_among ls (negated u) ≡ false) (unit_literals f)
   pub clauses : AllByRecursion (λ c. (c.irredundant ≡ 0) ⊎ (list_any (is_among ls) c.literals ≡ true)) f.clauses
 
--- that a step is accepted, given what is stored before it
+-- `Accepts f step` holds if the step is accepted when `f` is stored.
 abbrev pub Accepts : Stored → Step → Type 0
 Accepts f (SolverVarName v name) = Unit {0}
 Accepts f (UserVarName v (Some name)) = MayGetName f v name
@@ -75,7 +80,7 @@ Accepts f (Assumptions ls) = Unit {0}
 Accepts f (FailedAssumptions core hashes) = (is_subset_of core f.assumed ≡ true) × PassesByHashes f (map negated core) hashes
 Accepts f End = Unit {0}
 
--- what is stored after an accepted step, if no unit conflict was pending
+-- What is stored after an accepted step, if no unit conflict was pending.
 abbrev pub effect : Step → Stored → Stored
 effect (SolverVarName v None) f = with_solver_name v None f
 effect (SolverVarName v (Some name)) f = with_solver_name v (Some name) (with_known (v ∷ []) f)
@@ -95,16 +100,16 @@ effect (Assumptions ls) f = record (with_literals_known ls f) { assumed = ls }
 effect (FailedAssumptions core hashes) f = f
 effect End f = record f { ended = true }
 
--- What is stored after accepted steps. A unit conflict is settled before the next step is judged.
+-- What is stored after accepted steps, the newest first. A unit conflict is settled before the next step is judged.
 abbrev pub stored_after : List Step → Stored
 stored_after [] = nothing_stored
 stored_after (step ∷ earlier) = effect step (with_conflict_settled (stored_after earlier))
 
--- what is stored when the next step is judged
+-- What is stored when the step after these is judged.
 abbrev pub ready_after : List Step → Stored
 ready_after steps = with_conflict_settled (stored_after steps)
 
--- that every step is accepted after the steps before it
+-- `AcceptsAll steps` holds if every step is accepted after the earlier ones.
 abbrev pub AcceptsAll : List Step → Type 0
 AcceptsAll [] = Unit {0}
 AcceptsAll (step ∷ earlier) = AcceptsAll earlier × Accepts (ready_after earlier) step

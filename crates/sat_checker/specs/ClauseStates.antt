@@ -5,27 +5,28 @@ use Rattle.sat_checker.specs.LiteralSets.{is_among}
 use Rattle.sat_checker.specs.declared.units.assigned.Look.{Look}
 use Rattle.sat_checker.specs.declared.units.assigned.Look.TheVariants as look
 
--- the verdict on a clause: it is falsified, it is unit with this open literal, or neither
+-- The verdict on a clause: it is falsified, it is unit with this open literal, or neither.
 pub data ClauseState : Type 0 where
   falsified : ClauseState
   becomes_unit : ℕ → ClauseState
   neither : ClauseState
 
--- the literals of the clause that aren't false
+-- The literals of the clause that are not false.
 abbrev pub not_false : List ℕ → List ℕ → List ℕ
 not_false assumed = filter (λ l. not (is_among assumed (negated l)))
 
--- the verdict on a clause, given its literals that aren't false
+-- The verdict on a clause, given its literals that are not false.
 abbrev pub state_by_open : List ℕ → List ℕ → ClauseState
 state_by_open assumed [] = falsified
 state_by_open assumed (l ∷ []) = if is_among assumed l then neither else becomes_unit l
 state_by_open assumed (l ∷ m ∷ ls) = neither
 
--- `falsified` if all literals are false; `becomes_unit` if all but one are false, and that one has no value; otherwise `neither`
+-- `clause_state assumed clause` is `falsified` if all literals of the clause are false, `becomes_unit` if all but one
+-- are false and that one has no value, and otherwise `neither`.
 abbrev pub clause_state : List ℕ → List ℕ → ClauseState
 clause_state assumed clause = state_by_open assumed (not_false assumed clause)
 
--- the verdict that a result of the code represents
+-- The verdict that a result of the code represents.
 abbrev pub clause_state_of : Look → ClauseState
 clause_state_of look.Falsified = falsified
 clause_state_of (look.Opens l) = becomes_unit l

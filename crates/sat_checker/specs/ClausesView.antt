@@ -11,25 +11,26 @@ use Rattle.sat_checker.specs.declared.error.CheckerError.TheVariants as errors
 use Rattle.sat_checker.specs.declared.processing.ProcessingError.{ProcessingError}
 use Rattle.sat_checker.specs.declared.processing.ProcessingError.TheVariants as faults
 
--- the steps that add these clauses
+-- The steps that add these clauses.
 abbrev pub additions : List (List ℕ) → List Step
 additions = map AddClause
 
--- That `clauses` begins with `added` and then `tried`. The checker had not failed before, and its looks rose at most by
--- the bound for these clauses.
+-- `AddsFirstClauses old new clauses added tried earlier` holds if `clauses` begins with `added` and then `tried`. The
+-- checker had not failed before, and its looks rose at most by the bound for these clauses.
 pub record AddsFirstClauses {L : Type 0} (old new : CheckerView L) (clauses added tried : List (List ℕ)) (earlier : List Step) : Type 0 where
   pub well : has_failed old ≡ false
   pub left : List (List ℕ)
   pub split : clauses ≡ (added ++ tried) ++ left
   pub looks : looks_of new ≤ looks_of old + most_looks_after (additions (added ++ tried)) earlier
 
--- all accepted steps, the newest first, once these clauses were added after the earlier steps
+-- All accepted steps, the newest first, once these clauses are added after the earlier steps.
 abbrev pub after_additions : List (List ℕ) → List Step → List Step
 after_additions clauses earlier = taken_after (additions clauses) earlier
 
 module _ {L : Type 0} (Hears : L → Notice → Result Unit ProcessingError → L → Type 0) (before : List Notice) (begun : L) where
-  -- What the result of adding clauses means, after these accepted steps. The clauses are added one by one, up to the
-  -- first that is not accepted. A refused clause does not make the checker fail.
+  -- `AnswersClauses Hears before begun result old new clauses earlier` holds if the result of adding the clauses is
+  -- correct, when the steps `earlier` were accepted before. The clauses are added one by one, up to the first that is
+  -- not accepted. A refused clause does not make the checker fail.
   abbrev pub AnswersClauses : Result Unit CheckerError → CheckerView L → CheckerView L → List (List ℕ) → List Step → Type 0
   AnswersClauses (Ok x) old new clauses earlier = AddsFirstClauses old new clauses clauses [] earlier × HasAcceptedUnfailed Hears before begun new (after_additions clauses earlier)
   AnswersClauses (Err errors.CheckFailed) old new clauses earlier =
@@ -50,6 +51,7 @@ module _ {L : Type 0} (Hears : L → Notice → Result Unit ProcessingError → 
   AnswersClauses (Err errors.ParseError) old new clauses earlier = ⊥
 
 module _ {L : Type 0} (Hears : L → Notice → Result Unit ProcessingError → L → Type 0) where
-  -- the result of adding clauses, whatever was accepted and announced earlier
+  -- `AddsClauses Hears result old new clauses` holds if `AnswersClauses` does, whatever was accepted and announced
+  -- earlier.
   abbrev pub AddsClauses : Result Unit CheckerError → CheckerView L → CheckerView L → List (List ℕ) → Type 0
   AddsClauses result old new clauses = (before : List Notice) (begun : L) (steps : List Step) → HasAccepted Hears before begun old steps → AnswersClauses Hears before begun result old new clauses steps

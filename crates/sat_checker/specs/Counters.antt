@@ -5,15 +5,16 @@ use Rattle.sat_checker.specs.Stored.{Stored}
 use Rattle.sat_checker.specs.Storing.{clause_with, irredundant_count, redundant_count, with_conflict_settled}
 use Rattle.sat_checker.specs.Accepts.{Accepts, effect}
 
--- that a count of a stored clause does not fit in 64 bits
+-- `CountExhausted f` holds if a count of a stored clause does not fit in 64 bits.
 pub record CountExhausted (f : Stored) : Type 0 where
   pub literals : List ℕ
   pub past : (2 ^ 64 ≤ irredundant_count (clause_with literals f.clauses)) ⊎ (2 ^ 64 ≤ redundant_count (clause_with literals f.clauses))
 
--- that the next id or a count does not fit in 64 bits; so the last id is 2^64-2
+-- `CountersExhausted f` holds if the next id or a count does not fit in 64 bits. So the last id is 2^64-2.
 abbrev pub CountersExhausted : Stored → Type 0
 CountersExhausted f = (2 ^ 64 ≤ f.next_id) ⊎ CountExhausted f
 
--- that a number does not fit in 64 bits: once a pending unit conflict is settled, or after the step, if it is accepted
+-- `ExhaustsCounters step f` holds if a number does not fit in 64 bits once a pending unit conflict is settled, or after
+-- the step, if it is accepted.
 abbrev pub ExhaustsCounters : Step → Stored → Type 0
 ExhaustsCounters step f = CountersExhausted (with_conflict_settled f) ⊎ (Accepts (with_conflict_settled f) step × CountersExhausted (effect step (with_conflict_settled f)))

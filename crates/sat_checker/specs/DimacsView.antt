@@ -20,19 +20,22 @@ use Rattle.sat_checker.specs.declared.error.CheckerError.TheVariants as errors
 use Rattle.sat_checker.specs.declared.error.CheckerDimacsError.{CheckerDimacsError}
 use Rattle.sat_checker.specs.declared.error.CheckerDimacsError.TheVariants as refused
 
--- that these are the clauses of some prefix of the text, up to the prefix's last blank
+-- `AreOfPrefix text clauses` holds if these are the clauses of some prefix of the text, up to the last blank of the
+-- prefix.
 abbrev pub AreOfPrefix : List ℕ → List (List ℕ) → Type 0
 AreOfPrefix text clauses = (front : List ℕ) × (left : List ℕ) × (text ≡ front ++ left) × (clauses ≡ (dimacs (up_to_last_blank front)).clauses)
 
--- that these are the clauses that were read: those of a prefix of the text, up to a blank, or all clauses of the text
+-- `AreRead text clauses` holds if these are the clauses that were read: those of a prefix of the text, up to a blank,
+-- or all clauses of the text.
 abbrev pub AreRead : List ℕ → List (List ℕ) → Type 0
 AreRead text clauses = AreOfPrefix text clauses ⊎ (clauses ≡ (dimacs text).clauses)
 
--- that the text begins with these clauses
+-- `AreFirst clauses text` holds if the clauses of the text begin with these clauses.
 abbrev pub AreFirst : List (List ℕ) → List ℕ → Type 0
 AreFirst clauses text = (following : List (List ℕ)) × ((dimacs text).clauses ≡ clauses ++ following)
 
--- that the text has these clauses and then this fault, or that memory ran out and these are the clauses of a prefix
+-- `FaultAfter error text clauses` holds if the text has these clauses and then this fault, or if memory ran out and
+-- these are the clauses of a prefix.
 abbrev pub FaultAfter : DimacsError → List ℕ → List (List ℕ) → Type 0
 FaultAfter (texts.Malformed line) text clauses = (n : ℕ) × (line ≡ capped n) × IsDimacs text clauses (Malformed n)
 FaultAfter (texts.Limit line) text clauses = (n : ℕ) × (line ≡ capped n) × IsDimacs text clauses (Limit n)
@@ -40,21 +43,23 @@ FaultAfter texts.OutOfMemory text clauses = RunsOutWhileParsing text × AreOfPre
 FaultAfter texts.Read text clauses = ⊥
 FaultAfter texts.HasFailed text clauses = ⊥
 
--- That reading a text ended with this error after these clauses. If no read failed, `FaultAfter` holds for every text
--- that the reader could then give.
+-- `FailsAfter error from to clauses` holds if reading a text ended with this error after these clauses. If no read
+-- failed, `FaultAfter` holds for every text that the reader could then give.
 abbrev pub FailsAfter : DimacsError → Reader → Reader → List (List ℕ) → Type 0
 FailsAfter texts.Read from to clauses = ReadFails from to × (text : List ℕ) × GavePrefix from to text × IsSoundText text × (clauses ≡ (dimacs (up_to_last_blank text)).clauses)
 FailsAfter error from to clauses = NoReadFailed from to × GaveEnough from to (λ text. FaultAfter error text clauses)
 
 module _ {L : Type 0} (Hears : L → Notice → Result Unit ProcessingError → L → Type 0) (before : List Notice) (begun : L) where
-  -- that the checker has not failed, unless memory ran out; then it has
+  -- `ContinuesAfter Hears before begun error new steps` holds if the checker has accepted these steps and has not
+  -- failed; if memory ran out, it has failed.
   abbrev pub ContinuesAfter : DimacsError → CheckerView L → List Step → Type 0
   ContinuesAfter texts.OutOfMemory new steps = FailsBeforeStep Hears before begun new steps
   ContinuesAfter error new steps = HasAcceptedUnfailed Hears before begun new steps
 
-  -- What the result of adding a text means, after these accepted steps. `Ok` means that all clauses of the text were
-  -- added. After a fault of the text or a failed read, the clauses read before it were added. After an error of the
-  -- checker, the clauses before the clause that caused it were added.
+  -- `AnswersDimacs Hears before begun result old new from to earlier` holds if the result of adding a text is correct,
+  -- when the steps `earlier` were accepted before. `Ok` means that all clauses of the text were added. After a fault of
+  -- the text or a failed read, the clauses read before it were added. After an error of the checker, the clauses before
+  -- the clause that caused it were added.
   abbrev pub AnswersDimacs : Result Unit CheckerDimacsError → CheckerView L → CheckerView L → Reader → Reader → List Step → Type 0
   AnswersDimacs (Ok x) old new from to earlier =
       NoReadFailed from to × (clauses : List (List ℕ)) × GaveEnough from to (λ text. IsDimacs text clauses Clean) × AnswersClauses Hears before begun (Ok tt) old new clauses earlier
@@ -65,23 +70,25 @@ module _ {L : Type 0} (Hears : L → Notice → Result Unit ProcessingError → 
       NoReadFailed from to × (clauses : List (List ℕ)) × GaveEnough from to (λ text. AreRead text clauses) × AnswersClauses Hears before begun (Err error) old new clauses earlier
 
 module _ {L : Type 0} (Hears : L → Notice → Result Unit ProcessingError → L → Type 0) where
-  -- the result of adding a formula's text, whatever was accepted and announced earlier
+  -- `AddsDimacs Hears result old new from to` holds if `AnswersDimacs` does, whatever was accepted and announced
+  -- earlier.
   abbrev pub AddsDimacs : Result Unit CheckerDimacsError → CheckerView L → CheckerView L → Reader → Reader → Type 0
   AddsDimacs result old new from to = (before : List Notice) (begun : L) (steps : List Step) → HasAccepted Hears before begun old steps → AnswersDimacs Hears before begun result old new from to steps
 
--- that the error is a listener's fault only if a listener was added
+-- `DimacsErrorNeedsListener old error` holds if the error is a fault of a listener only if a listener was added.
 abbrev pub DimacsErrorNeedsListener : {P T : Type 0} → Processing P T → CheckerDimacsError → Type 0
 DimacsErrorNeedsListener old (refused.Checker error) = ErrorNeedsListener old error
 DimacsErrorNeedsListener old (refused.Dimacs error) = Unit {0}
 
--- that the result is a listener's fault only if a listener was added
+-- `DimacsFaultNeedsListener result old` holds if the result is a fault of a listener only if a listener was added.
 abbrev pub DimacsFaultNeedsListener : {P T : Type 0} → Result Unit CheckerDimacsError → Checker P T → Type 0
 DimacsFaultNeedsListener result old = (steps : List Step) → kernels.HasAccepted (kernel_of old) steps → IfErr result (DimacsErrorNeedsListener old.processing)
 
--- that every text that continues this one begins with the clauses of this one up to its last blank
+-- `EndedStayFirst` holds if every text that continues a given text begins with the clauses that the given text has up
+-- to its last blank.
 abbrev pub EndedStayFirst : Type 0
 EndedStayFirst = (text rest : List ℕ) → AreFirst (dimacs (up_to_last_blank text)).clauses (text ++ rest)
 
--- that a text begins with the clauses that were read from it, in the sense of `AreRead`
+-- `ReadAreFirst` holds if every text begins with any clauses that were read from it, in the sense of `AreRead`.
 abbrev pub ReadAreFirst : Type 0
 ReadAreFirst = (text : List ℕ) (clauses : List (List ℕ)) → AreRead text clauses → AreFirst clauses text

@@ -6,11 +6,12 @@ use Rattle.sat_checker.specs.Accepts.{stored_after, ready_after}
 use Rattle.sat_checker.specs.ProofView.{most_bytes, taken_after}
 use Rattle.sat_checker.specs.Counters.{ExhaustsCounters}
 
--- that steps assign at most as many ids as they have bytes
+-- `IdsWithinBytes` holds if the next id after any steps is at most the number of bytes that spell them.
 abbrev pub IdsWithinBytes : Type 0
 IdsWithinBytes = (steps : List Step) (text : List ℕ) → SpellsSteps steps text → (ready_after (taken_after steps [])).next_id ≤ length text
 
--- that steps of at most `most_bytes` bytes never exhaust the ids or counts
+-- `CountersNeverExhausted` holds if no step exhausts the ids or counts, provided that it and the steps before it are
+-- spelled by at most `most_bytes` bytes.
 abbrev pub CountersNeverExhausted : Type 0
 CountersNeverExhausted = (steps : List Step) (step : Step) (text : List ℕ) → SpellsSteps (steps ++ step ∷ []) text → length text ≤ most_bytes
     → ExhaustsCounters step (stored_after (taken_after steps [])) → ⊥

@@ -10,74 +10,75 @@ use Rattle.sat_checker.specs.Stored.{Empty, Stored, unknown, unit_literals, is_k
 use Rattle.sat_checker.specs.Accepts.{Accepts, AcceptsAll, effect, ready_after}
 use Rattle.sat_checker.specs.Fold.{Holds}
 
--- that a valuation satisfies the stored formula exactly when the accepted steps allow it
+-- `FormulaIsFold` holds if a valuation satisfies the stored formula exactly when the accepted steps allow it.
 abbrev pub FormulaIsFold : Type 0
 FormulaIsFold = (steps : List Step) (a : Valuation) → AcceptsAll steps → Satisfies (ready_after steps) a ↔ Holds steps a
 
--- that accepted steps allow no valuation once unsat is recorded
+-- `UnsatMeansNone` holds if accepted steps that record unsat allow no valuation.
 abbrev pub UnsatMeansNone : Type 0
 UnsatMeansNone = (steps : List Step) (a : Valuation) → AcceptsAll steps → (ready_after steps).unsat ≡ true → Holds steps a → ⊥
 
--- that the accepted steps allow every valuation that satisfies an accepted model and the units, and that there is one
+-- `ModelsExtend` holds if the accepted steps allow every valuation that satisfies an accepted model and the units, and
+-- if there is such a valuation.
 abbrev pub ModelsExtend : Type 0
 ModelsExtend = (steps : List Step) (ls : List ℕ) → AcceptsAll steps → Accepts (ready_after steps) (Model ls) →
     ((a : Valuation) → EachTrue a ls → EachTrue a (unit_literals (ready_after steps)) → Holds steps a)
     × ((a : Valuation) × EachTrue a ls × EachTrue a (unit_literals (ready_after steps)))
 
--- that no valuation that the accepted steps allow satisfies an accepted failed core
+-- `CoresFail` holds if no valuation that the accepted steps allow satisfies every literal of an accepted failed core.
 abbrev pub CoresFail : Type 0
 CoresFail = (steps : List Step) (core hashes : List ℕ) (a : Valuation) → AcceptsAll steps → Accepts (ready_after steps) (FailedAssumptions core hashes) → Holds steps a → EachTrue a core → ⊥
 
--- that an accepted failed core is among the assumptions
+-- `CoresAssumed` holds if every literal of an accepted failed core is among the assumptions.
 abbrev pub CoresAssumed : Type 0
 CoresAssumed = (f : Stored) (core hashes : List ℕ) → Accepts f (FailedAssumptions core hashes) → AllByRecursion (λ l. is_among f.assumed l ≡ true) core
 
--- that a variable that got a name is known
+-- `NamedIsKnown` holds if every variable that is given a name is then known.
 abbrev pub NamedIsKnown : Type 0
 NamedIsKnown = (f : Stored) (v name : ℕ) → is_known v (effect (UserVarName v (Some name)) f) ≡ true
 
--- that a known variable remains known until it is deleted
+-- `KnownStays` holds if every known variable remains known until it is deleted.
 abbrev pub KnownStays : Type 0
 KnownStays = (f : Stored) (step : Step) (v : ℕ) → is_known v f ≡ true → (is_known v (effect step f) ≡ true) ⊎ (step ≡ DeleteVar v)
 
--- that a variable that may be deleted has no name
+-- `DeletedIsNameless` holds if no variable that may be deleted has a name.
 abbrev pub DeletedIsNameless : Type 0
 DeletedIsNameless = (f : Stored) (v : ℕ) → Accepts f (DeleteVar v) → name_of v f ≡ None
 
--- that no two variables have the same name
+-- `NamesDistinct` holds if no two variables have the same name after accepted steps.
 abbrev pub NamesDistinct : Type 0
 NamesDistinct = (steps : List Step) (v w name : ℕ) → AcceptsAll steps → name_of v (ready_after steps) ≡ Some name → name_of w (ready_after steps) ≡ Some name → v ≡ w
 
--- that a variable that is not known has its initial data
+-- `UnknownIsUnknown` holds if every variable that is not known after accepted steps has the data `unknown`.
 abbrev pub UnknownIsUnknown : Type 0
 UnknownIsUnknown = (steps : List Step) (v : ℕ) → AcceptsAll steps → is_known v (ready_after steps) ≡ false → (ready_after steps).variables v ≡ unknown
 
--- whether one of these steps deletes a variable
+-- `has_delete_var steps` is true if one of these steps deletes a variable.
 abbrev pub has_delete_var : List Step → Bool
 has_delete_var [] = false
 has_delete_var (DeleteVar v ∷ earlier) = true
 has_delete_var (step ∷ earlier) = has_delete_var earlier
 
--- that the record of deleted variables says whether one of the steps deletes a variable
+-- `DeletionIsSeen` holds if a deleted variable is recorded exactly when one of the steps deletes a variable.
 abbrev pub DeletionIsSeen : Type 0
 DeletionIsSeen = (steps : List Step) → (ready_after steps).var_deleted ≡ has_delete_var steps
 
--- that an empty clause that is the last irredundant clause stored has an id that was assigned
+-- `EmptyIsGiven` holds if the id of an empty clause that is the last irredundant clause stored was assigned.
 abbrev pub EmptyIsGiven : Type 0
 EmptyIsGiven = (steps : List Step) (id : ℕ) → AcceptsAll steps → (ready_after steps).last ≡ Empty id → id < (ready_after steps).next_id
 
--- that the canonical form is increasing and has the same literals
+-- `CanonicalIsSortedSet` holds if the canonical form of every list is increasing and has the same literals.
 abbrev pub CanonicalIsSortedSet : Type 0
 CanonicalIsSortedSet = (ls : List ℕ) → IsIncreasing (canonical ls) × ((l : ℕ) → is_among (canonical ls) l ≡ is_among ls l)
 
--- that a clause is a tautology exactly when it contains a literal and its negation
+-- `TautologyHasBothSigns` holds if a clause is a tautology exactly when it contains a literal and its negation.
 abbrev pub TautologyHasBothSigns : Type 0
 TautologyHasBothSigns = (ls : List ℕ) → (is_tautology ls ≡ true) ↔ ((l : ℕ) × (is_among ls l ≡ true) × (is_among ls (negated l) ≡ true))
 
--- that sorted sets with the same literals are equal
+-- `SortedSetsAreEqual` holds if sorted sets with the same literals are equal.
 abbrev pub SortedSetsAreEqual : Type 0
 SortedSetsAreEqual = (xs ys : List ℕ) → IsIncreasing xs → IsIncreasing ys → ((l : ℕ) → is_among xs l ≡ is_among ys l) → xs ≡ ys
 
--- that `same_literals` compares lists for equality
+-- `SameLiteralsAreEqual` holds if `same_literals` is true exactly for equal lists.
 abbrev pub SameLiteralsAreEqual : Type 0
 SameLiteralsAreEqual = (xs ys : List ℕ) → (same_literals xs ys ≡ true) ↔ (xs ≡ ys)

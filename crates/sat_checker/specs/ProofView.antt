@@ -2,7 +2,7 @@
 use Rattle.std.specs.Prelude.{ℕ, ◌≡◌, ◌≢◌, ◌+◌, ◌*◌, ◌≤◌, ◌<◌, ◌⊎◌, false, true, List, [], ◌∷◌, ◌++◌, length, Result, Ok, Err}
 use Rattle.std.specs.List.{AllByRecursion}
 use Rattle.sat_base.specs.device.Device.{Reader, GavePrefix, FewReads, IsOver, ReadFails, most_reads, piece_size}
-use Rattle.sat_base.specs.steps.Formats.{IsProperPrefix, IsPrefixOfText, IsFirstBadByte}
+use Rattle.sat_base.specs.steps.Formats.{IsProperPrefix, IsFirstBadByte}
 use Rattle.sat_base.specs.steps.Steps.{Step, End}
 use Rattle.sat_base.specs.steps.StepText.{SpellsStep, SpellsSteps}
 use Rattle.sat_checker.specs.Accepts.{Accepts, stored_after, ready_after}
@@ -15,21 +15,22 @@ use Rattle.sat_checker.specs.declared.error.CheckerError.TheVariants as errors
 use Rattle.sat_checker.specs.declared.processing.ProcessingError.{ProcessingError}
 use Rattle.sat_checker.specs.declared.processing.ProcessingError.TheVariants as faults
 
--- all accepted steps, the newest first, once `steps`, the oldest first, follow the earlier steps
+-- All accepted steps, the newest first, once `steps`, the oldest first, follow the earlier steps.
 abbrev pub taken_after : List Step → List Step → List Step
 taken_after [] earlier = earlier
 taken_after (step ∷ steps) earlier = taken_after steps (step ∷ earlier)
 
--- the bound on the looks of these steps, after the earlier steps
+-- The bound on the looks of these steps, after the earlier steps.
 abbrev pub most_looks_after : List Step → List Step → ℕ
 most_looks_after [] earlier = 0
 most_looks_after (step ∷ steps) earlier = most_looks (ready_after earlier) step + most_looks_after steps (step ∷ earlier)
 
--- the largest number of bytes that the allowed reads can give: 2^60
+-- The largest number of bytes that the allowed reads can give: 2^60.
 abbrev pub most_bytes : ℕ
 most_bytes = piece_size * most_reads
 
--- That a reader gave the text of these steps, and then these bytes. The numbers of reads and of bytes are bounded.
+-- `GaveSteps old new steps rest` holds if a reader gave the text of these steps, and then the bytes `rest`, between
+-- `old` and `new`. The numbers of reads and of bytes are bounded.
 pub record GaveSteps (old new : Reader) (steps : List Step) (rest : List ℕ) : Type 0 where
   pub text : List ℕ
   pub spelt : SpellsSteps steps text
@@ -38,37 +39,37 @@ pub record GaveSteps (old new : Reader) (steps : List Step) (rest : List ℕ) : 
   pub reads : new.calls ≤ old.calls + most_reads
   pub bytes : length (text ++ rest) ≤ most_bytes
 
--- that these bytes begin with a step, complete or cut off, of at least one byte
-pub record BeginsWithStep (bytes : List ℕ) : Type 0 where
-  pub tag : ℕ
-  pub more : List ℕ
-  pub following : List ℕ
-  pub whole : bytes ≡ (tag ∷ more) ++ following
-  pub begins : IsPrefixOfText SpellsStep (tag ∷ more)
+-- `StopsWithinStep bytes` holds if the bytes, at least one, are a proper prefix of a step.
+pub record StopsWithinStep (bytes : List ℕ) : Type 0 where
+  pub some : 0 < length bytes
+  pub front : IsProperPrefix SpellsStep bytes
 
--- That a checker that had not failed read the steps `passed`, none of them an end, then the steps `last`, and then the
--- bytes `rest`. Its looks rose at most by the bound for these steps.
+-- `ReadsProofPart old new from to earlier passed last rest` holds if a checker that had not failed read the steps
+-- `passed`, none of them an `End`, then the steps `last`, and then the bytes `rest`. Its looks rose at most by the
+-- bound for these steps.
 pub record ReadsProofPart {L : Type 0} (old new : CheckerView L) (from to : Reader) (earlier passed last : List Step) (rest : List ℕ) : Type 0 where
   pub well : has_failed old ≡ false
   pub steps : GaveSteps from to (passed ++ last) rest
   pub unended : AllByRecursion (λ step. step ≢ End) passed
   pub looks : looks_of new ≤ looks_of old + most_looks_after (passed ++ last) earlier
 
--- that no read failed
+-- `NoReadFailed from to` holds if no read between `from` and `to` failed.
 abbrev pub NoReadFailed : Reader → Reader → Type 0
 NoReadFailed from to = to.failures ≡ from.failures
 
--- That no read since `from` found the end.
+-- `FoundNoEnd from to` holds if no read between `from` and `to` found the end.
 abbrev pub FoundNoEnd : Reader → Reader → Type 0
 FoundNoEnd from to = from.calls < to.calls → to.ended ≡ true → ⊥
 
 module _ {L : Type 0} (Hears : L → Notice → Result Unit ProcessingError → L → Type 0) (before : List Notice) (begun : L) where
-  -- that these steps were accepted, and the checker has not failed
+  -- `HasAcceptedUnfailed Hears before begun new steps` holds if the checker has accepted these steps and has not
+  -- failed.
   abbrev pub HasAcceptedUnfailed : CheckerView L → List Step → Type 0
   HasAcceptedUnfailed new steps = HasAccepted Hears before begun new steps × (has_failed new ≡ false)
 
-  -- What the result for a proof means, after these accepted steps. `Ok` means that the steps up to the first end were
-  -- accepted. Bytes after the end do not matter.
+  -- `AnswersProof Hears before begun result old new from to earlier` holds if the result for a proof is correct, when
+  -- the steps `earlier` were accepted before. `Ok` means that the steps up to the first `End` were accepted. Bytes
+  -- after it do not matter.
   abbrev pub AnswersProof : Result Unit CheckerError → CheckerView L → CheckerView L → Reader → Reader → List Step → Type 0
   AnswersProof (Ok x) old new from to earlier =
       (passed : List Step) × (rest : List ℕ) × ReadsProofPart old new from to earlier passed (End ∷ []) rest × NoReadFailed from to × HasAcceptedUnfailed new (End ∷ taken_after passed earlier) × IsSettled new
@@ -88,10 +89,10 @@ module _ {L : Type 0} (Hears : L → Notice → Result Unit ProcessingError → 
   AnswersProof (Err errors.IoError) old new from to earlier =
       (passed : List Step) × (rest : List ℕ) × ReadsProofPart old new from to earlier passed [] rest × ReadFails from to
       × IsProperPrefix SpellsStep rest × HasAcceptedUnfailed new (taken_after passed earlier)
-  -- memory ran out while a step was read, after at least one byte of it, or while the step was checked or announced
+  -- memory ran out within a step, after at least one byte of it, or while the step was checked or announced
   AnswersProof (Err errors.OutOfMemory) old new from to earlier =
       (passed : List Step) × (rest : List ℕ) × NoReadFailed from to
-      × ((ReadsProofPart old new from to earlier passed [] rest × BeginsWithStep rest × FailsBeforeStep Hears before begun new (taken_after passed earlier))
+      × ((ReadsProofPart old new from to earlier passed [] rest × StopsWithinStep rest × FailsBeforeStep Hears before begun new (taken_after passed earlier))
       ⊎ ((step : Step) × ReadsProofPart old new from to earlier passed (step ∷ []) rest × RunsOutOfMemoryAt Hears before begun new step (taken_after passed earlier)))
   -- an id or a count does not fit in 64 bits
   AnswersProof (Err errors.CounterEnd) old new from to earlier =
@@ -104,6 +105,7 @@ module _ {L : Type 0} (Hears : L → Notice → Result Unit ProcessingError → 
   AnswersProof (Err errors.HasFailed) old new from to earlier = (has_failed old ≡ true) × (to ≡ from) × (new ≡ old)
 
 module _ {L : Type 0} (Hears : L → Notice → Result Unit ProcessingError → L → Type 0) where
-  -- the result of checking a proof, whatever was accepted and announced earlier
+  -- `ChecksProof Hears result old new from to` holds if `AnswersProof` does, whatever was accepted and announced
+  -- earlier.
   abbrev pub ChecksProof : Result Unit CheckerError → CheckerView L → CheckerView L → Reader → Reader → Type 0
   ChecksProof result old new from to = (before : List Notice) (begun : L) (steps : List Step) → HasAccepted Hears before begun old steps → AnswersProof Hears before begun result old new from to steps

@@ -4,37 +4,39 @@ use Rattle.std.specs.List.{AllByRecursion, list_any}
 use Rattle.sat_base.specs.values.Literals.{negated}
 use Rattle.sat_checker.specs.LiteralSets.{is_among, is_tautology}
 
--- that every literal of the clause is false if the assumed literals are true
+-- `IsFalsified assumed clause` holds if every literal of the clause is false when the assumed literals are true.
 abbrev pub IsFalsified : List ℕ → List ℕ → Type 0
 IsFalsified assumed clause = AllByRecursion (λ l. is_among assumed (negated l) ≡ true) clause
 
--- that the literal is in the clause and not assigned, and every other literal of the clause is false
+-- `IsUnit assumed clause open_literal` holds if the literal is in the clause and has no value, and every other literal
+-- of the clause is false.
 pub record IsUnit (assumed clause : List ℕ) (open_literal : ℕ) : Type 0 where
   pub within : is_among clause open_literal ≡ true
   pub not_true : is_among assumed open_literal ≡ false
   pub not_false : is_among assumed (negated open_literal) ≡ false
   pub others : AllByRecursion (λ l. (l ≡ open_literal) ⊎ (is_among assumed (negated l) ≡ true)) clause
 
--- that every clause but the last is unit once the open literals of earlier clauses are assumed, and that the last
--- clause is then falsified
+-- `UnitInTurn assumed clauses` holds if every clause but the last is unit once the open literals of earlier clauses are
+-- assumed, and the last clause is then falsified.
 abbrev pub UnitInTurn : List ℕ → List (List ℕ) → Type 0
 UnitInTurn assumed [] = ⊥
 UnitInTurn assumed (clause ∷ []) = IsFalsified assumed clause
 UnitInTurn assumed (clause ∷ next ∷ rest) =
     (open_literal : ℕ) × IsUnit assumed clause open_literal × UnitInTurn (open_literal ∷ assumed) (next ∷ rest)
 
--- that the first list is the second with some elements left out
+-- `IsSubsequence xs ys` holds if `xs` is `ys` with some elements left out.
 abbrev pub IsSubsequence : List (List ℕ) → List (List ℕ) → Type 0
 IsSubsequence [] ys = Unit {0}
 IsSubsequence (x ∷ xs) [] = ⊥
 IsSubsequence (x ∷ xs) (y ∷ ys) = ((x ≡ y) × IsSubsequence xs ys) ⊎ IsSubsequence (x ∷ xs) ys
 
--- the clauses of the buckets, one bucket after another
+-- The clauses of the buckets, one bucket after another.
 abbrev pub clauses_in : List (List (List ℕ)) → List (List ℕ)
 clauses_in [] = []
 clauses_in (b ∷ bs) = b ++ clauses_in bs
 
--- that some clauses of the first buckets, none of which is empty, are unit in turn, and the last of them is falsified
+-- `BucketsConflict assumed buckets` holds if some clauses of the first buckets, none of which is empty, are unit in
+-- turn, and the last of them is falsified.
 pub record BucketsConflict (assumed : List ℕ) (buckets : List (List (List ℕ))) : Type 0 where
   pub first : List (List (List ℕ))
   pub rest : List (List (List ℕ))
@@ -44,8 +46,8 @@ pub record BucketsConflict (assumed : List ℕ) (buckets : List (List (List ℕ)
   pub chosen : IsSubsequence picked (clauses_in first)
   pub conflict : UnitInTurn assumed picked
 
--- That a clause passes the check under stored units and the buckets of a step. It has both signs of a variable, or a
--- unit satisfies it, or the buckets lead to a conflict.
+-- `PassesCheck units clause buckets` holds if the clause passes the check with these units and the buckets of a step:
+-- it has both signs of a variable, or a unit satisfies it, or the buckets lead to a conflict.
 pub data PassesCheck (units clause : List ℕ) (buckets : List (List (List ℕ))) : Type 0 where
   tautology : is_tautology clause ≡ true → PassesCheck units clause buckets
   unit_true : list_any (is_among units) clause ≡ true → PassesCheck units clause buckets

@@ -14,35 +14,35 @@ pub record StoredClause : Type 0 where
   pub irredundant : ℕ
   pub redundant : ℕ
 
--- a clause of one literal, under its id
+-- A clause of one literal, under its id.
 pub record StoredUnit : Type 0 where
   pub id : ℕ
   pub literal : ℕ
 
--- the mode of a variable: steps set sample and witness, and a variable whose name is removed is hidden
+-- The mode of a variable: steps set sample and witness, and a variable whose name is removed is hidden.
 pub data Mode : Type 0 where
   Sample : Mode
   Witness : Mode
   Hide : Mode
 
--- the data of a variable: whether it is known, its mode, and its user's name, if any
+-- The data of a variable: whether it is known, its mode, and its user's name, if any.
 pub record Variable : Type 0 where
   pub known : Bool
   pub mode : Mode
   pub name : Option ℕ
 
--- the initial data of every variable: not known, with mode sample, and without a name
+-- The initial data of every variable: not known, with mode sample, and without a name.
 abbrev pub unknown : Variable
 unknown = record { known = false; mode = Sample; name = None }
 
--- the last irredundant clause stored: none yet, or the id of an empty clause, a unit or a longer clause
+-- The last irredundant clause stored: none yet, or the id of an empty clause, a unit or a longer clause.
 pub data Last : Type 0 where
   NoneYet : Last
   Empty : ℕ → Last
   UnitClause : ℕ → Last
   LongClause : ℕ → Last
 
--- what is stored after accepted steps: clauses, units and variables, and some records
+-- What is stored after accepted steps: clauses, units and variables, and some records.
 pub record Stored : Type 0 where
   pub clauses : List StoredClause  -- in order of their ids
   pub units : List StoredUnit
@@ -57,7 +57,7 @@ pub record Stored : Type 0 where
   pub ended : Bool
   pub var_deleted : Bool
 
--- what is stored before the first step
+-- What is stored before the first step.
 abbrev pub nothing_stored : Stored
 nothing_stored = record {
   clauses = [];
@@ -74,43 +74,44 @@ nothing_stored = record {
   var_deleted = false;
 }
 
--- whether a step made the variable known and no step deleted it since
+-- `is_known v f` is true if a step made the variable known and no step has deleted it since.
 abbrev pub is_known : ℕ → Stored → Bool
 is_known v f = (f.variables v).known
 
--- the mode of a variable, initially sample
+-- The mode of a variable, initially sample.
 abbrev pub mode_of : ℕ → Stored → Mode
 mode_of v f = (f.variables v).mode
 
--- the user's name of a variable, or `None`
+-- The user's name of a variable, or `None`.
 abbrev pub name_of : ℕ → Stored → Option ℕ
 name_of v f = (f.variables v).name
 
--- the literals stored as units, in order of their ids
+-- The literals stored as units, in order of their ids.
 abbrev pub unit_literals : Stored → List ℕ
 unit_literals f = map (λ u. u.literal) f.units
 
--- whether the literal is a stored unit
+-- `is_unit f l` is true if the literal is a stored unit.
 abbrev pub is_unit : Stored → ℕ → Bool
 is_unit f = is_among (unit_literals f)
 
--- the literal with its variable's solver name, or itself if there is none
+-- The literal with its variable's solver name, or itself if there is none.
 abbrev pub solver_literal : (ℕ → Option ℕ) → ℕ → ℕ
 solver_literal names l = 2 * unwrap_or (names (variable l)) (variable l) + l % 2
 
--- the top `width` bits of a clause's 64-bit hash, computed with solver names
+-- The top `width` bits of a clause's 64-bit hash, computed with solver names.
 abbrev pub hash_by : (ℕ → Option ℕ) → ℕ → List ℕ → ℕ
 hash_by names width clause = hash_of (map (solver_literal names) clause) / 2 ^ (64 - width)
 
--- the literals of every clause of two literals or more
+-- The literals of every clause of two literals or more.
 abbrev pub long_clauses : Stored → List (List ℕ)
 long_clauses f = map (λ c. c.literals) f.clauses
 
--- the literals of the clauses with one hash, in order of ids
+-- The literals of the clauses with one hash, in order of ids.
 abbrev pub bucket : Stored → ℕ → List (List ℕ)
 bucket f hash = filter (λ c. hash_by f.solver_names f.width c == hash) (long_clauses f)
 
--- that every unit and every clause with an irredundant count is true, and unsat is not recorded
+-- `Satisfies f a` holds if the valuation satisfies every unit and every clause with an irredundant count, and unsat is
+-- not recorded.
 pub record Satisfies (f : Stored) (a : Valuation) : Type 0 where
   pub consistent : f.unsat ≡ false
   pub kept : AllByRecursion (λ c. (c.irredundant ≡ 0) ⊎ (clause_true a c.literals ≡ true)) f.clauses

@@ -1,4 +1,5 @@
 pub mod Marks
+pub mod Clashes
 pub mod AssumedRoom
 pub mod Walk
 pub mod Look

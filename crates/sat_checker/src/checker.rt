@@ -6,10 +6,11 @@ ghost use Rattle.sat_checker.specs.Stored.{is_known, name_of};
 ghost use Rattle.sat_checker.specs.Accepts.{ready_after};
 ghost use Rattle.sat_checker.specs.KernelView as kernels;
 ghost use Rattle.sat_checker.specs.KernelView.{kernel_has_failed, kernel_looks, LooksAtMost, HasAccepted};
-ghost use Rattle.sat_checker.specs.CheckerView.{kernel_of, seen_of, AddsListener, ChecksStep, ChecksDelayed};
-ghost use Rattle.sat_checker.specs.CheckerView.{ChecksClause, FaultNeedsListener, FailsAgain};
+ghost use Rattle.sat_checker.specs.CheckerView.{kernel_of, seen_of, looks_of, added_listeners, AddsListener};
+ghost use Rattle.sat_checker.specs.CheckerView.{ChecksStep, ChecksDelayed, ChecksClause};
+ghost use Rattle.sat_checker.specs.CheckerView.{FaultNeedsListener, FailsAgain};
 ghost use Rattle.sat_checker.specs.declared.error.CheckerError.TheVariants.{HasFailed};
-ghost use Rattle.sat_checker.specs.listeners.ProcessingView.{listeners_of, HearsEach};
+ghost use Rattle.sat_checker.specs.listeners.ProcessingView.{HearsEach};
 
 mod dimacs;
 mod formula;
@@ -35,13 +36,13 @@ pub struct Checker<P: ProofProcessor = Nobody, T: ProofTranscriptProcessor = Nob
 }
 
 impl Checker<Nobody, Nobody> {
-    /// Creates a checker that has no listeners and has accepted no steps yet. Does not allocate.
+    /// Creates a checker that has no listeners and has accepted no steps yet. Never allocates.
     pub fn new(alloc: Global) -> Checker<Nobody, Nobody>
         ensures valid { HasAccepted (kernel_of result) [] }
         ensures goes_on { kernel_has_failed (kernel_of result) ≡ false }
         ensures settled { kernels.KernelIsSettled (kernel_of result) }
         ensures looks { kernel_looks (kernel_of result) ≡ 0 }
-        ensures listeners { listeners_of result.processing ≡ record { processors = []; transcripts = [] } }
+        ensures listeners { added_listeners result ≡ record { processors = []; transcripts = [] } }
     {
         Checker::notifying(alloc)
     }
@@ -67,7 +68,7 @@ impl<P: ProofProcessor, T: ProofTranscriptProcessor> Checker<P, T> {
         ensures goes_on { kernel_has_failed (kernel_of result) ≡ false }
         ensures settled { kernels.KernelIsSettled (kernel_of result) }
         ensures looks { kernel_looks (kernel_of result) ≡ 0 }
-        ensures listeners { listeners_of result.processing ≡ record { processors = []; transcripts = [] } }
+        ensures listeners { added_listeners result ≡ record { processors = []; transcripts = [] } }
     {
         Checker {
             kernel: Kernel::new(alloc),
@@ -82,7 +83,7 @@ impl<P: ProofProcessor, T: ProofTranscriptProcessor> Checker<P, T> {
         ensures goes_on { kernel_has_failed (kernel_of result) ≡ false }
         ensures settled { kernels.KernelIsSettled (kernel_of result) }
         ensures looks { kernel_looks (kernel_of result) ≡ 0 }
-        ensures listeners { listeners_of result.processing
+        ensures listeners { added_listeners result
             ≡ record { processors = listeners.processors.items; transcripts = listeners.transcripts.items } }
     {
         Checker {
@@ -95,9 +96,9 @@ impl<P: ProofProcessor, T: ProofTranscriptProcessor> Checker<P, T> {
     /// dropped, and the checker fails.
     pub fn add_processor(&mut self, processor: P) -> Result<(), CheckerError>
         ensures { AddsListener result (kernel_of self.old) (kernel_of self.new)
-            (listeners_of self.old.processing) (listeners_of self.new.processing)
-            (record (listeners_of self.old.processing) {
-              processors = (listeners_of self.old.processing).processors ++ processor ∷ [];
+            (added_listeners self.old) (added_listeners self.new)
+            (record (added_listeners self.old) {
+              processors = (added_listeners self.old).processors ++ processor ∷ [];
             }) }
     {
         if self.kernel.failed {
@@ -114,9 +115,9 @@ impl<P: ProofProcessor, T: ProofTranscriptProcessor> Checker<P, T> {
     /// dropped, and the checker fails.
     pub fn add_transcript(&mut self, transcript: T) -> Result<(), CheckerError>
         ensures { AddsListener result (kernel_of self.old) (kernel_of self.new)
-            (listeners_of self.old.processing) (listeners_of self.new.processing)
-            (record (listeners_of self.old.processing) {
-              transcripts = (listeners_of self.old.processing).transcripts ++ transcript ∷ [];
+            (added_listeners self.old) (added_listeners self.new)
+            (record (added_listeners self.old) {
+              transcripts = (added_listeners self.old).transcripts ++ transcript ∷ [];
             }) }
     {
         if self.kernel.failed {
@@ -132,8 +133,8 @@ impl<P: ProofProcessor, T: ProofTranscriptProcessor> Checker<P, T> {
     /// Returns the processors and the transcripts, each in the order in which they were added. This works even after
     /// the checker has failed.
     pub fn into_processors(self) -> Processors<P, T>
-        ensures processors { result.processors.items ≡ (listeners_of self.processing).processors }
-        ensures transcripts { result.transcripts.items ≡ (listeners_of self.processing).transcripts }
+        ensures processors { result.processors.items ≡ (added_listeners self).processors }
+        ensures transcripts { result.transcripts.items ≡ (added_listeners self).transcripts }
     {
         let Checker { kernel, processing } = self;
         drop(kernel);
@@ -146,7 +147,7 @@ impl<P: ProofProcessor, T: ProofTranscriptProcessor> Checker<P, T> {
         ensures checks { ChecksClause (HearsEach P.takes T.reads)
             result (seen_of self.old) clause.now (seen_of self.new) }
         ensures looks { LooksAtMost (kernel_of self.old) (AddClause clause.now) (kernel_of self.new) }
-        ensures rise { kernel_looks (kernel_of self.old) ≤ kernel_looks (kernel_of self.new) }
+        ensures rise { looks_of (seen_of self.old) ≤ looks_of (seen_of self.new) }
         ensures faults { FaultNeedsListener result self.old }
         ensures failed { FailsAgain HasFailed result self.old self.new }
     {
@@ -174,38 +175,38 @@ impl<P: ProofProcessor, T: ProofTranscriptProcessor> Checker<P, T> {
             .check_step(step, &mut nobody, false, &mut self.processing)
     }
 
-    /// Whether unsat is recorded: the checker has an empty clause or a unit conflict, so the accepted steps rule out
-    /// every valuation.
+    /// Returns `true` if unsat is recorded: the checker has an empty clause or a unit conflict, so the accepted steps
+    /// rule out every valuation.
     pub fn unsat(&self) -> bool
         ensures { (steps : List Step) → HasAccepted (kernel_of self.now) steps → result ≡ (ready_after steps).unsat }
     {
         self.kernel.records.unsat
     }
 
-    /// Whether no unit conflict is pending. `self_check_delayed_steps` gives the empty clause of a pending conflict
-    /// an id.
+    /// Returns `true` if no unit conflict is pending. `self_check_delayed_steps` gives the empty clause of a pending
+    /// conflict an id.
     pub fn is_settled(&self) -> bool
         ensures { IsTrue result ↔ kernels.KernelIsSettled (kernel_of self.now) }
     {
         self.kernel.state.formula.status.conflict.is_none()
     }
 
-    /// Whether `End` has been accepted.
+    /// Returns `true` if `End` has been accepted.
     pub fn ended(&self) -> bool
         ensures { (steps : List Step) → HasAccepted (kernel_of self.now) steps → result ≡ (ready_after steps).ended }
     {
         self.kernel.records.ended
     }
 
-    /// Whether a `DeleteVar` has been accepted.
+    /// Returns `true` if a `DeleteVar` has been accepted.
     pub fn var_deleted(&self) -> bool
         ensures { (steps : List Step) → HasAccepted (kernel_of self.now) steps → result ≡ (ready_after steps).var_deleted }
     {
         self.kernel.records.var_deleted
     }
 
-    /// Returns the user's name for a variable, if it has one after the accepted steps. This works even after the checker
-    /// has failed.
+    /// Returns the user's name for a variable, if it has one after the accepted steps. This works even after the
+    /// checker has failed.
     pub fn user_name(&self, var: Var) -> Option<Var>
         ensures { (steps : List Step) → HasAccepted (kernel_of self.now) steps → result ≡ name_of var (ready_after steps) }
     {

@@ -70,7 +70,7 @@ impl Formula {
         }
     }
 
-    /// Files the stored clauses under the current hashes, if that has not been done yet. Does not allocate.
+    /// Files the stored clauses under the current hashes, if that has not been done yet. Never allocates.
     #[inline(always)]
     pub fn rehash_if_needed(&mut self, looks: &mut Looks)
         ensures kept { (f : Stored) → RepresentsFormula (rehashed_in self.old) f → RepresentsFormula self.new f }
@@ -80,8 +80,8 @@ impl Formula {
     }
 
     /// Checks the clause that consists of `literals`, or of their negations if `negate` is true, by propagation over
-    /// the clauses with the hashes in `hashes`. The result does not depend on the ids of clauses and units. If `hears`
-    /// is true, the notes on the check are kept for a listener.
+    /// the clauses with the hashes in `hashes`. Returns `true` if it passes. The result does not depend on the ids of
+    /// clauses and units. If `hears` is true, the notes on the check are kept for a listener.
     pub fn check(
         &mut self,
         literals: &[Lit],
@@ -321,7 +321,7 @@ impl Formula {
     }
 
     /// Checks the unit `lit` by propagation over the clauses with the hash `hash`, and stores the unit if it passes.
-    /// Returns whether the unit passes. Returns an error only if the unit would otherwise pass.
+    /// Returns `true` if the unit passes. Returns an error only if the unit would otherwise pass.
     fn store_checked(
         &mut self,
         lit: Lit,
@@ -346,7 +346,7 @@ impl Formula {
         Ok(true)
     }
 
-    /// Whether every unit after the first passes, given the units before it. The units are not stored.
+    /// Returns `true` if every unit after the first passes, given the units before it. The units are not stored.
     fn pass_in_turn(
         &mut self,
         units: &[(Lit, ClauseHash)],
@@ -382,7 +382,7 @@ impl Formula {
         Err(fault)
     }
 
-    /// Checks and stores units, one after another. Returns whether all units pass.
+    /// Checks and stores units, one after another. Returns `true` if all units pass.
     pub fn store_units(
         &mut self,
         units: &[(Lit, ClauseHash)],
@@ -412,8 +412,8 @@ impl Formula {
     }
 
     /// Subtracts one from a count of the clause with the sorted literals `literals`: from the redundant count if
-    /// `redundant` is true, and from the irredundant count otherwise. Returns false if the clause is not stored or this
-    /// count is zero.
+    /// `redundant` is true, and from the irredundant count otherwise. Returns `false` if the clause is not stored or
+    /// this count is zero.
     fn take_count(&mut self, redundant: bool, literals: &[Lit], looks: &mut Looks) -> bool
         ensures decides { (f : Stored) → RepresentsFormula self.old f
             → TakesCount result redundant literals.now f (RepresentsFormula self.new (with_less redundant literals.now f)) }
@@ -430,8 +430,8 @@ impl Formula {
         self.store.compact(looks)
     }
 
-    /// Deletes a clause for the reason `proof`. Returns whether the deletion is allowed. `literals` must be the sorted
-    /// literals of `clause`.
+    /// Deletes a clause for the reason `proof`. Returns `true` if the deletion is allowed. `literals` must be the
+    /// sorted literals of `clause`.
     pub fn delete(
         &mut self,
         clause: &[Lit],
@@ -450,8 +450,8 @@ impl Formula {
         }
     }
 
-    /// Deletes a redundant clause whose literals are in any order, if no listener hears of it and the clause is the first
-    /// with its hash. Returns `true` if it is deleted. Otherwise, no clause changes.
+    /// Deletes a redundant clause whose literals are in any order, if no listener hears of it and the clause is the
+    /// first with its hash. Returns `true` if it is deleted. Otherwise, no clause changes.
     #[inline(always)]
     pub fn delete_given(
         &mut self,
@@ -498,7 +498,7 @@ impl Formula {
         assume_distinct(&mut self.marks, clause)
     }
 
-    /// Deletes a redundant clause. Returns whether the deletion is allowed.
+    /// Deletes a redundant clause. Returns `true` if the deletion is allowed.
     fn delete_redundant(&mut self, clause: &[Lit], literals: &[Lit], looks: &mut Looks) -> bool
         requires { literals.now ≡ canonical clause.now }
         ensures decides { DeletionEffect result self.old (DeleteClause clause.now Redundant) self.new }
@@ -507,7 +507,7 @@ impl Formula {
         self.take_count(true, literals, looks)
     }
 
-    /// Deletes an irredundant clause that a unit satisfies. Returns whether the deletion is allowed.
+    /// Deletes an irredundant clause that a unit satisfies. Returns `true` if the deletion is allowed.
     fn delete_satisfied(&mut self, clause: &[Lit], literals: &[Lit], looks: &mut Looks) -> bool
         requires { literals.now ≡ canonical clause.now }
         ensures decides { DeletionEffect result self.old (DeleteClause clause.now Satisfied) self.new }
@@ -519,8 +519,8 @@ impl Formula {
         self.take_count(false, literals, looks)
     }
 
-    /// Whether the last irredundant clause stored is still stored, and its literals are a proper subset of `literals`,
-    /// which must be sorted.
+    /// Returns `true` if the last irredundant clause stored is still stored, and its literals are a proper subset of
+    /// `literals`, which must be sorted.
     fn has_last_within(&self, literals: &[Lit], looks: &mut Looks) -> bool
         requires { IsIncreasing literals.now }
         ensures part { (f : Stored) → RepresentsFormula self.now f
@@ -542,7 +542,7 @@ impl Formula {
     }
 
     /// Deletes an irredundant clause whose literals properly include those of the last irredundant clause stored.
-    /// Returns whether the deletion is allowed.
+    /// Returns `true` if the deletion is allowed.
     fn delete_simplified(&mut self, clause: &[Lit], literals: &[Lit], looks: &mut Looks) -> bool
         requires { literals.now ≡ canonical clause.now }
         ensures decides { DeletionEffect result self.old (DeleteClause clause.now Simplified) self.new }

@@ -68,7 +68,7 @@ fn changed(variables: &Variables, step: &ProofStep<'_>, hears: bool) -> Option<W
     }
 }
 
-/// Whether there is a listener: the caller's own processor, or another listener.
+/// Returns `true` if there is a listener: the caller's own processor, or another listener.
 fn listens<P: ProofProcessor, T: ProofTranscriptProcessor>(
     has_own: bool,
     others: &Processing<P, T>,
@@ -141,7 +141,7 @@ pub(crate) struct Kernel {
 }
 
 impl Kernel {
-    /// Creates a kernel that has accepted no steps yet. Does not allocate.
+    /// Creates a kernel that has accepted no steps yet. Never allocates.
     pub fn new(alloc: Global) -> Kernel
         ensures valid { HasAccepted result [] }
         ensures goes_on { kernel_has_failed result ≡ false }

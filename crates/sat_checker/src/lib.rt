@@ -19,6 +19,7 @@ pub mod sorted_lits;
 pub(crate) mod state;
 pub mod store;
 pub(crate) mod units;
+pub mod unsorted_lits;
 pub mod variables;
 
 pub use announce::announcement::{

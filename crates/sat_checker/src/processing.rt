@@ -144,7 +144,7 @@ pub struct Processing<P: ProofProcessor, T: ProofTranscriptProcessor> {
 }
 
 impl<P: ProofProcessor, T: ProofTranscriptProcessor> Processing<P, T> {
-    /// Creates an empty collection of listeners. Does not allocate.
+    /// Creates an empty collection of listeners. Never allocates.
     pub fn new(alloc: Global) -> Processing<P, T>
         ensures { listeners_of result ≡ record { processors = []; transcripts = [] } }
     {
@@ -155,7 +155,7 @@ impl<P: ProofProcessor, T: ProofTranscriptProcessor> Processing<P, T> {
         }
     }
 
-    /// Creates a collection with the given listeners, in the given order. Does not allocate.
+    /// Creates a collection with the given listeners, in the given order. Never allocates.
     pub fn again(alloc: Global, listeners: Processors<P, T>) -> Processing<P, T>
         ensures { listeners_of result
             ≡ record { processors = listeners.processors.items; transcripts = listeners.transcripts.items } }
@@ -191,7 +191,7 @@ impl<P: ProofProcessor, T: ProofTranscriptProcessor> Processing<P, T> {
         Ok(())
     }
 
-    /// Whether there are no listeners.
+    /// Returns `true` if there are no listeners.
     pub fn is_quiet(&self) -> bool
         ensures { result ≡ true → listeners_of self.now ≡ record { processors = []; transcripts = [] } }
     {

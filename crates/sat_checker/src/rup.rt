@@ -1,9 +1,8 @@
 //! The propagation check of a clause: a walk over the stored clauses whose hashes a step lists, with notes on the
 //! clauses that were used.
 ghost use Rattle.std.specs.Prelude.{◌≡◌, ◌+◌, ◌*◌, ◌<◌, ◌≤◌, [], ◌∷◌, length, IfOk, if◌then◌else◌, None, Some, map};
-ghost use Rattle.std.specs.Prelude.{ℕ, true, false, IsTrue, ◌↔◌, ◌⊎◌, OnErr, MatchBool};
+ghost use Rattle.std.specs.Prelude.{true, false, IsTrue, ◌↔◌, ◌⊎◌, OnErr, MatchBool};
 ghost use Rattle.std.specs.List.{list_any};
-ghost use Rattle.sat_base.specs.values.Literals.{negated, negated_if};
 ghost use Rattle.sat_checker.specs.LiteralSets.{is_among, is_tautology};
 ghost use Rattle.sat_checker.specs.Looks.{total_length};
 ghost use Rattle.sat_checker.specs.Propagation.{PassesCheck};
@@ -12,7 +11,7 @@ ghost use Rattle.sat_checker.specs.inner.Looking.{LooksUpTo};
 ghost use Rattle.sat_checker.specs.inner.Reasons.{clause_at, filed, named, noted_length, NotesReasons, RecordsWalk};
 ghost use Rattle.sat_checker.specs.inner.Reasons.{MeetsConflict, ExplainsCheck};
 ghost use Rattle.sat_checker.specs.inner.AssumedRoom.{HasClauseRoom, HasClausesRoom, HasStoredRoom, signed};
-ghost use Rattle.sat_checker.specs.inner.AssumedRoom.{AgreesOn, DeniedInRoom};
+ghost use Rattle.sat_checker.specs.inner.AssumedRoom.{DeniedInRoom};
 ghost use Rattle.sat_checker.specs.inner.SlotView.{literals_at, bucket_in, bucket_of, live, live_length};
 ghost use Rattle.sat_checker.specs.inner.Walk.{clause_state, walk_on, walk_buckets, denied_in_turn};
 
@@ -26,10 +25,11 @@ use crate::looks::Looks;
 use crate::rup::passed::Passed;
 use crate::store::clauses::Clauses;
 use crate::units::assigned::{Assigned, Look, assume_if_roomy, look_at};
+use crate::unsorted_lits::include_both_signs;
 use sat_base::{ClauseHash, Lit};
 use std::alloc::AllocError;
 
-/// Assumes the literal that the clause at `place` implies, if there is one, and notes the clause. Returns whether the
+/// Assumes the literal that the clause at `place` implies, if there is one, and notes the clause. Returns `true` if the
 /// clause is falsified. Runs out of memory only if there is no room for a literal of the clause.
 #[tactic(auto, using(crate::proofs::lemmas::propagation::Walking::meeting))]
 fn meet(
@@ -74,7 +74,7 @@ pub(crate) enum Walked {
     Open,
 }
 
-/// Walks over the clauses with the hash `hash`, in order, up to the first falsified clause.
+/// Walks over the clauses with the hash `hash`, in order, up to the first falsified clause. Returns how the walk ended.
 #[tactic(auto, using(crate::proofs::lemmas::announcements::Noting::noting))]
 fn walk_bucket(
     clauses: &Clauses,
@@ -108,8 +108,8 @@ fn walk_bucket(
     Ok(Walked::Open)
 }
 
-/// Walks over the buckets of the hashes, in order. Returns whether a clause is falsified before an empty bucket
-/// is reached.
+/// Walks over the buckets of the hashes, in order. Returns `true` if a clause is falsified before an empty bucket is
+/// reached.
 #[tactic(auto, using(crate::proofs::lemmas::store::Buckets::over_hashes))]
 fn walk_hashes(
     clauses: &Clauses,
@@ -140,7 +140,7 @@ fn walk_hashes(
 }
 
 /// Assumes that the clause that consists of `literals`, or of their negations if `negate` is true, is false. Stops at
-/// the first literal of the clause that is already true, and returns whether there is one.
+/// the first literal of the clause that is already true, and returns `true` if there is one.
 #[tactic(auto, using(crate::proofs::lemmas::propagation::Denied::denying))]
 fn deny(assigned: &mut Assigned, literals: &[Lit], negate: bool) -> Result<bool, AllocError>
     ensures denied { IfOk result (λ met. denied_in_turn assigned.old.literals (signed negate literals.now)
@@ -157,33 +157,8 @@ fn deny(assigned: &mut Assigned, literals: &[Lit], negate: bool) -> Result<bool,
     Ok(false)
 }
 
-/// Whether the literal is in the list. Does not allocate.
-pub fn has(literals: &[Lit], lit: Lit) -> bool
-    ensures { result ≡ is_among literals.now lit }
-{
-    for other in literals {
-        if *other == lit {
-            return true;
-        }
-    }
-    false
-}
-
-/// Whether a literal of a clause is true. A literal for which there is no room counts as true if its negation is in
-/// `before`, the list of the literals before it.
-fn is_met(assigned: &Assigned, before: &[Lit], literal: Lit, negate: bool) -> bool
-    ensures { result ≡ (if is_among assigned.now.room (negated_if negate literal)
-        then is_among assigned.now.literals (negated_if negate literal) else is_among before.now (negated literal)) }
-{
-    let lit = literal ^ negate;
-    if assigned.has_room(lit) {
-        return assigned.is_true(lit);
-    }
-    has(before, !literal)
-}
-
-/// Assumes what `deny` assumes, as far as there is room, and does not allocate. Returns whether a literal of the clause
-/// was already true, or the clause contains both signs of a variable.
+/// Assumes what `deny` assumes, as far as there is room. Returns `true` if a literal of the clause was already true, or
+/// the clause contains both signs of a variable. Never allocates.
 fn deny_in_room(assigned: &mut Assigned, literals: &[Lit], negate: bool) -> bool
     ensures met { MatchBool result ((list_any (is_among assigned.old.literals) (signed negate literals.now) ≡ true)
         ⊎ (is_tautology (signed negate literals.now) ≡ true))
@@ -191,14 +166,17 @@ fn deny_in_room(assigned: &mut Assigned, literals: &[Lit], negate: bool) -> bool
     ensures extends { AssumesMore assigned.old assigned.new }
     ensures same { assigned.new.room ≡ assigned.old.room }
 {
+    if include_both_signs(literals) {
+        return true;
+    }
     assigned.are_in_room();
-    for place in 0..literals.len() {
-        let literal = literals[place];
-        let (before, _) = literals.split_at(place);
-        if is_met(assigned, before, literal, negate) {
+    for literal in literals {
+        let lit = *literal ^ negate;
+        assigned.are_in_room();
+        if assigned.is_true(lit) {
             return true;
         }
-        assume_if_roomy(assigned, !(literal ^ negate));
+        assume_if_roomy(assigned, !lit);
     }
     false
 }
@@ -237,9 +215,9 @@ pub(crate) fn check_in_room(
 }
 
 /// Checks the clause that consists of `literals`, or of their negations if `negate` is true, by propagation from the
-/// assumed literals over the clauses with the hashes in `hashes`. What the check assumes stays assumed. If the clause
-/// passes because of a conflict, the notes explain the conflict, unless they are incomplete. Runs out of memory only if
-/// there is no room for a literal of a stored clause.
+/// assumed literals over the clauses with the hashes in `hashes`. Returns `true` if it passes. What the check assumes
+/// stays assumed. If the clause passes because of a conflict, the notes explain the conflict, unless they are
+/// incomplete. Runs out of memory only if there is no room for a literal of a stored clause.
 pub(crate) fn check_clause_with_hashes(
     clauses: &Clauses,
     literals: &[Lit],

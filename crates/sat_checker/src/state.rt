@@ -43,7 +43,7 @@ pub(crate) struct CheckerState {
 }
 
 impl CheckerState {
-    /// Checks a `SolverVarName` step, and applies it if it is accepted.
+    /// Checks a `SolverVarName` step. If it is accepted, applies it and returns `true`.
     fn solver_var_name(&mut self, var: Var, name: Option<Var>) -> Result<bool, StoreError>
         ensures decides { DecidesStep result self.old (SolverVarName var name) self.new }
         ensures kept { KeepsUnlessAccepted result self.old self.new }
@@ -57,7 +57,7 @@ impl CheckerState {
         Ok(true)
     }
 
-    /// Checks a `UserVarName` step, and applies it if it is accepted.
+    /// Checks a `UserVarName` step. If it is accepted, applies it and returns `true`.
     fn user_var_name(
         &mut self,
         var: Var,
@@ -81,7 +81,7 @@ impl CheckerState {
         Ok(true)
     }
 
-    /// Checks a `ChangeSamplingMode` step, and applies it if it is accepted.
+    /// Checks a `ChangeSamplingMode` step. If it is accepted, applies it and returns `true`.
     fn change_sampling_mode(
         &mut self,
         var: Var,
@@ -103,7 +103,7 @@ impl CheckerState {
         Ok(true)
     }
 
-    /// Checks an `AddClause` step, and applies it if it is accepted.
+    /// Checks an `AddClause` step. If it is accepted, applies it and returns `true`.
     fn add_clause(
         &mut self,
         clause: &[Lit],
@@ -146,7 +146,7 @@ impl CheckerState {
         Ok(())
     }
 
-    /// Checks an `AtClause` step, and applies it if it is accepted.
+    /// Checks an `AtClause` step. If it is accepted, applies it and returns `true`.
     fn at_clause(
         &mut self,
         redundant: bool,
@@ -200,7 +200,7 @@ impl CheckerState {
         Ok(())
     }
 
-    /// Applies a `ChangeHashBits` step, which is always accepted.
+    /// Applies a `ChangeHashBits` step, which is always accepted, and returns `true`.
     fn change_hash_bits(&mut self, bits: HashBits) -> Result<bool, StoreError>
         ensures decides { DecidesStep result self.old (ChangeHashBits bits) self.new }
         ensures kept { KeepsUnlessAccepted result self.old self.new }
@@ -209,7 +209,7 @@ impl CheckerState {
         Ok(true)
     }
 
-    /// Applies an `Assumptions` step, which is always accepted.
+    /// Applies an `Assumptions` step, which is always accepted, and returns `true`.
     fn assumptions(&mut self, literals: &[Lit], notes: &mut Notes) -> Result<bool, StoreError>
         ensures decides { DecidesStep result self.old (Assumptions literals.now) self.new }
         ensures kept { KeepsUnlessAccepted result self.old self.new }
@@ -221,7 +221,7 @@ impl CheckerState {
         Ok(true)
     }
 
-    /// Applies an `End` step, which is always accepted.
+    /// Applies an `End` step, which is always accepted, and returns `true`.
     fn end(&mut self) -> Result<bool, StoreError>
         ensures decides { DecidesStep result self.old End self.new }
         ensures kept { KeepsUnlessAccepted result self.old self.new }
@@ -230,7 +230,7 @@ impl CheckerState {
         Ok(true)
     }
 
-    /// Checks a `UnitClauses` step, and applies it if it is accepted.
+    /// Checks a `UnitClauses` step. If it is accepted, applies it and returns `true`.
     fn unit_clauses(
         &mut self,
         units: &[(Lit, ClauseHash)],
@@ -284,7 +284,7 @@ impl CheckerState {
         Ok(true)
     }
 
-    /// Checks a `Model` step, and applies it if it is accepted.
+    /// Checks a `Model` step. If it is accepted, applies it and returns `true`.
     fn model(
         &mut self,
         assignment: &[Lit],
@@ -304,7 +304,7 @@ impl CheckerState {
         Ok(true)
     }
 
-    /// Checks a `FailedAssumptions` step, and applies it if it is accepted.
+    /// Checks a `FailedAssumptions` step. If it is accepted, applies it and returns `true`.
     fn failed_assumptions(
         &mut self,
         core: &[Lit],
@@ -332,7 +332,7 @@ impl CheckerState {
         Ok(true)
     }
 
-    /// Checks a `DeleteVar` step, and applies it if it is accepted. Counts no looks.
+    /// Checks a `DeleteVar` step. If it is accepted, applies it and returns `true`. Counts no looks.
     fn delete_var(&mut self, var: Var, notes: &mut Notes) -> Result<bool, StoreError>
         ensures decides { DecidesStep result self.old (DeleteVar var) self.new }
         ensures kept { KeepsUnlessAccepted result self.old self.new }
@@ -347,8 +347,8 @@ impl CheckerState {
         Ok(true)
     }
 
-    /// Whether the variable can be deleted: it is known, has no name, isn't assumed, and is in no stored clause of two
-    /// or more literals.
+    /// Returns `true` if the variable can be deleted: it is known, has no name, isn't assumed, and is in no stored
+    /// clause of two or more literals.
     fn may_delete(&self, var: Var) -> bool
         ensures { (f : Stored) → RepresentsStored self.now f
             → MatchBool result (MayBeDeleted f var) (MayBeDeleted f var → ⊥) }
@@ -379,8 +379,8 @@ impl CheckerState {
         }
     }
 
-    /// Checks a step, and applies it if it is accepted. Returns whether the step is accepted, and notes
-    /// its announcements.
+    /// Checks a step, and applies it if it is accepted. Returns `true` if the step is accepted, and notes its
+    /// announcements.
     pub fn check_step(
         &mut self,
         step: &ProofStep<'_>,
@@ -420,8 +420,8 @@ impl CheckerState {
         }
     }
 
-    /// Whether a clause of the formula is accepted: unsat is recorded, or every variable of the clause is unknown or
-    /// has the mode sample.
+    /// Returns `true` if a clause of the formula is accepted: unsat is recorded, or every variable of the clause is
+    /// unknown or has the mode sample.
     pub fn may_add(&self, clause: &[Lit]) -> bool
         ensures { (f : Stored) → RepresentsStored self.now f
             → MatchBool result (MayBeAdded f clause.now) (MayBeAdded f clause.now → ⊥) }

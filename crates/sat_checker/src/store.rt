@@ -93,7 +93,7 @@ impl Store {
     }
 
     /// Files the clauses under the current hashes, if that has not been done yet. This must happen before a hash is
-    /// looked up. Does not allocate.
+    /// looked up. Never allocates.
     #[inline(always)]
     pub fn rehash_if_needed(&mut self, looks: &mut Looks)
         ensures filed { self.new ≡ rehashed self.old }
@@ -176,8 +176,8 @@ impl Store {
     }
 
     /// Subtracts one from a count of the clause with the sorted literals `literals`: from the redundant count if
-    /// `redundant` is true, and from the irredundant count otherwise. Returns false if the clause is not stored or this
-    /// count is zero.
+    /// `redundant` is true, and from the irredundant count otherwise. Returns `false` if the clause is not stored or
+    /// this count is zero.
     pub fn delete_clause(&mut self, redundant: bool, literals: &[Lit], looks: &mut Looks) -> bool
         ensures deleted { (f : Stored) → RepresentsClauses self.old f
             → TakesCount result redundant literals.now f (RepresentsClauses self.new (with_less redundant literals.now f)) }
@@ -232,8 +232,8 @@ impl Store {
         self.clauses.compact(looks)
     }
 
-    /// Sets how many bits of every hash are kept from now on. Counts no looks: `rehash_if_needed` later files the clauses under
-    /// their new hashes.
+    /// Sets how many bits of every hash are kept from now on. Counts no looks: `rehash_if_needed` later files the
+    /// clauses under their new hashes.
     pub fn set_bits(&mut self, bits: HashBits)
         ensures set { (f : Stored) → RepresentsClauses (rehashed self.old) f
             → RepresentsClauses (rehashed self.new) (record f { width = bits }) }
@@ -246,8 +246,8 @@ impl Store {
         self.stale = true;
     }
 
-    /// Sets the solver name of a variable, or removes it if `name` is `None`. Counts no looks: `rehash_if_needed` later files the
-    /// clauses under their new hashes.
+    /// Sets the solver name of a variable, or removes it if `name` is `None`. Counts no looks: `rehash_if_needed` later
+    /// files the clauses under their new hashes.
     pub fn set_solver_name(&mut self, var: Var, name: Option<Var>) -> Result<(), AllocError>
         ensures set { OnOk result ((f : Stored) → RepresentsClauses (rehashed self.old) f
             → RepresentsClauses (rehashed self.new) (with_solver_name var name f)) }
@@ -264,8 +264,8 @@ impl Store {
         Ok(())
     }
 
-    /// Whether the clause with the id `id` is present, and its literals are a proper subset of `literals`, which must
-    /// be sorted. Ids must increase with places.
+    /// Returns `true` if the clause with the id `id` is present, and its literals are a proper subset of `literals`,
+    /// which must be sorted. Ids must increase with places.
     pub fn has_strict_part(&self, id: u64, literals: &[Lit], looks: &mut Looks) -> bool
         requires { IsIncreasing literals.now }
         ensures part { IsIncreasing (slot_ids self.now.clauses) → MatchBool result
@@ -283,8 +283,8 @@ impl Store {
         is_subset(self.clauses.literals(place, looks), literals, true)
     }
 
-    /// Whether the clause with the id `id` is present, and its literals are a proper subset of the assumed literals.
-    /// Ids must increase with places.
+    /// Returns `true` if the clause with the id `id` is present, and its literals are a proper subset of the assumed
+    /// literals. Ids must increase with places.
     pub fn has_part_assumed(&self, id: u64, assigned: &Assigned, looks: &mut Looks) -> bool
         ensures part { IsIncreasing (slot_ids self.now.clauses) → MatchBool result
             (IsStrictSubset (clause_numbered id (live self.now.clauses)) assigned.now.literals)
@@ -308,7 +308,7 @@ impl Store {
         self.clauses.assumed_count(redundant, assigned, looks)
     }
 
-    /// Whether any stored clause contains the variable. Counts no looks.
+    /// Returns `true` if any stored clause contains the variable. Counts no looks.
     pub fn mention(&self, var: Var) -> bool
         ensures { (f : Stored) → RepresentsClauses (rehashed self.now) f
             → result ≡ list_any (λ c. mentions c.literals var) f.clauses }
@@ -316,7 +316,7 @@ impl Store {
         self.clauses.mention(var)
     }
 
-    /// Whether every clause that is stored as irredundant contains an assumed literal.
+    /// Returns `true` if every clause that is stored as irredundant contains an assumed literal.
     pub fn are_satisfied(&self, assigned: &Assigned, looks: &mut Looks) -> bool
         ensures found { (f : Stored) → RepresentsClauses (rehashed self.now) f
             → result ≡ are_all_true assigned.now.literals f.clauses }

@@ -94,7 +94,7 @@ impl Units {
         let _ = &self.order;
     }
 
-    /// Whether the literal is a unit.
+    /// Returns `true` if the literal is a unit.
     #[inline(always)]
     pub fn is_unit(&self, lit: Lit) -> bool
         ensures { result ≡ is_among (map (λ u. u.literal) self.now.units) lit }
@@ -102,7 +102,7 @@ impl Units {
         self.assigned.is_true(lit)
     }
 
-    /// Whether a unit satisfies the clause.
+    /// Returns `true` if a unit satisfies the clause.
     #[tactic(auto, using(crate::proofs::lemmas::state::Scanning::any_literal))]
     pub fn has_any(&self, clause: &[Lit]) -> bool
         ensures { result ≡ list_any (is_among (map (λ u. u.literal) self.now.units)) clause.now }
@@ -198,14 +198,14 @@ impl Units {
         self.order = self.order.without(lit.code());
     }
 
-    /// Whether the literals include the negation of a unit.
+    /// Returns `true` if the literals include the negation of a unit.
     pub fn are_contradicted(&self, literals: &[Lit]) -> bool
         ensures { result ≡ list_any (λ u. is_among literals.now (negated u.literal)) self.now.units }
     {
         self.has_any_negated(literals)
     }
 
-    /// Whether one of the literals is the negation of a unit.
+    /// Returns `true` if one of the literals is the negation of a unit.
     #[tactic(auto, using(crate::proofs::lemmas::state::Scanning::any_literal))]
     fn has_any_negated(&self, literals: &[Lit]) -> bool
         ensures { result ≡ list_any (λ l. is_among (map (λ u. u.literal) self.now.units) (negated l)) literals.now }
@@ -219,8 +219,8 @@ impl Units {
     }
 
     /// Checks the clause that consists of `literals`, or of their negations if `negate` is true, by propagation from
-    /// the units over the clauses with the hashes in `hashes`. The units are unchanged. The notes in `passed` say which
-    /// clauses were used.
+    /// the units over the clauses with the hashes in `hashes`. Returns `true` if it passes. The units are unchanged.
+    /// The notes in `passed` say which clauses were used.
     #[tactic(auto, using(crate::proofs::lemmas::store::Keeping::checking))]
     pub fn check_clause(
         &mut self,
@@ -260,8 +260,8 @@ impl Units {
         answer
     }
 
-    /// Whether every unit in `units` after the first passes, given the stored units and the units before it. The stored
-    /// units are unchanged.
+    /// Returns `true` if every unit in `units` after the first passes, given the stored units and the units before it.
+    /// The stored units are unchanged.
     pub fn pass_in_turn(
         &mut self,
         store: &Store,

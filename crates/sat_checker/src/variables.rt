@@ -21,7 +21,7 @@ pub enum SamplingMode {
     Hide,
 }
 
-/// Whether the mode is `Hide`.
+/// Returns `true` if the mode is `Hide`.
 fn is_hidden(mode: SamplingMode) -> bool
     ensures { MatchBool result (mode_in mode ≡ Hide) (mode_in mode ≡ Hide → ⊥) }
 {
@@ -31,7 +31,7 @@ fn is_hidden(mode: SamplingMode) -> bool
     }
 }
 
-/// Whether the mode is `Sample`.
+/// Returns `true` if the mode is `Sample`.
 fn is_sampling(mode: SamplingMode) -> bool
     ensures { MatchBool result (mode_in mode ≡ Sample) (mode_in mode ≡ Sample → ⊥) }
 {
@@ -117,7 +117,7 @@ impl Variables {
         self.data.set(var.index(), state, VarData::unknown())
     }
 
-    /// Whether the variable has a small index and is known.
+    /// Returns `true` if the variable has a small index and is known.
     #[inline(always)]
     fn is_near_known(&self, var: Var) -> bool
         ensures { result ≡ true → (variable_at self.now var).known ≡ true }
@@ -337,7 +337,7 @@ impl Variables {
         }
     }
 
-    /// Gives `var` the name `name`, and makes the variable known. Returns whether this is allowed, that is, whether the
+    /// Gives `var` the name `name`, and makes the variable known. Returns `true` if this is allowed, that is, if the
     /// name is free and the variable has no name and isn't hidden. If memory runs out, no data changes.
     pub fn add_user_mapping(&mut self, var: Var, name: Var) -> Result<bool, AllocError>
         ensures answers { IfOk result (VariablesAnswer self.old (UserVarName var (Some name)) self.new) }
@@ -361,8 +361,8 @@ impl Variables {
         Ok(true)
     }
 
-    /// Removes a variable's name, and hides the variable. Returns whether the variable had a name. If memory runs out,
-    /// no data changes.
+    /// Removes a variable's name, and hides the variable. Returns `true` if the variable had a name. If memory runs
+    /// out, no data changes.
     pub fn remove_user_mapping(&mut self, var: Var) -> Result<bool, AllocError>
         ensures answers { IfOk result (VariablesAnswer self.old (UserVarName var None) self.new) }
         ensures judged { OnErr result (VariablesAllow self.old (UserVarName var None)) }
@@ -385,8 +385,8 @@ impl Variables {
         Ok(true)
     }
 
-    /// Gives `var` the name `user`, or removes its name if `user` is `None`. Returns whether this is allowed. If memory
-    /// runs out, no data changes.
+    /// Gives `var` the name `user`, or removes its name if `user` is `None`. Returns `true` if this is allowed. If
+    /// memory runs out, no data changes.
     pub(crate) fn rename(&mut self, var: Var, user: Option<Var>) -> Result<bool, AllocError>
         ensures answers { IfOk result (VariablesAnswer self.old (UserVarName var user) self.new) }
         ensures judged { OnErr result (VariablesAllow self.old (UserVarName var user)) }
@@ -399,7 +399,7 @@ impl Variables {
         }
     }
 
-    /// Sets the mode of a known variable: sample if `sample` is true, and witness otherwise. Returns whether the
+    /// Sets the mode of a known variable: sample if `sample` is true, and witness otherwise. Returns `true` if the
     /// variable is known. If memory runs out, no data changes.
     pub fn set_mode(&mut self, var: Var, sample: bool) -> Result<bool, AllocError>
         ensures answers { IfOk result (VariablesAnswer self.old (ChangeSamplingMode var sample) self.new) }
@@ -431,7 +431,7 @@ impl Variables {
         self.data.reset(var.index(), VarData::unknown());
     }
 
-    /// Whether every variable of the literals is unknown or has the mode sample.
+    /// Returns `true` if every variable of the literals is unknown or has the mode sample.
     #[tactic(auto, using(crate::proofs::lemmas::variables::Keeping::sampling))]
     pub fn are_sampling(&self, literals: &[Lit]) -> bool
         ensures { MatchBool result (AreSampling self.now literals.now) (AreSampling self.now literals.now → ⊥) }

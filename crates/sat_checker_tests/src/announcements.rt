@@ -13,8 +13,8 @@ use std::alloc::Global;
 /// Steps in bytes, their announcements, and their transcript.
 type Row = (&'static [u8], &'static [Notice], &'static [Said]);
 
-/// Whether a processor and a transcript that were added are notified of exactly what `row` has, if the steps are fed
-/// one by one.
+/// Returns `true` if a processor and a transcript that were added are notified of exactly what `row` has, if the steps
+/// are fed one by one.
 fn is_reported_to_added(alloc: Global, row: &Row) -> bool {
     let mut checker = Heard::notifying(alloc);
     let taken = add_listener(&mut checker, row.1)
@@ -37,8 +37,8 @@ pub(crate) fn check_with<O: ProofProcessor>(
     )
 }
 
-/// Whether a processor of the caller's own is notified of exactly what `row` has, if the steps are read as a proof,
-/// with or without its end.
+/// Returns `true` if a processor of the caller's own is notified of exactly what `row` has, if the steps are read as a
+/// proof, with or without its end.
 fn is_reported_to_own(alloc: Global, row: &Row) -> bool {
     let mut checker = Heard::notifying(alloc);
     let mut own = Listener::new(row.1);

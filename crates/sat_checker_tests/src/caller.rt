@@ -12,7 +12,8 @@ use sat_base::{CnfFormula, Counted, CountedRead, DimacsParser};
 use sat_checker::{Checker, CheckerError};
 use std::alloc::Global;
 
-/// Whether a proof shows that no valuation satisfies the clauses of a formula and those that the proof itself adds.
+/// Returns `true` if a proof shows that no valuation satisfies the clauses of a formula and those that the proof itself
+/// adds.
 fn is_refuted<R: CountedRead>(
     alloc: Global,
     formula: &CnfFormula,

@@ -173,7 +173,7 @@ pub(crate) fn error_of<P: ProofProcessor, T: ProofTranscriptProcessor>(
     }
 }
 
-/// Whether calls of `checker`, one after another, have the given results.
+/// Returns `true` if calls of `checker`, one after another, have the given results.
 pub(crate) fn answers<P: ProofProcessor, T: ProofTranscriptProcessor>(
     alloc: Global,
     checker: &mut Checker<P, T>,
@@ -188,7 +188,7 @@ pub(crate) fn answers<P: ProofProcessor, T: ProofTranscriptProcessor>(
     true
 }
 
-/// Whether calls of a new checker, one after another, have the given results.
+/// Returns `true` if calls of a new checker, one after another, have the given results.
 pub(crate) fn are_answered(alloc: Global, calls: &[Answered]) -> bool {
     let mut checker = Checker::new(alloc);
     let right = answers(alloc, &mut checker, calls);

@@ -61,7 +61,7 @@ fn texts() -> &'static [Row] {
     &TEXTS
 }
 
-/// Whether a text has the given result, read in one chunk and in chunks of one byte.
+/// Returns `true` if a text has the given result, read in one chunk and in chunks of one byte.
 fn is_answered(alloc: Global, row: &Row) -> bool {
     are_answered(alloc, &[(Call::Dimacs(row.0), row.1)])
         && are_answered(alloc, &[(Call::DimacsByOne(row.0, 0), row.1)])
@@ -85,6 +85,8 @@ fn texts_are_answered(rt: HostRuntime) {
 
 const UNITS: &[u8] = b"1 2 0\n-1 0\n";
 
+const TWO_UNITS: &[u8] = b"1 0 2 0";
+
 /// Returns the number of the first read whose failure isn't reported, or after which the checker can't be used any
 /// more, or `None`.
 fn first_unanswered_read(alloc: Global) -> Option<u64> {
@@ -106,12 +108,35 @@ fn failed_reads_are_answered(rt: HostRuntime) {
     assert!(rt; wrong == None, "{wrong:?}");
 }
 
-static CALLS: [Calls; 6] = [
+static CALLS: [Calls; 9] = [
     (
         "a clause before a fault remains, and the checker can be used after the fault",
         &[
             (Call::Dimacs(b"1 0 2"), FIRST_LINE),
             (Call::Dimacs(b"-1 0"), REFUTED),
+        ],
+    ),
+    (
+        "a clause whose end isn't read isn't added",
+        &[
+            (Call::DimacsByOne(TWO_UNITS, 4), UNREAD),
+            (Call::Clause(&[-1]), TAKEN),
+        ],
+    ),
+    (
+        "a clause before a failed read remains",
+        &[
+            (Call::DimacsByOne(TWO_UNITS, 5), UNREAD),
+            (Call::Clause(&[-2]), TAKEN),
+            (Call::Clause(&[-1]), REFUTED),
+        ],
+    ),
+    (
+        "the last clause isn't added if the read that finds the end fails",
+        &[
+            (Call::DimacsByOne(TWO_UNITS, 8), UNREAD),
+            (Call::Clause(&[-2]), TAKEN),
+            (Call::Clause(&[-1]), REFUTED),
         ],
     ),
     (

@@ -87,7 +87,7 @@ fn first_wrong<E: Display>(alloc: Global, rows: &[(E, &'static str)]) -> Option<
     None
 }
 
-/// Tests whether the text of a listener's fault is printed.
+/// Returns `true` if the text of a listener's fault is printed.
 fn are_faults_printed(alloc: Global) -> bool {
     let (of_checker, of_listeners) = faults();
     let text = "Error in proof processor: a fault";

@@ -46,19 +46,19 @@ fn add_four(checker: &mut Heard, failing: usize, at: usize) -> bool {
         && add_reader(checker, said(4, failing, at))
 }
 
-/// Whether a call of a checker returns the fault of a listener that expects no more.
+/// Returns `true` if a call of a checker returns the fault of a listener that expects no more.
 fn is_ended(alloc: Global, checker: &mut Heard, call: Call) -> bool {
     error_of(alloc, checker, call) == Some(Kind::NoMore)
 }
 
-/// Whether a proof ends with the fault of a listener that expects no more, with a processor of the caller's own at
-/// position 0.
+/// Returns `true` if a proof ends with the fault of a listener that expects no more, with a processor of the caller's
+/// own at position 0.
 fn is_ended_with_own(alloc: Global, checker: &mut Heard, awaited: &'static [Notice]) -> bool {
     let mut own = Listener::new(awaited);
     check_with(alloc, checker, REFUTATION, &mut own) == Some(Kind::NoMore) && own.is_done()
 }
 
-/// Whether all calls of a checker return `HasFailed`.
+/// Returns `true` if all calls of a checker return `HasFailed`.
 fn has_failed(alloc: Global, checker: &mut Heard) -> bool {
     for call in [Call::Proof(END), Call::Clause(&[]), Call::Settle] {
         if error_of(alloc, checker, call) != Some(Kind::HasFailed) {
@@ -68,8 +68,8 @@ fn has_failed(alloc: Global, checker: &mut Heard) -> bool {
     true
 }
 
-/// Whether a fault of the listener at position `failing` ends the steps at announcement number `at`. The steps are read
-/// as a proof with a processor of the caller's own, or fed one by one.
+/// Returns `true` if a fault of the listener at position `failing` ends the steps at announcement number `at`. The
+/// steps are read as a proof with a processor of the caller's own, or fed one by one.
 fn ends(alloc: Global, failing: usize, at: usize, with_own: bool) -> bool {
     let mut checker = Heard::notifying(alloc);
     let ended = add_four(&mut checker, failing, at)
@@ -135,7 +135,7 @@ fn ended(call: Call) -> [Answered; 4] {
     ]
 }
 
-/// Whether the first `count` clauses of a formula are announced, and the next announcement ends the formula.
+/// Returns `true` if the first `count` clauses of a formula are announced, and the next announcement ends the formula.
 fn is_reported_up_to(alloc: Global, call: Call, count: usize) -> bool {
     let (announced, said) = (accepted(0, 1, count), said(0, 1, count));
     if count == 4 {

@@ -240,7 +240,7 @@ fn are_same(found: Found<'_>, awaited: Awaited) -> bool {
         && are_ids(ids, wanted_ids)
 }
 
-/// Whether the announcement `step` is the expected one, `notice`.
+/// Returns `true` if the announcement `step` is the expected one, `notice`.
 fn is_reported(step: &CheckedProofStep<'_>, notice: Notice) -> bool {
     match *step {
         CheckedProofStep::UserVar { var, user_var } => is_user_var(notice, var, user_var),
@@ -278,7 +278,7 @@ fn awaited_said(said: Said) -> (u8, i64, Numbers) {
     }
 }
 
-/// Whether the step of a transcript is the expected one, `said`.
+/// Returns `true` if the step of a transcript is the expected one, `said`.
 fn is_said(step: &ProofTranscriptStep<'_>, said: Said) -> bool {
     let (what, number, lits) = said_parts(step);
     let (wanted, wanted_number, numbers) = awaited_said(said);
@@ -404,7 +404,8 @@ fn transcripts_are_done(transcripts: &[Reader]) -> bool {
     true
 }
 
-/// Whether there are `count` processors and `count` transcripts, and each of them received all that it expects.
+/// Returns `true` if there are `count` processors and `count` transcripts, and each of them received all that it
+/// expects.
 pub(crate) fn are_done(given_back: Processors<Listener, Reader>, count: usize) -> bool {
     given_back.processors.len() == count
         && given_back.transcripts.len() == count
@@ -412,7 +413,7 @@ pub(crate) fn are_done(given_back: Processors<Listener, Reader>, count: usize) -
         && transcripts_are_done(&given_back.transcripts)
 }
 
-/// Whether calls of a new checker have the given results, a processor is notified of exactly `notices`, and a
+/// Returns `true` if calls of a new checker have the given results, a processor is notified of exactly `notices`, and a
 /// transcript of exactly `said`.
 pub(crate) fn are_heard(
     alloc: Global,

@@ -3,6 +3,7 @@
 use crate::calls::{Call, error_of};
 use sat_base::{ClauseHash, HashBits, Lit, Var};
 use sat_checker::sorted_lits::{copy_canonical, is_subset};
+use sat_checker::unsorted_lits::include_both_signs;
 use sat_checker::variables::Variables;
 use sat_checker::{Checker, ClauseHasher};
 use std::alloc::Global;
@@ -48,7 +49,7 @@ fn lits(numbers: [i64; 3]) -> Option<[Lit; 3]> {
     ])
 }
 
-/// Whether literals have the given DIMACS numbers, in order.
+/// Returns `true` if literals have the given DIMACS numbers, in order.
 fn have_numbers(lits: &[Lit], numbers: &[i64]) -> bool {
     if lits.len() != numbers.len() {
         return false;
@@ -62,8 +63,9 @@ fn have_numbers(lits: &[Lit], numbers: &[i64]) -> bool {
 }
 
 /// Literals, their sorted set, and whether it contains both signs of a variable.
-static SETS: [([i64; 3], &[i64], bool); 4] = [
+static SETS: [([i64; 3], &[i64], bool); 5] = [
     ([2, 1, 1], &[1, 2], false),
+    ([-9999, 1, 9999], &[1, 9999, -9999], true),
     ([-1, 3, 1], &[1, -1, 3], true),
     ([2, 2, 2], &[2], false),
     ([-3, -1, 2], &[-1, 2, -3], false),
@@ -73,13 +75,16 @@ fn sets() -> &'static [([i64; 3], &'static [i64], bool)] {
     &SETS
 }
 
-/// Whether `copy_canonical` makes the sorted set `wanted`, and returns `both`.
+/// Returns `true` if `copy_canonical` makes the sorted set `wanted`, and it and `include_both_signs` return `both`.
 fn is_set_of(alloc: Global, numbers: [i64; 3], wanted: &[i64], both: bool) -> bool {
     let Some(lits) = lits(numbers) else {
         return false;
     };
     let mut set = Vec::new(alloc);
-    copy_canonical(&mut set, &lits) == Ok(both) && have_numbers(&set, wanted)
+    let includes_both = include_both_signs(&lits);
+    copy_canonical(&mut set, &lits) == Ok(both)
+        && have_numbers(&set, wanted)
+        && includes_both == both
 }
 
 #[test]
@@ -160,7 +165,7 @@ fn variables_are_reported(rt: HostRuntime) {
     }
 }
 
-/// Whether a variable has a name until the name is removed, and is still known afterwards.
+/// Returns `true` if a variable has a name until the name is removed, and is still known afterwards.
 fn is_held(variables: &mut Variables) -> bool {
     let (var, name) = (Var::from_index(0), Var::from_index(4));
     variables.ensure_var(var) == Ok(())

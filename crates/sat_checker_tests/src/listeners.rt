@@ -82,8 +82,8 @@ fn add_three(processing: &mut Processing<FailsAt, FailsAt>, at: u64) -> bool {
         && processing.add_transcript(FailsAt::new(at)).is_ok()
 }
 
-/// Whether two processors and a transcript, which fail at call number `at`, are returned as the first fault left them:
-/// the second processor and the transcript were called once less.
+/// Returns `true` if two processors and a transcript, which fail at call number `at`, are returned as the first fault
+/// left them: the second processor and the transcript were called once less.
 fn are_returned(alloc: Global, at: u64) -> bool {
     let variables = Variables::new(alloc);
     let mut processing: Processing<FailsAt, FailsAt> = Processing::new(alloc);
@@ -94,7 +94,7 @@ fn are_returned(alloc: Global, at: u64) -> bool {
     added && count.saturating_add(1) == at && left
 }
 
-/// Whether the first processor was called `at` times, and the second processor and the transcript once less.
+/// Returns `true` if the first processor was called `at` times, and the second processor and the transcript once less.
 fn were_left(given_back: &Processors<FailsAt, FailsAt>, at: u64) -> bool {
     given_back.processors.len() == 2
         && given_back.transcripts.len() == 1
@@ -110,7 +110,7 @@ fn failed_processors_are_returned(rt: HostRuntime) {
     }
 }
 
-/// Whether the other listeners are not notified if a processor of the caller's own returns a fault, and are
+/// Returns `true` if the other listeners are not notified if a processor of the caller's own returns a fault, and are
 /// notified otherwise.
 fn is_reported_before(
     processing: &mut Processing<FailsAt, FailsAt>,
@@ -125,7 +125,8 @@ fn is_reported_before(
         && own.calls == 2
 }
 
-/// Whether there is a listener once a processor was added, and the caller's own processor is notified before it.
+/// Returns `true` if there is a listener once a processor was added, and the caller's own processor is notified before
+/// it.
 fn is_reported_first(alloc: Global) -> bool {
     let variables = Variables::new(alloc);
     let mut processing: Processing<FailsAt, FailsAt> = Processing::new(alloc);

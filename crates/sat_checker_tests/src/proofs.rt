@@ -7,8 +7,8 @@ use crate::kinds::Kind;
 use sat_checker::{Checker, Looks};
 use std::alloc::Global;
 
-/// Whether `text` has the result `answer` as a proof, and an end after it has the result `following`. The text is read
-/// in one chunk and in chunks of one byte.
+/// Returns `true` if `text` has the result `answer` as a proof, and an end after it has the result `following`. The
+/// text is read in one chunk and in chunks of one byte.
 pub(crate) fn is_answered(
     alloc: Global,
     text: &'static [u8],
@@ -173,7 +173,7 @@ fn calls_around_proofs_are_answered(rt: HostRuntime) {
     assert!(rt; wrong == None, "{wrong:?}");
 }
 
-/// Whether adding the looks of a checker twice gives twice their number, which isn't 0.
+/// Returns `true` if adding the looks of a checker twice gives twice their number, which isn't 0.
 fn add_up(checker: &Checker) -> bool {
     let mut looks = Looks::new();
     looks.add(checker);

@@ -40,7 +40,8 @@ fn following((error, unsat, ended): Answer) -> (Answer, Answer) {
     }
 }
 
-/// Whether steps have the result of `row`, one by one and as a proof, and what follows them has the expected result.
+/// Returns `true` if steps have the result of `row`, one by one and as a proof, and what follows them has the expected
+/// result.
 fn is_answered(alloc: Global, row: &Row) -> bool {
     let (clause, end) = following(row.1);
     steps::is_answered(alloc, row.0, row.1, clause)

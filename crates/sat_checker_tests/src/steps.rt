@@ -30,7 +30,8 @@ pub(crate) fn read_by<C: SelfChecker, R: CountedRead>(
     fed(checker, &mut StepReader::new(alloc, reader))
 }
 
-/// Whether calls have the given results while a processor and a transcript accept everything that is announced.
+/// Returns `true` if calls have the given results while a processor and a transcript accept everything that is
+/// announced.
 fn is_answered_to_listeners(alloc: Global, calls: &[Answered]) -> bool {
     let mut checker: Checker<FailsAt, FailsAt> = Checker::notifying(alloc);
     let right = add_quiet(&mut checker) && answers(alloc, &mut checker, calls);
@@ -38,8 +39,8 @@ fn is_answered_to_listeners(alloc: Global, calls: &[Answered]) -> bool {
     right
 }
 
-/// Whether steps have the result `answer`, and an empty clause after them has the result `following`. The steps are
-/// read in one chunk and in chunks of one byte, with and without listeners.
+/// Returns `true` if steps have the result `answer`, and an empty clause after them has the result `following`. The
+/// steps are read in one chunk and in chunks of one byte, with and without listeners.
 pub(crate) fn is_answered(
     alloc: Global,
     text: &'static [u8],
@@ -96,7 +97,7 @@ fn calls_around_steps_are_answered(rt: HostRuntime) {
     assert!(rt; wrong == None, "{wrong:?}");
 }
 
-/// Whether a conflict of two units is pending until it is settled.
+/// Returns `true` if a conflict of two units is pending until it is settled.
 fn is_pending_once(checker: &mut Checker, lit: Lit) -> bool {
     checker.is_settled()
         && checker.add_clause(&[lit]).is_ok()

@@ -10,7 +10,7 @@ use std::alloc::{AllocError, Global};
 /// The number of clauses that are stored.
 const COUNT: u8 = 30;
 
-/// Whether the clause with the number `number` remains.
+/// Returns `true` if the clause with the number `number` remains.
 fn is_left(number: u8) -> bool {
     number / 3 % 3 == 0
 }
@@ -83,7 +83,7 @@ fn id_of(store: &Store, clause: &[Lit], looks: &mut Looks) -> Option<u64> {
     }
 }
 
-/// Whether exactly the remaining clauses are found, each with its id.
+/// Returns `true` if exactly the remaining clauses are found, each with its id.
 fn finds_left(store: &Store, clause: &mut Vec<Lit>, looks: &mut Looks) -> Result<bool, AllocError> {
     for number in 0..COUNT {
         fill(clause, number)?;
@@ -99,7 +99,7 @@ fn finds_left(store: &Store, clause: &mut Vec<Lit>, looks: &mut Looks) -> Result
     Ok(true)
 }
 
-/// Whether there are `count` pairs, in order of their places, which are below half of the number of clauses.
+/// Returns `true` if there are `count` pairs, in order of their places, which are below half of the number of clauses.
 fn are_sorted(pairs: &[Pair], count: usize) -> bool {
     for place in 0..pairs.len() {
         if pairs[place].place >= 15 {

@@ -10,21 +10,24 @@ use Rattle.sat_hints.specs.declared.answer.HintWhy.TheVariants.{Syntax, IdOrder,
 use Rattle.sat_hints.specs.declared.answer.HintVerdict.{HintVerdict}
 use Rattle.sat_hints.specs.declared.answer.HintVerdict.TheVariants.{Proved, Bad}
 
--- that the clauses are unit in turn up to some clause before the last, which is not unit
+-- `SomeIsNotUnit assumed clauses` holds if under the assumed literals, the clauses are unit in turn up to some clause
+-- before the last, which is not unit.
 abbrev pub SomeIsNotUnit : List ℕ → List (List ℕ) → Type 0
 SomeIsNotUnit assumed [] = ⊥
 SomeIsNotUnit assumed (clause ∷ []) = ⊥
 SomeIsNotUnit assumed (clause ∷ next ∷ rest) =
     ((l : ℕ) → IsUnit assumed clause l → ⊥) ⊎ ((l : ℕ) × IsUnit assumed clause l × SomeIsNotUnit (l ∷ assumed) (next ∷ rest))
 
--- that there are no clauses, or those before the last are unit in turn, and the last is not falsified
+-- `LastIsNotFalsified assumed clauses` holds if under the assumed literals, there are no clauses, or those before the
+-- last are unit in turn and the last is not falsified.
 abbrev pub LastIsNotFalsified : List ℕ → List (List ℕ) → Type 0
 LastIsNotFalsified assumed [] = Unit {0}
 LastIsNotFalsified assumed (clause ∷ []) = IsFalsified assumed clause → ⊥
 LastIsNotFalsified assumed (clause ∷ next ∷ rest) = (l : ℕ) × IsUnit assumed clause l × LastIsNotFalsified (l ∷ assumed) (next ∷ rest)
 
--- That a line is in order and derives a clause or a core, the clauses that it names are present, and it assumes no
--- variable with both signs. `Fails` holds of the assumed literals and these clauses.
+-- `TriesLine earlier line Fails` holds if the line is in order and derives a clause or a core, the clauses that it
+-- names are present, it assumes no variable with both signs, and `Fails` holds of the literals that it assumes and
+-- these clauses.
 pub record TriesLine (earlier : List Line) (line : Line) (Fails : List ℕ → List (List ℕ) → Type 0) : Type 0 where
   pub in_order : IsInOrder earlier line
   pub clauses : List (List ℕ)
@@ -34,7 +37,8 @@ pub record TriesLine (earlier : List Line) (line : Line) (Fails : List ℕ → L
   pub consistent : is_tautology assumed ≡ false
   pub fails : Fails assumed clauses
 
--- Why a line is at fault after earlier lines, the first reason of these: its id is not above the last clause's id,
+-- `IsFaultOf earlier line why` holds if `why` is the first of these reasons why the line is at fault after the earlier
+-- lines: its id is not above the last clause's id,
 abbrev pub IsFaultOf : List Line → Line → HintWhy → Type 0
 IsFaultOf earlier line IdOrder = IsInOrder earlier line → ⊥
 -- a clause that it names is not present,
@@ -46,13 +50,14 @@ IsFaultOf earlier line NotFalsified = TriesLine earlier line LastIsNotFalsified
 IsFaultOf earlier line VarInUse = UsesVariable earlier line
 IsFaultOf earlier line Syntax = ⊥
 
--- why the bytes of a line are at fault: `Syntax` if they spell no line, otherwise the fault of the line that they spell
+-- `IsAtFault earlier bytes why` holds if the bytes of a line are at fault after the earlier lines for the reason `why`:
+-- `Syntax` if they spell no line, otherwise the fault of the line that they spell.
 abbrev pub IsAtFault : List Line → List ℕ → HintWhy → Type 0
 IsAtFault earlier bytes Syntax = (line : Line) → SpellsLine bytes line → ⊥
 IsAtFault earlier bytes why = (line : Line) × SpellsLine bytes line × IsFaultOf earlier line why
 
--- That a line of the text is at fault for this reason, and the lines before it are a derivation. Its number is counted
--- from 1 and capped at 2^64-1.
+-- `IsBadAt text line why` holds if the line with number `line` of the text is at fault for the reason `why`, and the
+-- lines before it are a derivation. Lines are numbered from 1, and the number is capped at 2^64-1.
 pub record IsBadAt (text : List ℕ) (line : ℕ) (why : HintWhy) : Type 0 where
   pub earlier : List Line
   pub bytes : List ℕ
@@ -64,7 +69,8 @@ pub record IsBadAt (text : List ℕ) (line : ℕ) (why : HintWhy) : Type 0 where
   pub fault : IsAtFault earlier bytes why
   pub number : line ≡ capped (length earlier + 1)
 
--- that the text is that of a derivation, with these counts, capped at 2^64-1, and this value of `empty`
+-- `IsProof text empty cores lines` holds if the text is that of a derivation with these numbers of cores and of lines,
+-- capped at 2^64-1, and `empty` is true exactly if it derives an empty clause.
 pub record IsProof (text : List ℕ) (empty : Bool) (cores lines : ℕ) : Type 0 where
   pub all : List Line
   pub whole : text ≡ text_of all
@@ -74,7 +80,8 @@ pub record IsProof (text : List ℕ) (empty : Bool) (cores lines : ℕ) : Type 0
   pub counts_cores : cores ≡ capped (count_of_cores all)
   pub counts_lines : lines ≡ capped (length all)
 
--- what a verdict says about a text
+-- `VerdictHolds verdict text` holds if the text is the text of a derivation with the counts of `Proved`, or its line
+-- with the number of `Bad` is at fault for this reason.
 abbrev pub VerdictHolds : HintVerdict → List ℕ → Type 0
 VerdictHolds (Proved empty cores lines) text = IsProof text empty cores lines
 VerdictHolds (Bad line why) text = IsBadAt text line why

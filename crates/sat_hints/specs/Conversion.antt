@@ -30,12 +30,12 @@ announced_line (notices.Model assignment) = None
 announced_line (notices.Assumptions assumptions) = None
 announced_line (notices.FailedAssumptions core ids) = Some (Core core ids)
 
--- the lines, with this line, if there is one, as the newest
+-- the lines with this line, if there is one, added as the newest
 abbrev pub with_line : Option Line → List Line → List Line
 with_line None lines = lines
 with_line (Some line) lines = line ∷ lines
 
--- The earlier lines and those of the announcements. The announcements have the oldest first, all lines the newest.
+-- the earlier lines and those of the announcements; announcements have the oldest first, lines the newest
 abbrev pub announced_lines : List Notice → List Line → List Line
 announced_lines [] earlier = earlier
 announced_lines (t ∷ ts) earlier = announced_lines ts (with_line (announced_line t.announcement) earlier)

@@ -6,7 +6,7 @@ use Rattle.sat_base.specs.steps.Formats.{IsProperPrefix, IsFirstBadByte}
 use Rattle.sat_base.specs.steps.Steps.{Step, End}
 use Rattle.sat_base.specs.steps.StepText.{SpellsStep}
 use Rattle.sat_checker.specs.Accepts.{Accepts, AcceptsAll, ready_after}
-use Rattle.sat_checker.specs.ProofView.{GaveSteps, BeginsWithStep, taken_after, NoReadFailed, FoundNoEnd}
+use Rattle.sat_checker.specs.ProofView.{GaveSteps, StopsWithinStep, taken_after, NoReadFailed, FoundNoEnd}
 use Rattle.sat_checker.specs.declared.error.CheckerError.{CheckerError}
 use Rattle.sat_checker.specs.declared.error.CheckerError.TheVariants as errors
 use Rattle.sat_hints.specs.Conversion.{hint_text, hint_verdict}
@@ -14,38 +14,40 @@ use Rattle.sat_hints.specs.Checks.{VerdictHolds}
 use Rattle.sat_hints.specs.declared.error.HintError.{HintError}
 use Rattle.sat_hints.specs.declared.error.HintError.TheVariants.{Refused, HasDeleteVar, Read, Write, OutOfMemory}
 
--- That the reader gave the text of the steps `passed` and `last`, and then the bytes `rest`. The steps `passed` are
--- accepted in this order, and none of them is an end.
+-- `GaveAcceptedSteps from to passed last rest` holds if the reader gave the text of the steps `passed` and `last`, and
+-- then the bytes `rest`. The steps `passed` are accepted in this order, and none of them is an end.
 pub record GaveAcceptedSteps (from to : Reader) (passed last : List Step) (rest : List ℕ) : Type 0 where
   pub steps : GaveSteps from to (passed ++ last) rest
   pub unended : AllByRecursion (λ step. step ≢ End) passed
   pub accepted : AcceptsAll (taken_after passed [])
 
--- that the writer accepted a prefix of the text, and no call failed
+-- `WritesPrefixOf old new text` holds if the writer accepted a prefix of the text, and no call failed.
 pub record WritesPrefixOf (old new : Writer) (text : List ℕ) : Type 0 where
   pub front : List ℕ
   pub following : List ℕ
   pub whole : text ≡ front ++ following
   pub takes : WriterAccepts old new front
 
--- that only the last call of the writer failed, after a prefix of the hint text of the steps, or of these steps and one
--- more accepted step
+-- `BreaksAfter old new step steps` holds if the last call of the writer failed, and no other, after a prefix of the
+-- hint text of the steps, or of these steps and `step`, which is accepted.
 abbrev pub BreaksAfter : Writer → Writer → Step → List Step → Type 0
 BreaksAfter old new step steps = WriterFails old new (hint_text steps) ⊎ (Accepts (ready_after steps) step × WriterFails old new (hint_text (step ∷ steps)))
 
--- that after the accepted steps, the reader gave bytes that begin with a step, complete or cut off, or gave one more
--- step, which is accepted
+-- `GaveUpTo from to passed rest` holds if the reader gave the text of the accepted steps `passed`, and then a proper
+-- prefix of a step, of at least one byte, and nothing else; or then one more step, which is accepted, and the bytes
+-- `rest`.
 abbrev pub GaveUpTo : Reader → Reader → List Step → List ℕ → Type 0
-GaveUpTo from to passed rest = (GaveAcceptedSteps from to passed [] rest × BeginsWithStep rest)
+GaveUpTo from to passed rest = (GaveAcceptedSteps from to passed [] rest × StopsWithinStep rest)
     ⊎ ((step : Step) × GaveAcceptedSteps from to passed (step ∷ []) rest × Accepts (ready_after (taken_after passed [])) step)
 
--- that the reader gave accepted steps and an end, which is accepted too, and no read failed
+-- `IsAccepted from to passed rest` holds if the reader gave the accepted steps `passed` and an end, which is accepted
+-- too, and then the bytes `rest`, and no read failed.
 pub record IsAccepted (from to : Reader) (passed : List Step) (rest : List ℕ) : Type 0 where
   pub gave : GaveAcceptedSteps from to passed (End ∷ []) rest
   pub none_failed : NoReadFailed from to
   pub ends : Accepts (ready_after (taken_after passed [])) End
 
--- Why the checker rejects the certificate after the accepted steps:
+-- `RefusesBy e from to passed` holds if the checker rejects the certificate by `e` after the accepted steps `passed`:
 abbrev pub RefusesBy : CheckerError → Reader → Reader → List Step → Type 0
 -- a step is not accepted,
 RefusesBy errors.CheckFailed from to passed = (step : Step) × (rest : List ℕ) × GaveAcceptedSteps from to passed (step ∷ []) rest × (Accepts (ready_after (taken_after passed [])) step → ⊥)
@@ -60,7 +62,8 @@ RefusesBy errors.OutOfMemory from to passed = ⊥
 RefusesBy errors.HasFailed from to passed = ⊥
 RefusesBy (errors.ProofProcessorError cause) from to passed = ⊥
 
--- What a result means for the certificate's reader and the text's writer, given their states before and after:
+-- `Converts result from to old new` holds if this is the result for the certificate's reader, before and after
+-- (`from`, `to`), and the text's writer, before and after (`old`, `new`):
 abbrev pub Converts : Result (Unit {0}) HintError → Reader → Reader → Writer → Writer → Type 0
 -- all steps are accepted up to an end, and their hint text is proved and completely written,
 Converts (Ok x) from to old new = (passed : List Step) × (rest : List ℕ) × IsAccepted from to passed rest
@@ -77,7 +80,7 @@ Converts (Err Read) from to old new = (passed : List Step) × (rest : List ℕ) 
 -- only the last write failed, after one more step was read and a prefix of the lines of accepted steps was written,
 Converts (Err Write) from to old new = (passed : List Step) × (step : Step) × (rest : List ℕ) × NoReadFailed from to × GaveAcceptedSteps from to passed (step ∷ []) rest
     × BreaksAfter old new step (taken_after passed [])
--- or memory ran out while a step was read, or while an accepted step was checked or announced; no read failed or found
+-- or memory ran out within a step, or while an accepted step was checked or announced; no read failed or found
 -- the end.
 Converts (Err OutOfMemory) from to old new = (passed : List Step) × (rest : List ℕ) × NoReadFailed from to × FoundNoEnd from to × GaveUpTo from to passed rest
     × WritesPrefixOf old new (hint_text (taken_after passed []))

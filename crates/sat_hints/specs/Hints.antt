@@ -5,7 +5,7 @@ use Rattle.sat_checker.specs.LiteralSets.{mentions, canonical, is_tautology}
 use Rattle.sat_checker.specs.Propagation.{UnitInTurn}
 use Rattle.sat_hints.specs.Lines.{Line, Input, Derived, Gone, Core, Fresh}
 
--- whether the clause is a unit over the variable
+-- `is_unit_over v clause` is true if the clause is a unit over the variable `v`.
 abbrev pub is_unit_over : ℕ → List ℕ → Bool
 is_unit_over v [] = false
 is_unit_over v (l ∷ []) = variable l == v
@@ -16,7 +16,7 @@ abbrev pub unless_unit_over : ℕ → Option (List ℕ) → Option (List ℕ)
 unless_unit_over v None = None
 unless_unit_over v (Some clause) = if is_unit_over v clause then None else Some clause
 
--- The clause under an id, as a sorted set of literals, or `None` if no line added it or a later line removed it.
+-- the clause under an id, as a sorted set of literals, or `None` if no line added it or a later line removed it
 abbrev pub clause_under : ℕ → List Line → Option (List ℕ)
 clause_under id [] = None
 clause_under id (Input i clause ∷ earlier) = if id == i then Some (canonical clause) else clause_under id earlier
@@ -25,13 +25,13 @@ clause_under id (Gone i ∷ earlier) = if id == i then None else clause_under id
 clause_under id (Core core ids ∷ earlier) = clause_under id earlier
 clause_under id (Fresh v ∷ earlier) = unless_unit_over v (clause_under id earlier)
 
--- the clause and then the other clauses, if all are present
+-- the clause and then the other clauses, or `None` if one of them is not present
 abbrev pub and_clauses : Option (List ℕ) → Option (List (List ℕ)) → Option (List (List ℕ))
 and_clauses None cs = None
 and_clauses (Some c) None = None
 and_clauses (Some c) (Some cs) = Some (c ∷ cs)
 
--- the clauses under these ids, in their order, if all are present
+-- the clauses under these ids, in their order, or `None` if one of them is not present
 abbrev pub clauses_under : List ℕ → List Line → Option (List (List ℕ))
 clauses_under [] earlier = Some []
 clauses_under (id ∷ ids) earlier = and_clauses (clause_under id earlier) (clauses_under ids earlier)
@@ -45,7 +45,7 @@ least_id (Gone id ∷ earlier) = least_id earlier
 least_id (Core core ids ∷ earlier) = least_id earlier
 least_id (Fresh v ∷ earlier) = least_id earlier
 
--- that the line adds no clause, or the clause's id is above that of the last clause added
+-- `IsInOrder earlier line` holds if the line adds no clause, or its clause's id is above that of the last clause added.
 abbrev pub IsInOrder : List Line → Line → Type 0
 IsInOrder earlier (Input id clause) = least_id earlier ≤ id
 IsInOrder earlier (Derived id clause ids) = least_id earlier ≤ id
@@ -69,22 +69,23 @@ assumed_by (Gone id) = None
 assumed_by (Core core ids) = Some core
 assumed_by (Fresh v) = None
 
--- that both signs of a variable are assumed, or the clauses are unit in turn and the last is falsified
+-- `Conflicts assumed clauses` holds if both signs of a variable are assumed, or the clauses are unit in turn and the
+-- last is falsified.
 abbrev pub Conflicts : List ℕ → List (List ℕ) → Type 0
 Conflicts assumed clauses = (is_tautology assumed ≡ true) ⊎ UnitInTurn assumed clauses
 
--- that the assumed literals, possibly no literals, and the clauses conflict; nothing is required for `None`
+-- `ConflictsIf assumed clauses` holds if the assumed literals and the clauses conflict, or `assumed` is `None`.
 abbrev pub ConflictsIf : Option (List ℕ) → List (List ℕ) → Type 0
 ConflictsIf None clauses = Unit {0}
 ConflictsIf (Some assumed) clauses = Conflicts assumed clauses
 
--- whether the clause has two or more literals
+-- `is_long clause` is true if the clause has two or more literals.
 abbrev pub is_long : List ℕ → Bool
 is_long [] = false
 is_long (l ∷ []) = false
 is_long (l ∷ m ∷ ls) = true
 
--- that a present clause of two or more literals contains the variable
+-- `IsInNonUnitClause v earlier` holds if a present clause of two or more literals contains the variable.
 pub record IsInNonUnitClause (v : ℕ) (earlier : List Line) : Type 0 where
   pub id : ℕ
   pub clause : List ℕ
@@ -92,7 +93,8 @@ pub record IsInNonUnitClause (v : ℕ) (earlier : List Line) : Type 0 where
   pub long : is_long clause ≡ true
   pub within : mentions clause v ≡ true
 
--- that the line makes a variable new, and a present clause of two or more literals contains this variable
+-- `UsesVariable earlier line` holds if the line makes a variable new, and a present clause of two or more literals
+-- contains this variable.
 abbrev pub UsesVariable : List Line → Line → Type 0
 UsesVariable earlier (Input id clause) = ⊥
 UsesVariable earlier (Derived id clause ids) = ⊥
@@ -100,9 +102,9 @@ UsesVariable earlier (Gone id) = ⊥
 UsesVariable earlier (Core core ids) = ⊥
 UsesVariable earlier (Fresh v) = IsInNonUnitClause v earlier
 
--- That a line may follow earlier lines. Its id is in order, and the clauses that it names are present. For a derived
--- clause or a core, they conflict with the literals that the line assumes. If the line makes a variable new, no present
--- clause of two or more literals contains this variable.
+-- `FollowsLines earlier line` holds if the line may follow the earlier lines: its id is in order, and the clauses that
+-- it names are present. For a derived clause or a core, they conflict with the literals that the line assumes. If the
+-- line makes a variable new, no present clause of two or more literals contains this variable.
 pub record FollowsLines (earlier : List Line) (line : Line) : Type 0 where
   pub in_order : IsInOrder earlier line
   pub clauses : List (List ℕ)
@@ -110,17 +112,17 @@ pub record FollowsLines (earlier : List Line) (line : Line) : Type 0 where
   pub conflict : ConflictsIf (assumed_by line) clauses
   pub unused : UsesVariable earlier line → ⊥
 
--- that every line may follow the lines before it
+-- `IsHintDerivation lines` holds if every line may follow the lines before it.
 abbrev pub IsHintDerivation : List Line → Type 0
 IsHintDerivation [] = Unit {0}
 IsHintDerivation (line ∷ earlier) = IsHintDerivation earlier × FollowsLines earlier line
 
--- whether the clause has no literals
+-- `is_empty clause` is true if the clause has no literals.
 abbrev pub is_empty : List ℕ → Bool
 is_empty [] = true
 is_empty (l ∷ ls) = false
 
--- whether an empty clause is derived
+-- `derives_empty lines` is true if a line derives an empty clause.
 abbrev pub derives_empty : List Line → Bool
 derives_empty [] = false
 derives_empty (Input id clause ∷ earlier) = derives_empty earlier

@@ -5,8 +5,8 @@ use Rattle.sat_base.specs.values.Literals.{var_limit}
 use Rattle.sat_base.specs.steps.Steps.{Step, DeleteVar, AddClause, AtClause, UnitClauses, FailedAssumptions}
 use Rattle.sat_hints.specs.Lines.{AreLiteralCodes}
 
--- That the deleted variable, or the literals of the added or derived clause, the units or the core, are within their
--- limits. Nothing is required of other steps.
+-- `FitsStep step` holds if the step's deleted variable, literals of a clause or a core, or units are within their
+-- limits; nothing is required of other steps.
 abbrev pub FitsStep : Step → Type 0
 FitsStep (DeleteVar v) = v < var_limit
 FitsStep (AddClause clause) = AreLiteralCodes clause

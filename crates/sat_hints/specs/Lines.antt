@@ -12,19 +12,19 @@ pub data Line : Type 0 where
   Core : List ℕ → List ℕ → Line  -- literals that fail together, and the ids of the clauses by which they do
   Fresh : ℕ → Line  -- a variable is new: its units are removed, and it may have another value than before
 
--- that every id is below 2^64-1
+-- `AreIds ids` holds if every id is below 2^64-1.
 abbrev pub AreIds : List ℕ → Type 0
 AreIds = AllByRecursion (λ id. id < 2 ^ 64 - 1)
 
--- that every variable is an index below the limit
+-- `AreVariables vs` holds if every variable is an index below the limit.
 abbrev pub AreVariables : List ℕ → Type 0
 AreVariables = AllByRecursion (λ v. v < var_limit)
 
--- that every literal is a code whose variable is below the limit
+-- `AreLiteralCodes ls` holds if every literal is a code whose variable is below the limit.
 abbrev pub AreLiteralCodes : List ℕ → Type 0
 AreLiteralCodes = AllByRecursion (λ l. l < 2 * var_limit)
 
--- that the ids, the literals and the variable of a line are within their limits
+-- `IsLine line` holds if the ids, the literals and the variable of the line are within their limits.
 abbrev pub IsLine : Line → Type 0
 IsLine (Input id clause) = AreIds (id ∷ []) × AreLiteralCodes clause
 IsLine (Derived id clause ids) = AreIds (id ∷ []) × AreLiteralCodes clause × AreIds ids
@@ -32,7 +32,7 @@ IsLine (Gone id) = AreIds (id ∷ [])
 IsLine (Core core ids) = AreLiteralCodes core × AreIds ids
 IsLine (Fresh v) = AreVariables (v ∷ [])
 
--- that all ids, literals and variables of these lines are within their limits
+-- `AreLines lines` holds if the ids, literals and variables of all lines are within their limits.
 abbrev pub AreLines : List Line → Type 0
 AreLines = AllByRecursion IsLine
 
@@ -65,21 +65,22 @@ line_text (Gone id) = codes "x " ++ (id_words (id ∷ []) ++ codes "0\n")
 line_text (Core core ids) = codes "f " ++ (literal_words core ++ (codes "0 " ++ (id_words ids ++ codes "0\n")))
 line_text (Fresh v) = codes "e " ++ (variable_words (v ∷ []) ++ codes "0\n")
 
--- the text of lines
+-- the text of lines, which have the newest first
 abbrev pub text_of : List Line → List ℕ
 text_of [] = []
 text_of (line ∷ earlier) = text_of earlier ++ line_text line
 
--- that the bytes are the text of this line, and its ids, literals and variable are within their limits
+-- `SpellsLine bytes line` holds if the bytes are the text of the line, and its ids, literals and variable are within
+-- their limits.
 abbrev pub SpellsLine : List ℕ → Line → Type 0
 SpellsLine bytes line = IsLine line × (bytes ≡ line_text line)
 
--- that no byte is LF
+-- `HasNoEnd bytes` holds if no byte is LF.
 abbrev pub HasNoEnd : List ℕ → Type 0
 HasNoEnd = AllByRecursion (λ b. b ≡ 10 → ⊥)
 
--- That `bytes` is the first line of a text, and `rest` follows it. The line has any content, and LF ends it. Only the
--- last line of a text may lack the LF, if it is not empty.
+-- `BeginsWithLine bytes rest` holds if `bytes` is the first line of a text, and `rest` follows it. The line has any
+-- content, and LF ends it. Only the last line of a text may lack the LF, if it is not empty.
 pub data BeginsWithLine (bytes rest : List ℕ) : Type 0 where
   ended : (front : List ℕ) → HasNoEnd front → bytes ≡ front ++ (10 ∷ []) → BeginsWithLine bytes rest
   cut_off : HasNoEnd bytes → (bytes ≡ [] → ⊥) → rest ≡ [] → BeginsWithLine bytes rest

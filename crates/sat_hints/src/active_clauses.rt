@@ -22,7 +22,7 @@ pub(crate) struct ActiveClauses {
 }
 
 impl ActiveClauses {
-    /// Returns an empty collection of clauses. Does not allocate.
+    /// Returns an empty collection of clauses. Never allocates.
     pub(crate) fn new(alloc: Global) -> ActiveClauses
         ensures standing { ActiveClausesInvariant result }
         ensures none { result.present.ids.items ≡ [] }
@@ -36,7 +36,7 @@ impl ActiveClauses {
         }
     }
 
-    /// Whether `clause`, which has the id `id`, is a unit that was added before its variable last became new.
+    /// Returns `true` if `clause`, stored under `id`, is a unit that was added before its variable last became new.
     #[inline(always)]
     fn is_stale(&self, id: u64, clause: &[Lit]) -> bool
         ensures { result ≡ is_stale self.now.since id clause.now }
@@ -47,7 +47,7 @@ impl ActiveClauses {
         id < self.since.get(clause[0].index(), 0)
     }
 
-    /// Returns the place of the clause with the id `id`, if this clause is present.
+    /// Returns the place of the clause under `id`, or `None` if no clause is present.
     pub(crate) fn find(&self, id: u64) -> Option<usize>
         requires { ActiveClausesInvariant self.now }
         ensures { MatchOption result (active_clause self.now id ≡ None) (FindsClause self.now id) }
@@ -59,7 +59,7 @@ impl ActiveClauses {
         Some(place)
     }
 
-    /// Returns the literals of the clause with the id `id` as a slice, if this clause is present.
+    /// Returns the literals of the clause under `id` as a slice, or `None` if no clause is present.
     #[inline(always)]
     pub(crate) fn find_clause(&self, id: u64) -> Option<&[Lit]>
         requires { ActiveClausesInvariant self.now }
@@ -73,7 +73,7 @@ impl ActiveClauses {
         Some(clause)
     }
 
-    /// Adds a clause, given as a sorted set, under the id `id`, which must be above all earlier ids.
+    /// Adds a clause, given as a sorted set, under `id`, which must be above all earlier ids.
     pub(crate) fn push(&mut self, id: u64, clause: &[Lit]) -> Result<(), AllocError>
         requires standing { ActiveClausesInvariant self.old }
         requires above { AllBelow self.old.present.ids.items id }
@@ -86,7 +86,7 @@ impl ActiveClauses {
         Ok(())
     }
 
-    /// Removes the clause with the id `id`. Returns whether this clause was present.
+    /// Removes the clause under `id`. Returns `true` if a clause was present.
     pub(crate) fn remove(&mut self, id: u64) -> Result<bool, AllocError>
         requires { ActiveClausesInvariant self.old }
         ensures takes { IfOk result (λ was. MatchBool was ((active_clause self.old id ≢ None) × DropsClause self.old self.new id)
@@ -101,8 +101,8 @@ impl ActiveClauses {
         Ok(true)
     }
 
-    /// Whether the variable is in a present clause of two or more literals. Searches all clauses until a variable first
-    /// becomes new, and uses counts from then on.
+    /// Returns `true` if the variable is in a present clause of two or more literals. Searches all clauses until a
+    /// variable first becomes new, and uses counts from then on.
     pub(crate) fn is_used(&self, var: Var) -> bool
         requires { ActiveClausesInvariant self.now }
         ensures { MatchBool result (IsUsed self.now var) (IsUsed self.now var → ⊥) }

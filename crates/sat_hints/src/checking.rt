@@ -50,8 +50,8 @@ fn line_end(bytes: &[u8]) -> Option<usize>
     None
 }
 
-/// Reads and checks a line, given as bytes, for whose lists there must be room. Returns why the line is faulty, if it is.
-/// Runs out of memory only if it is not.
+/// Reads and checks a line, given as bytes, for whose lists there must be room. Returns why the line is at fault, or
+/// `None`. Runs out of memory only if the line is not at fault.
 fn take_line(
     lists: &mut Lists,
     checker: &mut LineChecker,
@@ -73,7 +73,7 @@ fn take_line(
 }
 
 impl Checking {
-    /// Returns a checker that has read nothing. Does not allocate.
+    /// Returns a checker that has read nothing. Never allocates.
     fn new(alloc: Global) -> Checking
         ensures ready { IsReadyChecker result.checker }
         ensures read { HasRead result [] }
@@ -87,8 +87,8 @@ impl Checking {
         }
     }
 
-    /// Reserves memory for the next chunk: to complete the line that has begun, and to read its lists. So a complete line
-    /// that is at fault is refused even if memory runs out.
+    /// Reserves memory for the next chunk: to complete the line that has begun, and to read its lists. So a complete
+    /// line that is at fault is refused even if memory runs out.
     fn make_room(&mut self) -> Result<(), AllocError>
         ensures room { OnOk result (HasRoomFor self.new piece_size) }
         ensures checker { self.new.checker ≡ self.old.checker }
@@ -118,7 +118,8 @@ impl Checking {
     }
 
     /// Checks the line that consists of the held bytes and `bytes`, which must end with the line's LF. Returns why the
-    /// line is at fault, if it is. There must be room for the bytes, so memory runs out only if the line is not.
+    /// line is at fault, or `None`. There must be room for the bytes, so memory runs out only if the line is not at
+    /// fault.
     fn end_line(&mut self, bytes: &[u8]) -> Result<Option<HintWhy>, AllocError>
         requires ready { IsReadyChecker self.old.checker }
         requires some { 0 < vec_len self.old.held }
@@ -157,7 +158,7 @@ impl Checking {
     }
 
     /// Holds the bytes after the last line that was read in place. `bytes` must not begin with a line, so an LF among
-    /// these bytes is a fault.
+    /// these bytes is a fault. Returns the fault, or `None`.
     fn hold_rest(&mut self, bytes: &[u8]) -> Result<Option<HintWhy>, AllocError>
         requires ready { IsReadyChecker self.old.checker }
         requires empty { self.old.held.items ≡ [] }
@@ -173,7 +174,7 @@ impl Checking {
         }
     }
 
-    /// Does what `feed` does if no bytes are held. Lines are read in place, without being copied.
+    /// Does what `feed` does if no bytes are held, and returns the same. Lines are read in place, without being copied.
     fn feed_in_place(&mut self, piece: &[u8]) -> Result<Option<HintWhy>, AllocError>
         requires ready { IsReadyChecker self.old.checker }
         requires empty { self.old.held.items ≡ [] }
@@ -289,7 +290,8 @@ impl Checking {
     }
 }
 
-/// Checks a hint text. Reads the text in chunks of at most 4,096 bytes, up to the first line at fault.
+/// Checks a hint text, and returns the verdict. Reads the text in chunks of at most 4,096 bytes, up to the first line
+/// at fault.
 pub fn check<R: CountedRead>(alloc: Global, text: &mut R) -> Result<HintVerdict, HintFault>
     // The verdict is correct for the text that was read, whatever follows.
     ensures given { GaveEnough (R.seen text.old) (R.seen text.new) (IsRightIfVerdict result) }

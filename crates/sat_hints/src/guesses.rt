@@ -21,7 +21,7 @@ pub(crate) struct Guesses {
 }
 
 impl Guesses {
-    /// Returns a table without places. Does not allocate.
+    /// Returns a table without places. Never allocates.
     pub(crate) fn new(alloc: Global) -> Guesses {
         Guesses {
             places: Vec::new(alloc),
@@ -29,7 +29,7 @@ impl Guesses {
         }
     }
 
-    /// Notes the place of the clause with the id `id`, unless the id or the place is too large for the table.
+    /// Notes the place of the clause under `id`, unless `id` or the place is too large for the table.
     pub(crate) fn note(&mut self, id: u64, place: usize) -> Result<(), AllocError> {
         self.noted = self.noted.saturating_add(1);
         if id > self.noted.saturating_mul(SPREAD).saturating_add(FIRST) {
@@ -48,7 +48,8 @@ impl Guesses {
         Ok(())
     }
 
-    /// Searches for `id` in `ids`, as `binary_search` does, but tries the likely place first.
+    /// Returns the place of `id` in `ids`, or where it could be inserted, as `binary_search` does, but tries the likely
+    /// place first.
     #[inline(always)]
     pub(crate) fn search(&self, ids: &[u64], id: u64) -> Result<usize, usize>
         ensures bound { IsSearchInRange result (length ids.now) }

@@ -1,4 +1,6 @@
-//! Writing lists of ids and literals. Every item is a number followed by a space.
+//! Writing lists of ids and literals.
+//!
+//! Every item is a number followed by a space.
 ghost use Rattle.std.specs.Prelude.{◌≡◌, ◌+◌, ◌*◌, ◌<◌, ◌≤◌, ◌++◌, ◌∷◌, [], length, take};
 ghost use Rattle.sat_hints.specs.Lines.{id_words, literal_words};
 ghost use Rattle.sat_hints.specs.inner.LineWriting.{sign_text};

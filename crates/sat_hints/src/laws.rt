@@ -1,4 +1,6 @@
-//! Laws about the definitions. Each law is the contract of a function that does nothing.
+//! Laws about the definitions.
+//!
+//! Each law is the contract of a function that does nothing.
 ghost use Rattle.sat_hints.specs.Laws.{AcceptedConverts, AnnouncedAreProved, AnnouncedDerive, HintCoresFail};
 ghost use Rattle.sat_hints.specs.Laws.{DerivedFollow, EmptyMeansNone, FormulaIsLeft, FormulaLeaves, OneVerdict};
 ghost use Rattle.sat_hints.specs.Laws.{PresentHold, ProofIsProved, ProvedIsNotBad, ReadStepsFit};

@@ -10,8 +10,8 @@ pub(crate) enum HintLine<'a> {
         id: u64,
         clause: &'a [Lit],
     },
-    /// `d ID LITS 0 IDS 0`: a clause that follows from others. Under its negation, the clauses with the ids `ids` are
-    /// unit in turn, with the last one falsified.
+    /// `d ID LITS 0 IDS 0`: a clause that follows from others. Under its negation, the clauses under `ids` are unit in
+    /// turn, with the last one falsified.
     Derived {
         id: u64,
         clause: &'a [Lit],
@@ -21,8 +21,8 @@ pub(crate) enum HintLine<'a> {
     Gone {
         id: u64,
     },
-    /// `f LITS 0 IDS 0`: literals that can't all be true. If they are assumed, the clauses with the ids `ids` are unit
-    /// in turn, with the last one falsified.
+    /// `f LITS 0 IDS 0`: literals that can't all be true. If they are assumed, the clauses under `ids` are unit in
+    /// turn, with the last one falsified.
     Core {
         core: &'a [Lit],
         ids: &'a [u64],

@@ -45,7 +45,7 @@ fn sorted_set<'a>(buffer: &'a mut Vec<Lit>, literals: &'a [Lit]) -> Result<&'a [
 }
 
 impl LineChecker {
-    /// Returns a checker that has read no line. Does not allocate.
+    /// Returns a checker that has read no line. Never allocates.
     pub(crate) fn new(alloc: Global) -> LineChecker
         ensures ready { IsReadyChecker result }
         ensures taken { HasTakenLines result [] }
@@ -61,7 +61,7 @@ impl LineChecker {
         }
     }
 
-    /// Stores a clause under the id `id`, which must be above all earlier ids.
+    /// Stores a clause under `id`, which must be above all earlier ids.
     fn store(&mut self, id: u64, clause: &[Lit]) -> Result<(), AllocError>
         requires ready { IsReadyChecker self.old }
         requires in_order { self.old.least_id ≤ id }
@@ -76,9 +76,9 @@ impl LineChecker {
         Ok(())
     }
 
-    /// Returns why the clauses with the ids `ids` do not lead to a conflict under the literals, or under their
-    /// negations if `negate` is true. Returns `None` if they do, or if the literals include both signs of a variable
-    /// and all clauses are present.
+    /// Returns why the clauses under `ids` do not lead to a conflict under the literals, or under their negations if
+    /// `negate` is true. Returns `None` if they do, or if the literals include both signs of a variable and all clauses
+    /// are present.
     fn refute(&mut self, literals: &[Lit], negate: bool, ids: &[u64]) -> Option<HintWhy>
         requires { IsReadyChecker self.old }
         ensures same { IsSame self.old self.new }
@@ -87,7 +87,7 @@ impl LineChecker {
         conflict(&self.standing, ids, literals, negate, &mut self.assumed)
     }
 
-    /// Checks an `i` line. Returns why the line is at fault, if it is.
+    /// Checks an `i` line. Returns why the line is at fault, or `None`.
     fn input(&mut self, id: u64, clause: &[Lit]) -> Result<Option<HintWhy>, AllocError>
         requires ready { IsReadyChecker self.old }
         requires within { IsId id }
@@ -101,7 +101,7 @@ impl LineChecker {
         Ok(None)
     }
 
-    /// Checks a `d` line. Returns why the line is at fault, if it is.
+    /// Checks a `d` line. Returns why the line is at fault, or `None`.
     fn derived(
         &mut self,
         id: u64,
@@ -125,7 +125,7 @@ impl LineChecker {
         Ok(None)
     }
 
-    /// Checks an `x` line. Returns why the line is at fault, if it is.
+    /// Checks an `x` line. Returns why the line is at fault, or `None`.
     fn gone(&mut self, id: u64) -> Result<Option<HintWhy>, AllocError>
         requires { IsReadyChecker self.old }
         ensures takes { IfOk result (λ why. TakesOne why self.old self.new (Gone id)) }
@@ -137,7 +137,7 @@ impl LineChecker {
         Ok(Some(HintWhy::UnknownId))
     }
 
-    /// Checks an `f` line. Returns why the line is at fault, if it is.
+    /// Checks an `f` line. Returns why the line is at fault, or `None`.
     fn core(&mut self, core: &[Lit], ids: &[u64]) -> Option<HintWhy>
         requires { IsReadyChecker self.old }
         ensures { TakesOne result self.old self.new (Core core.now ids.now) }
@@ -150,7 +150,7 @@ impl LineChecker {
         None
     }
 
-    /// Checks an `e` line. Returns why the line is at fault, if it is.
+    /// Checks an `e` line. Returns why the line is at fault, or `None`.
     fn fresh(&mut self, var: Var) -> Result<Option<HintWhy>, AllocError>
         requires { IsReadyChecker self.old }
         ensures takes { IfOk result (λ why. TakesOne why self.old self.new (Fresh var)) }
@@ -163,7 +163,7 @@ impl LineChecker {
         Ok(None)
     }
 
-    /// Checks the next line, without counting it. Returns why the line is at fault, if it is.
+    /// Checks the next line, without counting it. Returns why the line is at fault, or `None`.
     fn take_unnumbered(&mut self, line: &HintLine<'_>) -> Result<Option<HintWhy>, AllocError>
         requires ready { IsReadyChecker self.old }
         requires within { IsLine (line_of_view line.now) }
@@ -179,8 +179,8 @@ impl LineChecker {
         }
     }
 
-    /// Checks the next line. Returns why the line is at fault, if it is. Runs out of memory only if the line is not
-    /// at fault.
+    /// Checks the next line. Returns why the line is at fault, or `None`. Runs out of memory only if the line is not at
+    /// fault.
     pub(crate) fn take(&mut self, line: &HintLine<'_>) -> Result<Option<HintWhy>, AllocError>
         requires ready { IsReadyChecker self.old }
         requires within { IsLine (line_of_view line.now) }
@@ -206,7 +206,7 @@ impl LineChecker {
         }
     }
 
-    /// Returns the verdict on a text whose next line is at fault for the reason `why`.
+    /// Returns the verdict on a text whose next line is at fault because of `why`.
     pub(crate) fn bad(&self, why: HintWhy) -> HintVerdict
         ensures { (count : ℕ) → self.now.lines ≡ capped count → result ≡ HintVerdict.Bad (capped (count + 1)) why }
     {

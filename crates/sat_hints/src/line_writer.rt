@@ -51,7 +51,7 @@ impl<W: CountedWrite> LineWriter<W> {
         writer
     }
 
-    /// Whether a write has failed.
+    /// Returns `true` if a write has failed.
     pub(crate) fn has_failed(&self) -> bool
         ensures { result ≡ self.now.failed }
     {

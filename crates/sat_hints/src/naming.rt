@@ -1,10 +1,10 @@
-//! Tests whether the clauses that a line names are present.
+//! A test for whether the clauses that a line names are present.
 ghost use Rattle.std.specs.Prelude.{◌≡◌, ◌≢◌, None, MatchBool};
 ghost use Rattle.sat_hints.specs.inner.ActiveClauses.{active_clauses, ActiveClausesInvariant};
 
 use crate::active_clauses::ActiveClauses;
 
-/// Whether a clause is present under every id in `ids`.
+/// Returns `true` if a clause is present under every id in `ids`.
 pub(crate) fn are_present(standing: &ActiveClauses, ids: &[u64]) -> bool
     requires { ActiveClausesInvariant standing.now }
     ensures { MatchBool result (active_clauses standing.now ids.now ≢ None) (active_clauses standing.now ids.now ≡ None) }

@@ -1,4 +1,4 @@
-//! Tests, byte by byte, whether bytes can begin a line.
+//! A byte-by-byte test for whether bytes can begin a line.
 ghost use Rattle.std.specs.Prelude.{◌≡◌, ◌≤◌, ◌∷◌, []};
 ghost use Rattle.sat_hints.specs.Lines.{HasNoEnd};
 ghost use Rattle.sat_hints.specs.inner.Prefixes.{letter_place, limit_of, next_of, sign_place, zero_place, LeadsToPlace, ReachesPlace};

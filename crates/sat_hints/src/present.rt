@@ -24,7 +24,7 @@ pub(crate) struct Present {
 }
 
 impl Present {
-    /// Returns an empty collection of clauses. Does not allocate.
+    /// Returns an empty collection of clauses. Never allocates.
     pub(crate) fn new(alloc: Global) -> Present
         ensures store { IsStore result }
         ensures none { result.ids.items ≡ [] }
@@ -42,7 +42,7 @@ impl Present {
         }
     }
 
-    /// Returns the place of the clause with the id `id`, if this clause is present.
+    /// Returns the place of the clause under `id`, or `None` if no clause is present.
     #[inline(always)]
     pub(crate) fn find(&self, id: u64) -> Option<usize>
         requires { IsStore self.now }
@@ -80,7 +80,7 @@ impl Present {
         self.total.saturating_mul(4)
     }
 
-    /// Whether the clause at `place` is removed.
+    /// Returns `true` if the clause at `place` is removed.
     pub(crate) fn is_gone(&self, place: usize) -> bool
         requires { place < length self.now.gone.items }
         ensures { result ≡ slice_index_or self.now.gone.items place false }
@@ -88,7 +88,7 @@ impl Present {
         self.gone[place]
     }
 
-    /// Adds a clause, given as a sorted set, under the id `id`, which must be above all earlier ids.
+    /// Adds a clause, given as a sorted set, under `id`, which must be above all earlier ids.
     pub(crate) fn push(&mut self, id: u64, clause: &[Lit]) -> Result<(), AllocError>
         requires store { IsStore self.old }
         requires above { AllBelow self.old.ids.items id }

@@ -1,7 +1,6 @@
-//! Tests whether clauses are unit in turn, with the last one falsified. Running out of memory does not change
-//! the result.
+//! A test for whether clauses are unit in turn, with the last one falsified, which does not depend on memory.
 ghost use Rattle.std.specs.Prelude.{◌≡◌, ◌≢◌, ◌⊎◌, [], true, false, None, MatchBool};
-ghost use Rattle.sat_checker.specs.LiteralSets.{is_among, is_tautology};
+ghost use Rattle.sat_checker.specs.LiteralSets.{is_tautology};
 ghost use Rattle.sat_checker.specs.inner.AssumedRoom.{AgreesOn, RoomStays, signed};
 ghost use Rattle.sat_hints.specs.inner.LineChecking.{refutation_failure_of, WhyNotRefuted};
 ghost use Rattle.sat_hints.specs.inner.ActiveClauses.{active_clauses, HasRoomForPresent, ActiveClausesInvariant};
@@ -10,12 +9,11 @@ use crate::active_clauses::ActiveClauses;
 use crate::answer::HintWhy;
 use crate::naming::are_present;
 use sat_base::Lit;
-use sat_checker::rup::has;
+use sat_checker::unsorted_lits::include_both_signs;
 use sat_checker::{Assigned, Look, assume_if_roomy, look_at};
 
-/// Assumes those of the literals, or of their negations if `negate` is true, for which there is room. Returns whether
-/// the literals include both signs of a variable. To find out, searches for the negation of each literal among the
-/// earlier literals.
+/// Assumes those of the literals, or of their negations if `negate` is true, for which there is room. Returns `true` if
+/// the literals include both signs of a variable.
 #[inline(never)]
 fn assume_roomy(assumed: &mut Assigned, literals: &[Lit], negate: bool) -> bool
     requires { assumed.old.literals ≡ [] }
@@ -24,19 +22,17 @@ fn assume_roomy(assumed: &mut Assigned, literals: &[Lit], negate: bool) -> bool
         × AgreesOn assumed.old.room assumed.new.literals (signed negate literals.now)) }
     ensures room { assumed.new.room ≡ assumed.old.room }
 {
-    for place in 0..literals.len() {
-        let literal = literals[place];
-        let (before, _) = literals.split_at(place);
-        if has(before, !literal) {
-            return true;
-        }
-        assume_if_roomy(assumed, literal ^ negate);
+    if include_both_signs(literals) {
+        return true;
+    }
+    for literal in literals {
+        assume_if_roomy(assumed, *literal ^ negate);
     }
     false
 }
 
 /// Assumes the literals, or their negations if `negate` is true. If memory runs out for a literal, that literal is in
-/// no clause, and only the literals for which there is room are assumed. Returns whether the literals include both
+/// no clause, and only the literals for which there is room are assumed. Returns `true` if the literals include both
 /// signs of a variable.
 fn assume_all(assumed: &mut Assigned, literals: &[Lit], negate: bool) -> bool
     requires { assumed.old.literals ≡ [] }
@@ -77,8 +73,7 @@ fn not_unit(standing: &ActiveClauses, following: &[u64]) -> HintWhy
     HintWhy::UnknownId
 }
 
-/// Returns why the clauses with the ids `ids` do not lead to a conflict under the assumed literals. Returns `None` if
-/// they do.
+/// Returns why the clauses under `ids` do not lead to a conflict under the assumed literals. Returns `None` if they do.
 fn follow(standing: &ActiveClauses, ids: &[u64], assumed: &mut Assigned) -> Option<HintWhy>
     requires standing { ActiveClausesInvariant standing.now }
     requires room { HasRoomForPresent assumed.old.room standing.now }
@@ -107,9 +102,9 @@ fn follow(standing: &ActiveClauses, ids: &[u64], assumed: &mut Assigned) -> Opti
     }
 }
 
-/// Returns why the clauses with the ids `ids` do not lead to a conflict under the literals, or under their negations if
-/// `negate` is true. Returns `None` if they do, or if the literals include both signs of a variable and all clauses
-/// are present.
+/// Returns why the clauses under `ids` do not lead to a conflict under the literals, or under their negations if
+/// `negate` is true. Returns `None` if they do, or if the literals include both signs of a variable and all clauses are
+/// present.
 fn conflict_under(
     standing: &ActiveClauses,
     ids: &[u64],
@@ -132,7 +127,8 @@ fn conflict_under(
     Some(HintWhy::UnknownId)
 }
 
-/// Does what `conflict_under` does, and then undoes what was assumed. Nothing may be assumed beforehand.
+/// Does what `conflict_under` does, then undoes what was assumed, and returns the same. Nothing may be assumed
+/// beforehand.
 pub(crate) fn conflict(
     standing: &ActiveClauses,
     ids: &[u64],

@@ -29,8 +29,8 @@ pub(crate) enum Head {
     Fresh { var: Var },
 }
 
-/// Reads literals into `literals`, which must have capacity for them, as long as the bytes begin with a literal. Returns
-/// the remaining bytes.
+/// Reads literals into `literals`, which must have capacity for them, as long as the bytes begin with a literal.
+/// Returns the remaining bytes.
 fn read_literals<'a>(bytes: &'a [u8], literals: &mut Vec<Lit>) -> &'a [u8]
     requires { length bytes.now ≤ 2 * vec_capacity literals.old + 1 }
     ensures words { BeginsWithWords number_text IsLiteralCode bytes.now literals.new.items result.now }
@@ -64,7 +64,7 @@ fn read_ids<'a>(bytes: &'a [u8], ids: &mut Vec<u64>) -> &'a [u8]
 }
 
 impl Lists {
-    /// Returns empty lists. Does not allocate.
+    /// Returns empty lists. Never allocates.
     pub(crate) fn new(alloc: Global) -> Lists
         ensures literals { result.literals.items ≡ [] }
         ensures ids { result.ids.items ≡ [] }
@@ -75,7 +75,7 @@ impl Lists {
         }
     }
 
-    /// Returns the line with the head `head` and the stored lists.
+    /// Returns the line with `head` and the stored lists.
     pub(crate) fn line(&self, head: Head) -> HintLine<'_>
         ensures { line_of_view result ≡ line_with head self.now.literals.items self.now.ids.items }
     {

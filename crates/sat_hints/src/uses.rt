@@ -1,4 +1,4 @@
-//! Which variables are in clauses of two or more literals.
+//! Counts of the variables that are in clauses of two or more literals.
 ghost use Rattle.std.specs.Prelude.{◌≡◌, ◌+◌, ◌*◌, ◌≤◌, ◌<◌, ◌^◌, ℕ, length, OnOk, MatchBool, true, false};
 ghost use Rattle.sat_checker.specs.LiteralSets.{mentions};
 ghost use Rattle.sat_checker.specs.SortedSets.{IsIncreasing};
@@ -19,7 +19,7 @@ pub(crate) struct Uses {
     counts: Occurrences,
 }
 
-/// Whether the variable is in the clause.
+/// Returns `true` if the variable is in the clause.
 fn mentions(clause: &[Lit], var: Var) -> bool
     ensures { result ≡ mentions clause.now var }
 {
@@ -31,7 +31,7 @@ fn mentions(clause: &[Lit], var: Var) -> bool
     false
 }
 
-/// Whether the clause has two or more literals, and contains the variable.
+/// Returns `true` if the clause has two or more literals, and contains the variable.
 fn is_long_with(clause: &[Lit], var: Var) -> bool
     ensures { MatchBool result (0 < times_long (2 * var) clause.now + times_long (2 * var + 1) clause.now)
         (times_long (2 * var) clause.now + times_long (2 * var + 1) clause.now ≡ 0) }
@@ -42,7 +42,7 @@ fn is_long_with(clause: &[Lit], var: Var) -> bool
     mentions(clause, var)
 }
 
-/// Whether a present clause of two or more literals contains the variable.
+/// Returns `true` if a present clause of two or more literals contains the variable.
 fn is_in_long(present: &Present, var: Var) -> bool
     requires { IsStore present.now }
     ensures { MatchBool result (0 < occurrences_of present.now (2 * var) + occurrences_of present.now (2 * var + 1))
@@ -100,7 +100,7 @@ fn count_all(counts: &mut Occurrences, present: &Present) -> Result<(), AllocErr
 }
 
 impl Uses {
-    /// Returns an empty table of counts. Does not allocate.
+    /// Returns an empty table of counts. Never allocates.
     pub(crate) fn new(alloc: Global) -> Uses
         ensures none { (l : ℕ) → uses_at result l ≡ 0 }
         ensures not { result.counting ≡ false }
@@ -155,8 +155,8 @@ impl Uses {
         Ok(())
     }
 
-    /// Whether a present clause of two or more literals contains the variable. If counting has not started, searches
-    /// all clauses.
+    /// Returns `true` if a present clause of two or more literals contains the variable. If counting has not started,
+    /// searches all clauses.
     pub(crate) fn has(&self, present: &Present, var: Var) -> bool
         requires store { IsStore present.now }
         requires counted { (l : ℕ) → uses_at self.now l ≡ if_counting self.now.counting (occurrences_of present.now l) }

@@ -40,7 +40,7 @@ fn recheck<R: CountedRead>(
     }
 }
 
-/// Tests whether `verdict` is the verdict on the text of a certificate.
+/// Returns `true` if `verdict` is the verdict on the text of a certificate.
 fn is_rechecked(alloc: Global, certificate: &[u8], verdict: HintVerdict) -> bool {
     match recheck(alloc, &mut Counted::new(certificate)) {
         Ok(checked) => checked == Ok(verdict),

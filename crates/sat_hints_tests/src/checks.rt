@@ -197,7 +197,7 @@ pub(crate) fn in_bytes(alloc: Global, text: &[u8], failing: u64) -> Result<HintV
     check(alloc, &mut reader)
 }
 
-/// Whether each text has its verdict, read in one piece and byte by byte.
+/// Returns `true` if each text has its verdict, read in one piece and byte by byte.
 fn hold(alloc: Global, rows: &[Row]) -> bool {
     for row in rows {
         let verdict = Ok(row.1);

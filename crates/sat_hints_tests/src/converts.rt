@@ -249,7 +249,7 @@ const HIDDEN_SESSION: &[u8] = &[
     0x06, 0x00, 0x0a, 0x06, 0x00, 0x03, 0x04, 0x07, 0x09, 0x0d, 0x0b, 0x00, 0x0d,
 ];
 
-/// Whether the text is proved, read in one piece and byte by byte.
+/// Returns `true` if the text is proved, read in one piece and byte by byte.
 fn is_proved(alloc: Global, text: &[u8]) -> bool {
     let verdict = whole(alloc, text);
     matches!(verdict, Ok(HintVerdict::Proved { .. })) && in_bytes(alloc, text, 0) == verdict
@@ -272,7 +272,7 @@ fn text_of(alloc: Global, certificate: &[u8]) -> Option<Vec<u8>> {
     if again == text { Some(text) } else { None }
 }
 
-/// Whether `text` is the hint text of a certificate, and is proved.
+/// Returns `true` if `text` is the hint text of a certificate, and is proved.
 fn gives(alloc: Global, certificate: &[u8], text: &[u8]) -> bool {
     match text_of(alloc, certificate) {
         Some(written) => written.as_slice() == text && is_proved(alloc, text),
@@ -280,7 +280,7 @@ fn gives(alloc: Global, certificate: &[u8], text: &[u8]) -> bool {
     }
 }
 
-/// Whether each certificate has its hint text.
+/// Returns `true` if each certificate has its hint text.
 fn hold(alloc: Global, rows: &[Row]) -> bool {
     for row in rows {
         if !gives(alloc, row.0, row.1) {
@@ -290,7 +290,7 @@ fn hold(alloc: Global, rows: &[Row]) -> bool {
     true
 }
 
-/// Whether `verdict` is the verdict on the hint text of a certificate.
+/// Returns `true` if `verdict` is the verdict on the hint text of a certificate.
 fn is_judged(alloc: Global, certificate: &[u8], verdict: HintVerdict) -> bool {
     match text_of(alloc, certificate) {
         Some(text) => whole(alloc, &text) == Ok(verdict)

@@ -23,7 +23,7 @@ struct Place {
     room: u32,
 }
 
-/// Whether the variable with this index has no value.
+/// Returns `true` if the variable with this index has no value.
 fn is_unset(assignment: &Assignment, index: usize) -> bool
     ensures { result ≡ is_unassigned_var assignment.now.current index }
 {

@@ -1,4 +1,4 @@
-//! Computes the glue of clauses. The glue of a clause is the number of distinct levels among its literals.
+//! Computes the glue of clauses, which is the number of distinct levels among the literals of a clause.
 ghost use Rattle.std.specs.Prelude.{ℕ, ◌≡◌, ◌<◌, ◌≤◌, min, length, take, slice_index_or, false};
 ghost use Rattle.sat_store.specs.clause.Buffer.{IsClause, lits_at};
 ghost use Rattle.sat_parts.specs.clause.Glue.{levels_of, count_distinct, HaveNodes, HaveFlags, AreClear, MarksLevels};

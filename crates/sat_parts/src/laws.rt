@@ -1,4 +1,4 @@
-//! Laws about propagation and the search. Each law is the contract of a function with an empty body.
+//! Laws about propagation and the search, each of which is the contract of a function with an empty body.
 ghost use Rattle.sat_parts.specs.prop.Implied.{AssignedIsImplied};
 ghost use Rattle.sat_parts.specs.prop.TrailWord.{LevelsStay, WordsRise};
 

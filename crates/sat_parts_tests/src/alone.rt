@@ -113,7 +113,7 @@ fn found_together(
     Ok(Some(found))
 }
 
-/// Whether the reason of the third variable is the first long clause.
+/// Returns `true` if the reason of the third variable is the first long clause.
 fn third_by_first(parts: &SearchState) -> bool {
     match parts.db.refs().first() {
         Some(cref) => parts.graph.nodes.len() == 3

@@ -12,7 +12,7 @@ fn count_in_parts(lits: &CauseLits) -> usize {
     own.len().saturating_add(long.len())
 }
 
-/// Whether the literals have the codes `codes`, by index and when counted in the two parts.
+/// Returns `true` if the literals have the codes `codes`, by index and when counted in the two parts.
 fn reads(lits: &CauseLits, codes: &[usize]) -> bool {
     if lits.len() != codes.len() || lits.is_empty() != codes.is_empty() {
         return false;
@@ -27,8 +27,8 @@ fn reads(lits: &CauseLits, codes: &[usize]) -> bool {
         && lits.iter().next().map(|lit| lit.code()) == codes.first().copied()
 }
 
-/// Whether a reason and a conflict have the literals with the codes 0, 3, 4 and 7 of a clause. The reason leaves out
-/// the first literal.
+/// Returns `true` if a reason and a conflict have the literals with the codes 0, 3, 4 and 7 of a clause. The reason
+/// leaves out the first literal.
 fn reads_clause(clauses: &ClauseAlloc, cref: ClauseRef) -> bool
     requires clause { IsClause clauses.now cref }
     requires long { 3 ≤ length (lits_at clauses.now cref) }
@@ -49,7 +49,7 @@ fn long_row(clauses: &mut ClauseAlloc) -> Result<bool, StoreError> {
     Ok(reads_clause(clauses, cref))
 }
 
-/// Whether a unit has no literals, and a reason and a conflict of two literals have their own.
+/// Returns `true` if a unit has no literals, and a reason and a conflict of two literals have their own.
 fn short_row(clauses: &ClauseAlloc) -> bool {
     let (first, second) = (Lit::from_code(5), Lit::from_code(8));
     let (unit, binary) = (Reason::Unit, Reason::Binary([first]));

@@ -14,7 +14,7 @@ use sat_parts::{
 use sat_store::{ClauseAlloc, ClauseRef, StoreError, Tier};
 use std::alloc::{AllocError, Global};
 
-/// Whether the reason of a literal, if it is a long clause, is a live clause whose first literal is `lit`.
+/// Returns `true` if the reason of a literal, if it is a long clause, is a live clause whose first literal is `lit`.
 fn reason_holds(clauses: &ClauseAlloc, db: &ClauseDb, graph: &ImplGraph, lit: Lit) -> bool
     requires { DbMatchesBuffer clauses.now db.now }
     ensures { IsTrue result → HasFirst clauses.now (live_refs clauses.now db.now.refs) graph.now lit }
@@ -30,7 +30,7 @@ fn reason_holds(clauses: &ClauseAlloc, db: &ClauseDb, graph: &ImplGraph, lit: Li
     }
 }
 
-/// Whether the reasons of the trail's literals are as a collection requires.
+/// Returns `true` if the reasons of the trail's literals are as a collection requires.
 fn reasons_hold(clauses: &ClauseAlloc, db: &ClauseDb, graph: &ImplGraph, trail: &Trail) -> bool
     requires { DbMatchesBuffer clauses.now db.now }
     ensures { IsTrue result → AreFirsts clauses.now (live_refs clauses.now db.now.refs) trail.now.lits graph.now }

@@ -15,7 +15,7 @@ use sat_parts::{
 use sat_store::{ClauseAlloc, ClauseRef, StoreError, TmpFlags};
 use std::alloc::AllocError;
 
-/// Whether every literal of a clause has a node with a level below `bound`.
+/// Returns `true` if every literal of a clause has a node with a level below `bound`.
 fn levels_below(graph: &ImplGraph, clauses: &ClauseAlloc, cref: ClauseRef, bound: usize) -> bool
     requires { IsClause clauses.now cref }
     ensures nodes { IsTrue result → (k : ℕ) → k < length (lits_at clauses.now cref) →

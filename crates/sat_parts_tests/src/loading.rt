@@ -15,7 +15,7 @@ use sat_parts::parts::variables::make_available;
 use sat_store::StoreError;
 use std::alloc::{AllocError, Global};
 
-/// Whether `lit` occurs in `lits` at index `from` or later.
+/// Returns `true` if `lit` occurs in `lits` at index `from` or later.
 fn stands_from(lits: &[Lit], from: usize, lit: Lit) -> bool
     ensures { ¬ IsTrue result → (k : ℕ) → from ≤ k → k < length lits.now → slice_index_or lits.now k 0 ≢ lit }
 {
@@ -27,7 +27,7 @@ fn stands_from(lits: &[Lit], from: usize, lit: Lit) -> bool
     false
 }
 
-/// Whether each literal's variable has an index below `count`.
+/// Returns `true` if each literal's variable has an index below `count`.
 fn are_below(lits: &[Lit], count: usize) -> bool
     ensures { IsTrue result → (k : ℕ) → k < length lits.now → slice_index_or lits.now k 0 < 2 * count }
 {
@@ -39,7 +39,7 @@ fn are_below(lits: &[Lit], count: usize) -> bool
     true
 }
 
-/// Whether no literal occurs twice.
+/// Returns `true` if no literal occurs twice.
 fn are_distinct(lits: &[Lit]) -> bool
     ensures { IsTrue result → AreDistinct lits.now }
 {

@@ -14,7 +14,7 @@ use sat_parts::{
 use sat_store::{ClauseAlloc, ClauseRef, StoreError, Tier};
 use std::alloc::{AllocError, Global};
 
-/// Whether `cref` is at index `at` of the list and isn't deleted.
+/// Returns `true` if `cref` is at index `at` of the list and isn't deleted.
 fn stands_at(clauses: &ClauseAlloc, db: &ClauseDb, at: usize, cref: ClauseRef) -> bool
     requires db { DbMatchesBuffer clauses.now db.now }
     requires within { at < length db.now.refs }
@@ -29,7 +29,7 @@ fn stands_at(clauses: &ClauseAlloc, db: &ClauseDb, at: usize, cref: ClauseRef) -
     there == cref
 }
 
-/// Whether `cref` is a live clause of the list.
+/// Returns `true` if `cref` is a live clause of the list.
 pub fn is_among(clauses: &ClauseAlloc, db: &ClauseDb, cref: ClauseRef) -> bool
     requires { DbMatchesBuffer clauses.now db.now }
     ensures live { IsTrue result → Contains (live_refs clauses.now db.now.refs) cref }

@@ -51,7 +51,7 @@ fn propagated_twice(
     }
 }
 
-/// Whether the literals have the DIMACS numbers `numbers`, in order.
+/// Returns `true` if the literals have the DIMACS numbers `numbers`, in order.
 pub fn reads(lits: &[Lit], numbers: &[i64]) -> bool {
     if lits.len() != numbers.len() {
         return false;
@@ -64,7 +64,7 @@ pub fn reads(lits: &[Lit], numbers: &[i64]) -> bool {
     true
 }
 
-/// Whether the conflict is the first long clause.
+/// Returns `true` if the conflict is the first long clause.
 pub fn names_first(
     db: &ClauseDb,
     found: &Result<Option<Result<(), Conflict>>, StoreError>,

@@ -65,8 +65,8 @@ fn advance(alloc: Global, parts: &mut SearchState, lit: Lit) -> Result<bool, All
     }
 }
 
-/// Whether the nodes are as expected: for a unit that is no longer on the trail, for two decisions, and for what the
-/// second decision implies by the clause of two literals and by the long clause.
+/// Returns `true` if the nodes are as expected: for a unit that is no longer on the trail, for two decisions, and for
+/// what the second decision implies by the clause of two literals and by the long clause.
 fn nodes_are_right(parts: &SearchState) -> bool {
     let cref = match parts.db.refs().first() {
         Some(cref) => *cref,
@@ -80,7 +80,7 @@ fn nodes_are_right(parts: &SearchState) -> bool {
         && node(graph, 4) == Some((Reason::Long(cref), 2, 4))
 }
 
-/// Whether every literal has a node with a level below `bound`.
+/// Returns `true` if every literal has a node with a level below `bound`.
 fn levels_below(graph: &ImplGraph, lits: &[Lit], bound: usize) -> bool
     ensures nodes { IsTrue result → (k : ℕ) → k < length lits.now
         → variable (slice_index lits.now k) < length graph.now }
@@ -167,7 +167,7 @@ fn table(alloc: Global, parts: &mut SearchState, flags: &mut TmpFlags) -> Result
     Ok(undone(parts))
 }
 
-/// Whether the variable is unassigned, and its last value was `value`.
+/// Returns `true` if the variable is unassigned, and its last value was `value`.
 fn has_lost(parts: &SearchState, index: usize, value: bool) -> bool {
     if index >= parts.assignment.assignment().len() || index >= COUNT {
         return false;

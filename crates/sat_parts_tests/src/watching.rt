@@ -6,7 +6,7 @@ use sat_parts::{Watch, Watchlists};
 use sat_store::{ClauseAlloc, ClauseHeader, ClauseRef, StoreError};
 use std::alloc::AllocError;
 
-/// Whether a literal has a single watch, with the clause `cref` and the literal `blocking`.
+/// Returns `true` if a literal has a single watch, with the clause `cref` and the literal `blocking`.
 fn is_watched(watchlists: &mut Watchlists, lit: Lit, cref: ClauseRef, blocking: Lit) -> bool
     requires { lit < length watchlists.old.lists }
     ensures { length watchlists.new.lists ≡ length watchlists.old.lists }

@@ -14,22 +14,22 @@ defaults = record {
   max_steps = 18446744073709551615;
 }
 
--- whether a decay is 500 to 999 thousandths
+-- `is_decay n` is true if the decay `n` is 500 to 999 thousandths
 abbrev pub is_decay : ℕ → Bool
 is_decay n = nat_le 500 n && nat_le n 999
 
--- whether a new value, or `None`, passes the test
+-- `passes p value` is true if the value is `None` or passes the test `p`
 abbrev pub passes : (ℕ → Bool) → Option ℕ → Bool
 passes p None = true
 passes p (Some n) = p n
 
--- whether every changed field is in its range
+-- `in_range u` is true if every field that the update `u` changes is in its range; `max_steps` may be any number
 abbrev pub in_range : SolverConfigUpdate → Bool
 in_range u =
     passes is_decay u.vsids_decay && (passes is_decay u.clause_activity_decay
     && (passes (nat_le 1) u.reduce_locals_interval && (passes (nat_le 1) u.reduce_mids_interval && passes (nat_le 1) u.luby_restart_interval_scale)))
 
--- the parameters after an update
+-- `updated u c` is the parameters `c` after the update `u`
 abbrev pub updated : SolverConfigUpdate → SolverConfig → SolverConfig
 updated u c = record {
   vsids_decay = unwrap_or u.vsids_decay c.vsids_decay;

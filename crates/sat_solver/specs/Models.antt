@@ -4,35 +4,39 @@ use Rattle.sat_base.specs.values.Literals.{mk_lit}
 use Rattle.sat_solver.specs.variables.Variables.{data_at, global_of, solver_of}
 use Rattle.sat_solver.specs.declared.variables.Variables.{Variables}
 
--- whether there is a value and it is true
+-- `has_true_value value` is true if there is a value and it is true
 abbrev pub has_true_value : Option Bool → Bool
 has_true_value None = false
 has_true_value (Some b) = b
 
--- the value of the variable's index if it has one, otherwise that of its unit; false if there is none
+-- `value_by index values unit` is the value of the index if there is one, otherwise that of the unit; false if there
+-- is none
 abbrev pub value_by : Option ℕ → List (Option Bool) → Option Bool → Bool
 value_by None values unit = has_true_value unit
 value_by (Some x) values unit = has_true_value (get_or values x None)
 
--- the value of a proof variable when the search has these values: that of its index, otherwise that of its unit, otherwise false
+-- `value_in n values v` is the value of the proof variable `v` when the search has these values: that of its index if
+-- it has one, otherwise that of its unit; false if there is none
 abbrev pub value_in : Variables → List (Option Bool) → ℕ → Bool
 value_in n values v = value_by (solver_of n v) values (data_at n v).unit
 
--- the literal of a variable that its value satisfies, or none if the variable is not in use
+-- `literal_in n values v` is the literal of the proof variable `v` that its value satisfies, or none if the variable
+-- is deleted
 abbrev pub literal_in : Variables → List (Option Bool) → ℕ → List ℕ
 literal_in n values v = if (data_at n v).deleted then [] else mk_lit v (value_in n values v) ∷ []
 
--- the literals of all variables below n that are in use, in order
+-- `model_to n values v` is the literals of all variables in use below `v`, in order
 unfoldable pub model_to : Variables → List (Option Bool) → ℕ → List ℕ
 model_to n values zero = []
 model_to n values (suc v) = model_to n values v ++ literal_in n values v
 
--- the literal over a name that the value of its variable satisfies, or none if the name has no variable
+-- `name_literal n values u variable` is the literal over the name `u` that the value of its variable satisfies, or
+-- none if the name has no variable
 abbrev pub name_literal : Variables → List (Option Bool) → ℕ → Option ℕ → List ℕ
 name_literal n values u None = []
 name_literal n values u (Some v) = mk_lit u (value_in n values v) ∷ []
 
--- the literals of all names below n that are in use, in order
+-- `named_to n values u` is the literals of all names in use below `u`, in order
 unfoldable pub named_to : Variables → List (Option Bool) → ℕ → List ℕ
 named_to n values zero = []
 named_to n values (suc u) = named_to n values u ++ name_literal n values u (global_of n u)

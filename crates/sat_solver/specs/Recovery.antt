@@ -5,7 +5,7 @@ use Rattle.sat_store.specs.declared.clause.alloc.StoreError.TheVariants as store
 use Rattle.sat_solver.specs.declared.error.SolverError.{SolverError}
 use Rattle.sat_solver.specs.declared.error.SolverError.TheVariants as errors
 
--- whether a solver can still be used after this error, whichever call reported it
+-- `is_recoverable e` is true if a solver can still be used after the error `e`, whichever call reported it
 abbrev pub is_recoverable : SolverError → Bool
 is_recoverable errors.Interrupted = true
 is_recoverable (errors.ProofProcessorError cause) = false

@@ -10,3 +10,4 @@ pub mod Proving
 pub mod Extending
 pub mod Formulas
 pub mod Laws
+pub mod Recording

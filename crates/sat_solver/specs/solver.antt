@@ -6,7 +6,6 @@ pub mod Found
 pub mod Joined
 pub mod Lines
 pub mod Progressing
-pub mod Resting
 pub mod Settling
 pub mod Taking
 pub mod View

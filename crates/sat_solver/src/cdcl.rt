@@ -58,7 +58,8 @@ fn refute<W: CountedWrite + Drop, P: ProofProcessor>(
     Ok(())
 }
 
-/// Learns a clause from `conflict`, or writes the empty clause if the search is at level 0.
+/// Learns a clause from `conflict`, or writes the empty clause if the search is at level 0. Returns `Learned` or
+/// `Unsat` accordingly.
 fn learn_or_refute<W: CountedWrite + Drop, P: ProofProcessor>(
     proof: &mut Proof<W, P>,
     search: &mut Search,
@@ -83,7 +84,7 @@ fn learn_or_refute<W: CountedWrite + Drop, P: ProofProcessor>(
 }
 
 /// Runs a round, which ends in a conflict and the clause learned from it, or in an answer. If there are new literals at
-/// level 0, the round begins with a simplification.
+/// level 0, the round begins with a simplification. Returns the outcome of the round.
 pub fn conflict_step<W: CountedWrite + Drop, P: ProofProcessor>(
     proof: &mut Proof<W, P>,
     search: &mut Search,

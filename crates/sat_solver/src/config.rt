@@ -48,7 +48,7 @@ pub struct SolverConfigUpdate {
     pub max_steps: Option<u64>,
 }
 
-/// Whether `change` is `None`, or a decay from 500 to 999.
+/// Returns `true` if `change` is `None`, or a decay from 500 to 999.
 fn may_decay(change: Option<u32>) -> bool
     ensures { result ≡ passes is_decay change }
 {
@@ -58,7 +58,7 @@ fn may_decay(change: Option<u32>) -> bool
     }
 }
 
-/// Whether `change` is `None`, or at least 1.
+/// Returns `true` if `change` is `None`, or at least 1.
 fn may_count(change: Option<u64>) -> bool
     ensures { result ≡ passes (nat_le 1) change }
 {
@@ -88,7 +88,7 @@ impl SolverConfigUpdate {
         }
     }
 
-    /// Whether every field that is `Some` is in its range.
+    /// Returns `true` if every field that is `Some` is in its range.
     fn is_in_range(&self) -> bool
         ensures { result ≡ in_range self.now }
     {

@@ -63,8 +63,8 @@ pub enum SolverError {
 }
 
 impl SolverError {
-    /// Whether the solver can still be used after this error, whichever call returned it. False for `OutOfMemory`,
-    /// although the solver can still be used if `model` returned it.
+    /// Returns `true` if the solver can still be used after this error, whichever call returned it. Returns `false` for
+    /// `OutOfMemory`, although the solver can still be used if `model` returned it.
     pub fn is_recoverable(&self) -> bool
         ensures { result ≡ is_recoverable self.now }
     {

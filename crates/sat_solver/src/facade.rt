@@ -24,7 +24,7 @@ ghost use Rattle.sat_solver.specs.facade.Proving.{IsDratRefutation, OpensProof, 
 pub mod laws;
 
 use crate::proof::format::ProofFormat;
-use crate::solver::Solver as Engine;
+use crate::solver::Engine;
 use crate::solver::proof::ReturnedParts;
 use crate::state::SatState;
 use crate::{Progress, SolverConfigUpdate, SolverError};
@@ -153,7 +153,7 @@ impl<W: CountedWrite + Drop, P: ProofProcessor> Solver<W, P> {
         self.inner.assume(lits)
     }
 
-    /// Returns whether the clauses and the assumptions can be satisfied.
+    /// Returns `true` if the clauses and the assumptions can be satisfied, and `false` if they cannot.
     ///
     /// Returns `Interrupted` if the rounds that the parameters allow for this call are exhausted, or if the number of
     /// rounds over all calls has reached 2^64-1. If neither a clause nor assumptions have been accepted since the last

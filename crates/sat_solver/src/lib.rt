@@ -24,7 +24,7 @@ pub mod variables;
 
 pub use config::{SolverConfig, SolverConfigUpdate};
 pub use error::SolverError;
+pub use facade::Solver;
 pub use progress::Progress;
 pub use proof::format::ProofFormat;
-pub use solver::Solver;
 pub use solver::proof::ReturnedParts;

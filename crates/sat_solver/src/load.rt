@@ -47,8 +47,8 @@ pub fn delete_satisfied<W: CountedWrite + Drop, P: ProofProcessor>(
     Ok(())
 }
 
-/// Writes the deletion of the clause `lits`, which has a true literal. Returns true, since the formula may still
-/// be satisfiable.
+/// Writes the deletion of the clause `lits`, which has a true literal. Returns `true`, since the formula may
+/// still be satisfiable.
 fn delete_true<W: CountedWrite + Drop, P: ProofProcessor>(
     proof: &mut Proof<W, P>,
     search: &mut Search,
@@ -66,8 +66,8 @@ fn delete_true<W: CountedWrite + Drop, P: ProofProcessor>(
 }
 
 /// Loads the clause that the last step added, at level 0. If it has a true literal and at least one other literal, the
-/// clause is deleted at once. Returns whether the formula may still be satisfiable. It is not after an empty clause, or
-/// after a clause whose only literal is false. In these cases, unsat is recorded.
+/// clause is deleted at once. Returns `true` if the formula may still be satisfiable. Returns `false` after an empty
+/// clause, or after a clause whose only literal is false. In these cases, unsat is recorded.
 pub fn load_clause<W: CountedWrite + Drop, P: ProofProcessor>(
     proof: &mut Proof<W, P>,
     search: &mut Search,

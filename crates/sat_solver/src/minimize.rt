@@ -18,7 +18,7 @@ use std::alloc::AllocError;
 
 /// Marks a literal of a reason, unless the literal is already marked or its level is 0.
 ///
-/// Returns false, and does not mark the literal, if its reason is not a clause or its level is not in `levels`.
+/// Returns `false`, and does not mark the literal, if its reason is not a clause or its level is not in `levels`.
 #[inline(always)]
 fn follow_one(
     analysis: &mut AnalyzeConflict,
@@ -47,8 +47,8 @@ fn follow_one(
     Ok(true)
 }
 
-/// Calls `follow_one` for each literal in `lits` in turn, until a call returns false. Returns whether all calls
-/// returned true.
+/// Calls `follow_one` for each literal in `lits` in turn, until a call returns `false`. Returns `true` if all calls
+/// returned `true`.
 fn follow_own(
     analysis: &mut AnalyzeConflict,
     graph: &ImplGraph,
@@ -69,8 +69,8 @@ fn follow_own(
     Ok(true)
 }
 
-/// Calls `follow_one` for each literal of a long clause in turn, until a call returns false. Returns whether all calls
-/// returned true.
+/// Calls `follow_one` for each literal of a long clause in turn, until a call returns `false`. Returns `true` if all
+/// calls returned `true`.
 fn follow_long(
     analysis: &mut AnalyzeConflict,
     graph: &ImplGraph,
@@ -90,8 +90,8 @@ fn follow_long(
     Ok(true)
 }
 
-/// Calls `follow_one` for each literal of a reason in turn, until a call returns false. Returns whether all calls
-/// returned true.
+/// Calls `follow_one` for each literal of a reason in turn, until a call returns `false`. Returns `true` if all calls
+/// returned `true`.
 fn follow(
     analysis: &mut AnalyzeConflict,
     graph: &ImplGraph,
@@ -111,8 +111,8 @@ fn follow(
     Ok(whole)
 }
 
-/// Checks whether reasons show that `lit` must be false whenever the other literals of the learned clause are false. If
-/// so, the literals that have these reasons are among the used literals afterwards.
+/// Returns `true` if reasons show that `lit` must be false whenever the other literals of the learned clause are false.
+/// If so, the literals that have these reasons are among the used literals afterwards.
 fn is_implied(
     analysis: &mut AnalyzeConflict,
     clauses: &ClauseAlloc,

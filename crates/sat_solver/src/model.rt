@@ -7,7 +7,7 @@ use crate::variables::Variables;
 use sat_base::{Lit, Var};
 use std::alloc::AllocError;
 
-/// Whether `value` is true. In a model, a variable without a value is false.
+/// Returns `true` if `value` is true. In a model, a variable without a value is false.
 fn holds(value: Option<bool>) -> bool
     ensures { result ≡ has_true_value value }
 {
@@ -17,7 +17,7 @@ fn holds(value: Option<bool>) -> bool
     }
 }
 
-/// Returns the value of the index `solver` of the search, or false if the index has no value.
+/// Returns the value of the index `solver` of the search, or `false` if the index has no value.
 fn value_at(values: &[Option<bool>], solver: Var) -> bool
     ensures { result ≡ has_true_value (slice_index_or values.now solver None) }
 {
@@ -29,7 +29,7 @@ fn value_at(values: &[Option<bool>], solver: Var) -> bool
 }
 
 /// Returns the value of a proof variable in a model. If the variable has an index, this is the value of the index;
-/// otherwise it is the value of the variable's unit, or false if there is none.
+/// otherwise it is the value of the variable's unit, or `false` if there is none.
 pub fn value_of(variables: &Variables, values: &[Option<bool>], global: Var) -> bool
     requires within { global < variables_used variables.now }
     ensures { result ≡ value_in variables.now values.now global }

@@ -105,7 +105,7 @@ impl<W: CountedWrite + Drop, P: ProofProcessor> Proof<W, P> {
         }
     }
 
-    /// Whether a target is open, so that steps are written.
+    /// Returns `true` if a target is open, so that steps are written.
     pub fn is_open(&self) -> bool
         ensures { result ≡ is_open (target_of W.seen self.now) }
     {
@@ -115,7 +115,7 @@ impl<W: CountedWrite + Drop, P: ProofProcessor> Proof<W, P> {
         }
     }
 
-    /// Whether a target that receives DRAT lines is open.
+    /// Returns `true` if a target that receives DRAT lines is open.
     pub fn is_drat(&self) -> bool
         ensures { result ≡ is_drat (target_of W.seen self.now) }
     {
@@ -125,14 +125,14 @@ impl<W: CountedWrite + Drop, P: ProofProcessor> Proof<W, P> {
         }
     }
 
-    /// Whether an ask has begun.
+    /// Returns `true` if an ask has begun.
     pub fn has_asked(&self) -> bool
         ensures { result ≡ has_asked self.now }
     {
         self.counting.solving
     }
 
-    /// Whether a step other than the end of a proof has been made.
+    /// Returns `true` if a step other than the end of a proof has been made.
     pub fn has_begun(&self) -> bool
         ensures { result ≡ has_begun (steps_of self.now) }
     {
@@ -189,7 +189,7 @@ impl<W: CountedWrite + Drop, P: ProofProcessor> Proof<W, P> {
         self.counting.solving = true;
     }
 
-    /// Stops using the target, and stores `cause`, the error from its last call.
+    /// Stops using the target, and stores `cause`, the error from its last call. Returns the fault to report.
     fn break_off(&mut self, cause: io::Error) -> ProofError
         ensures fault { result ≡ ProofError.Write cause }
         ensures breaks { self.new ≡ record self.old { broken = true; cause = Some cause } }
@@ -225,8 +225,8 @@ impl<W: CountedWrite + Drop, P: ProofProcessor> Proof<W, P> {
         self.put_long(&counting, step, cut)
     }
 
-    /// Buffers the text of `cut` if it is certain to fit, or writes nothing if no target is open. Returns false if the
-    /// text is still to be written.
+    /// Buffers the text of `cut` if it is certain to fit, or writes nothing if no target is open. Returns `false` if
+    /// the text is still to be written.
     ///
     /// `cut` must be `_step` with its hashes shortened to the width in `counting`.
     #[inline(always)]

@@ -37,7 +37,7 @@ pub enum RoundOutcome {
 impl RoundOutcome {
     ghost use Rattle.std.specs.Prelude.{◌≡◌, ◌↔◌, IsTrue};
 
-    /// Whether a clause was learned.
+    /// Returns `true` if a clause was learned.
     fn is_learned(self) -> bool
         ensures { IsTrue result ↔ (self ≡ RoundOutcome.Learned) }
     {
@@ -52,25 +52,25 @@ impl RoundOutcome {
 
 /// Restarts the search if a restart is due before round `round`.
 fn restart_where_due<W: CountedWrite + Drop, P: ProofProcessor>(
-    core: &mut Context<W, P>,
+    context: &mut Context<W, P>,
     restarts: &mut Restarts,
     round: u64,
 )
-    requires core { ContextInvariant core.old }
+    requires core { ContextInvariant context.old }
     requires scale { 0 < restarts.old.scale }
     requires counts { round + 1 < 2 ^ 64 }
-    ensures joined { KeepsNamesSearchInvariant core.old core.new }
+    ensures joined { KeepsNamesSearchInvariant context.old context.new }
     ensures scale { restarts.new.scale ≡ restarts.old.scale }
-    ensures most { values_in core.new ≡ values_in core.old }
-    ensures come { KeepsProgress words_in round core.old restarts.old.next restarts.old.sequence
-        core.new restarts.new.next restarts.new.sequence }
-    ensures goes { ReachedByAsManyRounds W.seen core.old core.new }
-    ensures due { RestartsWhereDue Restarted round core.old restarts.old core.new restarts.new }
+    ensures most { values_in context.new ≡ values_in context.old }
+    ensures come { KeepsProgress words_in round context.old restarts.old.next restarts.old.sequence
+        context.new restarts.new.next restarts.new.sequence }
+    ensures goes { ReachedByAsManyRounds W.seen context.old context.new }
+    ensures due { RestartsWhereDue Restarted round context.old restarts.old context.new restarts.new }
 {
     if round < restarts.next {
         return;
     }
-    restart(&mut core.search.parts, &core.search.assumptions);
+    restart(&mut context.search.parts, &context.search.assumptions);
     begin_gap(restarts, round);
 }
 
@@ -80,31 +80,36 @@ fn restart_where_due<W: CountedWrite + Drop, P: ProofProcessor>(
 /// Counts the rounds in `rounds`, the number of rounds over all calls. No round is run once this number has
 /// reached 2^64-1.
 pub fn search<W: CountedWrite + Drop, P: ProofProcessor>(
-    core: &mut Context<W, P>,
+    context: &mut Context<W, P>,
     names: &mut Variables,
     restarts: &mut Restarts,
     rounds: &mut u64,
     max_steps: u64,
 ) -> Result<Option<RoundOutcome>, Fault>
-    requires joined { NamesSearchInvariant names.old core.old }
+    requires joined { NamesSearchInvariant names.old context.old }
     requires scale { 0 < restarts.old.scale }
     ensures scale { restarts.new.scale ≡ restarts.old.scale }
-    ensures counts { CountsOn (values_in core.old) max_steps rounds.old rounds.new }
+    ensures counts { CountsOn (values_in context.old) max_steps rounds.old rounds.new }
     ensures round { TakesRound result rounds.old rounds.new }
     ensures interrupted { SpendsRounds result (round_allowance max_steps rounds.old) rounds.old rounds.new }
-    ensures answered { AnswersWithin result (values_in core.old) (round_allowance max_steps rounds.old) }
+    ensures answered { AnswersWithin result (values_in context.old) (round_allowance max_steps rounds.old) }
     ensures goes { IfOk result (λ r. r ≡ None
-        → FoundNone W.seen (rounds.new - rounds.old) names.old names.new core.old core.new) }
-    ensures ends { IfOk result (λ r. EndedBy W.seen (rounds.new - rounds.old) r core.old names.old core.new names.new) }
-    ensures rounds { IfOk result (λ o. LastRoundAnswers Restarted (ReducedAt W.seen) (RoundOf W.seen) o core.old names.old
-        restarts.old rounds.old core.new names.new restarts.new rounds.new) }
-    ensures fails { IfErr result (λ e. BreaksRounds W.seen core.old e core.new) }
+        → FoundNone W.seen (rounds.new - rounds.old) names.old names.new context.old context.new) }
+    ensures ends { IfOk result (λ r. EndedBy W.seen (rounds.new - rounds.old) r context.old names.old context.new names.new) }
+    ensures rounds { IfOk result (λ o. LastRoundAnswers Restarted (ReducedAt W.seen) (RoundOf W.seen) o context.old names.old
+        restarts.old rounds.old context.new names.new restarts.new rounds.new) }
+    ensures fails { IfErr result (λ e. BreaksRounds W.seen context.old e context.new) }
 {
     let end = rounds.saturating_add(max_steps);
     while *rounds < end {
-        restart_where_due(core, restarts, *rounds);
-        reduce(&mut core.proof, &mut core.search, &core.config, *rounds)?;
-        let outcome = conflict_step(&mut core.proof, &mut core.search, names)?;
+        restart_where_due(context, restarts, *rounds);
+        reduce(
+            &mut context.proof,
+            &mut context.search,
+            &context.config,
+            *rounds,
+        )?;
+        let outcome = conflict_step(&mut context.proof, &mut context.search, names)?;
         *rounds += 1;
         if !outcome.is_learned() {
             return Ok(Some(outcome));

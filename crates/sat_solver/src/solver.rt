@@ -1,19 +1,20 @@
-//! An incremental solver that writes a proof.
+//! The fields of a solver, and its calls as methods that write to them.
 //!
-//! Contracts describe a solver in terms of the definitions in `specs/solver/View` and the judge's state. `IsSolver` is
-//! the invariant between calls: `new` establishes it, and every call preserves it.
+//! Callers use `facade::Solver`, which has the same methods and says more about each of them. `IsSolver` is the
+//! invariant between calls: `notifying` establishes it, and every call preserves it.
 ghost use Rattle.std.specs.Prelude.{◌≡◌};
-ghost use Rattle.sat_solver.specs.solver.View.{IsEmpty, rounds_in};
+ghost use Rattle.sat_solver.specs.facade.Inner.{view_of};
+ghost use Rattle.sat_solver.specs.facade.View.{IsEmpty};
+ghost use Rattle.sat_solver.specs.solver.View.{rounds_in};
+ghost use Rattle.sat_solver.specs.solver.Whole.{SolverInvariant};
 
 pub mod answers;
 pub mod assume;
 pub mod clauses;
 pub mod configure;
-pub mod extend;
 pub mod failing;
 pub mod find;
 pub mod formulas;
-pub mod laws;
 pub mod load;
 pub mod names;
 pub mod progress;
@@ -36,10 +37,10 @@ use sat_parts::parts::sorting::new_sorting;
 use sat_store::LubySequence;
 use std::alloc::Global;
 
-/// A solver for clauses over names. It answers any number of asks, under assumptions, and writes a proof.
+/// The fields of a solver.
 #[derive(Drop)]
-pub struct Solver<W: CountedWrite + Drop, P: ProofProcessor = Nobody> {
-    core: Context<W, P>,
+pub struct Engine<W: CountedWrite + Drop, P: ProofProcessor = Nobody> {
+    context: Context<W, P>,
     names: Variables,
     clock: Schedule,
     reported: LastAnswers,
@@ -56,24 +57,16 @@ pub struct Solver<W: CountedWrite + Drop, P: ProofProcessor = Nobody> {
     assumed: Vec<Lit>,
 }
 
-impl<W: CountedWrite + Drop> Solver<W, Nobody> {
-    /// Creates a solver without clauses, names or listeners. Never allocates.
-    pub fn new(alloc: Global) -> Solver<W, Nobody>
-        ensures { IsEmpty W.seen result }
-    {
-        Solver::notifying(alloc)
-    }
-}
-
-impl<W: CountedWrite + Drop, P: ProofProcessor> Solver<W, P> {
+impl<W: CountedWrite + Drop, P: ProofProcessor> Engine<W, P> {
     /// Creates a solver without clauses or names, whose listeners are of type `P`. It has no listeners yet.
     /// Never allocates.
-    pub fn notifying(alloc: Global) -> Solver<W, P>
-        ensures { IsEmpty W.seen result }
+    pub fn notifying(alloc: Global) -> Engine<W, P>
+        ensures view { IsEmpty (view_of W.seen result) }
+        ensures whole { SolverInvariant result }
     {
         let config = SolverConfig::default();
-        Solver {
-            core: Context {
+        Engine {
+            context: Context {
                 proof: Proof::new(alloc),
                 search: new_search(alloc),
                 config,

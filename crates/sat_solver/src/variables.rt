@@ -57,8 +57,8 @@ pub struct Variables {
     pub own_names: bool,
 }
 
-/// Whether every name still has the variable with the same index after the name `user` gets the variable `global`.
-/// `own` says whether this was so before.
+/// Returns `true` if every name still has the variable with the same index after the name `user` gets the variable
+/// `global`. `own` says whether this was so before.
 fn stays_identity(own: bool, user: Var, global: Var) -> bool
     ensures own { result ≡ true → own ≡ true }
     ensures same { result ≡ true → global ≡ user }
@@ -246,7 +246,7 @@ impl Variables {
         self.var_data.len()
     }
 
-    /// Whether a variable is no longer in use. The variable must have been introduced at some point.
+    /// Returns `true` if a variable is no longer in use. The variable must have been introduced at some point.
     pub fn is_deleted(&self, global: Var) -> bool
         requires within { global < variables_used self.now }
         ensures { result ≡ (data_at self.now global).deleted }
@@ -254,7 +254,7 @@ impl Variables {
         self.var_data[global.index()].deleted
     }
 
-    /// Whether a variable is assumed. The variable must have been introduced at some point.
+    /// Returns `true` if a variable is assumed. The variable must have been introduced at some point.
     pub fn is_marked(&self, global: Var) -> bool
         requires within { global < variables_used self.now }
         ensures { result ≡ (data_at self.now global).assumed }

@@ -37,7 +37,7 @@ const ROWS: &[Row] = &[
     ),
 ];
 
-/// Whether the literals have the codes `codes`, in order.
+/// Returns `true` if the literals have the codes `codes`, in order.
 fn are_codes(lits: &[Lit], codes: &[usize]) -> bool {
     if lits.len() != codes.len() {
         return false;
@@ -50,7 +50,7 @@ fn are_codes(lits: &[Lit], codes: &[usize]) -> bool {
     true
 }
 
-/// Whether the last conflict gave what `row` has.
+/// Returns `true` if the last conflict gave what `row` has.
 fn is_analysis(search: &Search, row: &Row) -> bool {
     let analysis = &search.analysis;
     are_codes(analysis.clause(), row.1)
@@ -58,7 +58,7 @@ fn is_analysis(search: &Search, row: &Row) -> bool {
         && analysis.antecedents().len() == row.3
 }
 
-/// Whether a search over the clauses of `row` finds an answer, and its last conflict gave what `row` has.
+/// Returns `true` if a search over the clauses of `row` finds an answer, and its last conflict gave what `row` has.
 fn is_right(alloc: Global, row: &Row) -> bool {
     let mut names = Variables::new(alloc);
     let mut core: Context<Counted<Vec<u8>>> = Context {

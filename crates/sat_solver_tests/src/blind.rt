@@ -117,7 +117,7 @@ fn takes<C: SelfChecker>(checker: &mut C, blanks: &mut Blanks, step: &ProofStep<
 /// An upper bound on the number of steps in a proof.
 const MOST: usize = 10_000;
 
-/// Whether every step of a reader, up to the end of its proof, is accepted.
+/// Returns `true` if every step of a reader, up to the end of its proof, is accepted.
 fn are_taken<C: SelfChecker, R: CountedRead>(
     checker: &mut C,
     blanks: &mut Blanks,

@@ -97,7 +97,7 @@ fn end_with(alloc: Global, (front, format, parts): Row, failing: u64) -> (Kind, 
     (kind, failed, calls)
 }
 
-/// Whether a failure of each call of the target is reported, no call follows it, and the target is returned.
+/// Returns `true` if a failure of each call of the target is reported, no call follows it, and the target is returned.
 fn each_fails(alloc: Global, row: Row) -> bool {
     let (whole, _, calls) = end_with(alloc, row, 0);
     for at in 1..=calls {

@@ -1,5 +1,4 @@
 //! Sessions: calls of a solver, and the result of each call.
-ghost use Rattle.sat_solver.specs.solver.Whole.{IsSolver};
 
 use crate::driver::{Made, Play};
 use sat_base::{CnfFormula, Counted, CountedWrite, ExtendFormula, Lit, Var};
@@ -123,7 +122,7 @@ pub(crate) fn read(lits: &mut Vec<Lit>, numbers: &[i64]) -> Result<(), AllocErro
     Ok(())
 }
 
-/// Whether the literals have the DIMACS numbers `numbers`, in order.
+/// Returns `true` if the literals have the DIMACS numbers `numbers`, in order.
 pub(crate) fn are(lits: &[Lit], numbers: &[i64]) -> bool {
     if lits.len() != numbers.len() {
         return false;
@@ -136,7 +135,7 @@ pub(crate) fn are(lits: &[Lit], numbers: &[i64]) -> bool {
     true
 }
 
-/// Whether the names have the DIMACS numbers `names`, in order.
+/// Returns `true` if the names have the DIMACS numbers `names`, in order.
 fn are_names(users: &[Var], names: &[i64]) -> bool {
     if users.len() != names.len() {
         return false;
@@ -160,10 +159,7 @@ fn add<W: CountedWrite + Drop, P: ProofProcessor>(
     solver: &mut Solver<W, P>,
     lits: &mut Vec<Lit>,
     numbers: &[i64],
-) -> Kind
-    requires { IsSolver solver.old }
-    ensures { IsSolver solver.new }
-{
+) -> Kind {
     if read(lits, numbers).is_err() {
         return Kind::Other;
     }
@@ -174,10 +170,7 @@ fn assume<W: CountedWrite + Drop, P: ProofProcessor>(
     solver: &mut Solver<W, P>,
     lits: &mut Vec<Lit>,
     numbers: &[i64],
-) -> Kind
-    requires { IsSolver solver.old }
-    ensures { IsSolver solver.new }
-{
+) -> Kind {
     if read(lits, numbers).is_err() {
         return Kind::Other;
     }
@@ -199,10 +192,7 @@ fn add_filled<W: CountedWrite + Drop, P: ProofProcessor>(
     formula: &mut CnfFormula,
     lits: &mut Vec<Lit>,
     rows: &[&[i64]],
-) -> Kind
-    requires { IsSolver solver.old }
-    ensures { IsSolver solver.new }
-{
+) -> Kind {
     if !fill(formula, lits, rows) {
         return Kind::Other;
     }
@@ -214,27 +204,22 @@ fn add_formula<W: CountedWrite + Drop, P: ProofProcessor>(
     solver: &mut Solver<W, P>,
     lits: &mut Vec<Lit>,
     rows: &[&[i64]],
-) -> Kind
-    requires { IsSolver solver.old }
-    ensures { IsSolver solver.new }
-{
+) -> Kind {
     let mut formula = CnfFormula::new(alloc);
     add_filled(solver, &mut formula, lits, rows)
 }
 
-fn ask<W: CountedWrite + Drop, P: ProofProcessor>(solver: &mut Solver<W, P>, sat: bool) -> Kind
-    requires { IsSolver solver.old }
-    ensures { IsSolver solver.new }
-{
+fn ask<W: CountedWrite + Drop, P: ProofProcessor>(solver: &mut Solver<W, P>, sat: bool) -> Kind {
     match solver.solve() {
         Ok(found) => right_if(found == sat),
         Err(error) => kind_of(&error),
     }
 }
 
-fn has_model<W: CountedWrite + Drop, P: ProofProcessor>(solver: &Solver<W, P>, line: &[i64]) -> Kind
-    requires { IsSolver solver.now }
-{
+fn has_model<W: CountedWrite + Drop, P: ProofProcessor>(
+    solver: &Solver<W, P>,
+    line: &[i64],
+) -> Kind {
     match solver.model() {
         Ok(Some(lits)) => right_if(are(&lits, line)),
         Ok(None) => Kind::Wrong,
@@ -242,18 +227,17 @@ fn has_model<W: CountedWrite + Drop, P: ProofProcessor>(solver: &Solver<W, P>, l
     }
 }
 
-fn has_core<W: CountedWrite + Drop, P: ProofProcessor>(solver: &Solver<W, P>, core: &[i64]) -> Kind
-    requires { IsSolver solver.now }
-{
+fn has_core<W: CountedWrite + Drop, P: ProofProcessor>(
+    solver: &Solver<W, P>,
+    core: &[i64],
+) -> Kind {
     match solver.failed_core() {
         Some(lits) => right_if(are(lits, core)),
         None => Kind::Wrong,
     }
 }
 
-fn is_unknown<W: CountedWrite + Drop, P: ProofProcessor>(solver: &Solver<W, P>) -> Kind
-    requires { IsSolver solver.now }
-{
+fn is_unknown<W: CountedWrite + Drop, P: ProofProcessor>(solver: &Solver<W, P>) -> Kind {
     match solver.model() {
         Ok(model) => right_if(model.is_none() && solver.failed_core().is_none()),
         Err(error) => kind_of(&error),
@@ -265,10 +249,7 @@ fn ask_for_model<W: CountedWrite + Drop, P: ProofProcessor>(
     lits: &mut Vec<Lit>,
     assumed: &[i64],
     line: &[i64],
-) -> Kind
-    requires { IsSolver solver.old }
-    ensures { IsSolver solver.new }
-{
+) -> Kind {
     let under = assume(solver, lits, assumed);
     let answer = ask(solver, true);
     let known = has_model(solver, line);
@@ -280,10 +261,7 @@ fn ask_for_core<W: CountedWrite + Drop, P: ProofProcessor>(
     lits: &mut Vec<Lit>,
     assumed: &[i64],
     core: &[i64],
-) -> Kind
-    requires { IsSolver solver.old }
-    ensures { IsSolver solver.new }
-{
+) -> Kind {
     let under = assume(solver, lits, assumed);
     let answer = ask(solver, false);
     let known = has_core(solver, core);
@@ -293,10 +271,7 @@ fn ask_for_core<W: CountedWrite + Drop, P: ProofProcessor>(
 fn bring_in<W: CountedWrite + Drop, P: ProofProcessor>(
     solver: &mut Solver<W, P>,
     number: i64,
-) -> Kind
-    requires { IsSolver solver.old }
-    ensures { IsSolver solver.new }
-{
+) -> Kind {
     match solver.new_var() {
         Ok(name) => right_if(name.to_dimacs() == number),
         Err(error) => kind_of(&error),
@@ -306,10 +281,7 @@ fn bring_in<W: CountedWrite + Drop, P: ProofProcessor>(
 fn observe<W: CountedWrite + Drop, P: ProofProcessor>(
     solver: &mut Solver<W, P>,
     names: &[i64],
-) -> Kind
-    requires { IsSolver solver.old }
-    ensures { IsSolver solver.new }
-{
+) -> Kind {
     match solver.observe_internal_vars() {
         Ok(users) => right_if(are_names(&users, names)),
         Err(error) => kind_of(&error),
@@ -333,10 +305,7 @@ fn begin<W: CountedWrite + Drop + Made, P: ProofProcessor + Made>(
     alloc: Global,
     solver: &mut Solver<W, P>,
     call: &Call,
-) -> Kind
-    requires { IsSolver solver.old }
-    ensures { IsSolver solver.new }
-{
+) -> Kind {
     match call {
         Call::Check => done(solver.enable_self_checking()),
         Call::AddProcessor => done(solver.add_proof_processor(P::made(alloc))),
@@ -351,10 +320,7 @@ fn set<W: CountedWrite + Drop + Made, P: ProofProcessor + Made>(
     alloc: Global,
     solver: &mut Solver<W, P>,
     call: &Call,
-) -> Kind
-    requires { IsSolver solver.old }
-    ensures { IsSolver solver.new }
-{
+) -> Kind {
     match call {
         Call::Hide(number) => done(solver.hide_var(name(*number))),
         Call::Witness(number) => done(solver.witness_var(name(*number))),
@@ -370,10 +336,7 @@ fn inspect<W: CountedWrite + Drop + Made, P: ProofProcessor + Made>(
     alloc: Global,
     solver: &mut Solver<W, P>,
     call: &Call,
-) -> Kind
-    requires { IsSolver solver.old }
-    ensures { IsSolver solver.new }
-{
+) -> Kind {
     match call {
         Call::Model(line) => has_model(solver, *line),
         Call::Core(core) => has_core(solver, *core),
@@ -385,10 +348,10 @@ fn inspect<W: CountedWrite + Drop + Made, P: ProofProcessor + Made>(
     }
 }
 
-fn allow<W: CountedWrite + Drop, P: ProofProcessor>(solver: &mut Solver<W, P>, rounds: u64) -> Kind
-    requires { IsSolver solver.old }
-    ensures { IsSolver solver.new }
-{
+fn allow<W: CountedWrite + Drop, P: ProofProcessor>(
+    solver: &mut Solver<W, P>,
+    rounds: u64,
+) -> Kind {
     let mut update = SolverConfigUpdate::new();
     update.max_steps = Some(rounds);
     done(solver.config(&update))
@@ -400,10 +363,7 @@ fn make<W: CountedWrite + Drop + Made, P: ProofProcessor + Made>(
     solver: &mut Solver<W, P>,
     lits: &mut Vec<Lit>,
     call: &Call,
-) -> Kind
-    requires { IsSolver solver.old }
-    ensures { IsSolver solver.new }
-{
+) -> Kind {
     match call {
         Call::Clause(numbers) => add(solver, lits, *numbers),
         Call::Formula(rows) => add_formula(alloc, solver, lits, *rows),
@@ -425,10 +385,7 @@ fn make_part<W: CountedWrite + Drop + Made, P: ProofProcessor + Made>(
     lits: &mut Vec<Lit>,
     calls: &[Call],
     kind: Kind,
-) -> Kind
-    requires { IsSolver solver.old }
-    ensures { IsSolver solver.new }
-{
+) -> Kind {
     for at in 0..calls.len() {
         let came = make(alloc, solver, lits, &calls[at]);
         if came != kind {
@@ -445,10 +402,7 @@ fn make_all<W: CountedWrite + Drop + Made, P: ProofProcessor + Made>(
     solver: &mut Solver<W, P>,
     lits: &mut Vec<Lit>,
     parts: &[Part<'_>],
-) -> Kind
-    requires { IsSolver solver.old }
-    ensures { IsSolver solver.new }
-{
+) -> Kind {
     for at in 0..parts.len() {
         let (kind, calls) = parts[at];
         let came = make_part(alloc, solver, lits, calls, kind);

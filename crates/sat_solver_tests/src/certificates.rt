@@ -134,7 +134,7 @@ const ROWS: &[Row] = &[
     (UNIT, ProofFormat::Drat, b""),
 ];
 
-/// Whether each call has the expected result, and `text` is the text of the proof.
+/// Returns `true` if each call has the expected result, and `text` is the text of the proof.
 fn is_right(alloc: Global, (parts, format, text): Row) -> bool {
     match text_of(alloc, format, &[], parts) {
         Some(wrote) => wrote.as_slice() == text,
@@ -153,7 +153,7 @@ fn proofs_are_written_in_each_format(rt: HostRuntime) {
     }
 }
 
-/// Whether `wanted` is written for a deletion.
+/// Returns `true` if `wanted` is written for a deletion.
 fn is_deletion(alloc: Global, binary: bool, wanted: &[u8]) -> bool {
     let lits = [
         Var::from_index(62).positive(),

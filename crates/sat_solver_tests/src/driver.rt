@@ -1,6 +1,5 @@
 //! Solvers that tests play on. They are created only here, and borrowed elsewhere, since each function that owns a
 //! solver takes long to prove.
-ghost use Rattle.sat_solver.specs.solver.Whole.{IsSolver};
 
 use sat_base::{Counted, CountedWrite};
 use sat_checker::{Checker, Nobody, ProofProcessor};
@@ -27,23 +26,12 @@ impl Made for Nobody {
     }
 }
 
-/// A value that tests play on.
-pub(crate) trait Ready: Drop {
-    /// The invariant between calls.
-    ghost ready: { Self → Type 0 };
-}
-
 /// A value that can be created, and finally returns the values of others that are left in it. In a function that owns
 /// such a value, the prover need not look at the solver that it is.
-pub(crate) trait Fresh<B>: Ready {
-    fn fresh(alloc: Global) -> Self
-        ensures { Self.ready result };
+pub(crate) trait Fresh<B>: Drop {
+    fn fresh(alloc: Global) -> Self;
 
     fn left(self) -> B;
-}
-
-impl<W: CountedWrite + Drop, P: ProofProcessor> Ready for Solver<W, P> {
-    ghost ready = { IsSolver };
 }
 
 impl<W: CountedWrite + Drop, P: ProofProcessor> Fresh<ReturnedParts<W, P>> for Solver<W, P> {
@@ -67,10 +55,8 @@ impl<W: CountedWrite + Drop> Fresh<Option<W>> for Solver<W> {
 }
 
 /// What a test does with a solver, and what it returns.
-pub(crate) trait Play<S: Ready, R>: Drop {
-    fn play(self, alloc: Global, solver: &mut S) -> R
-        requires { S.ready solver.old }
-        ensures { S.ready solver.new };
+pub(crate) trait Play<S, R>: Drop {
+    fn play(self, alloc: Global, solver: &mut S) -> R;
 }
 
 /// Plays on a new value. Returns what the play returns, and what is left in the value.
@@ -137,7 +123,7 @@ pub(crate) fn written<R: Drop, A: Play<Solver<Bytes>, R>>(
     }
 }
 
-/// Whether the checker accepts a proof.
+/// Returns `true` if the checker accepts a proof.
 pub(crate) fn is_accepted(alloc: Global, text: &[u8]) -> bool {
     let mut checker = Checker::new(alloc);
     let accepted = checker.check_proof(&mut Counted::new(text)).is_ok();

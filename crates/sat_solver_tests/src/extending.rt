@@ -1,5 +1,4 @@
 //! Tests of a solver that is filled by code which knows only the trait `ExtendFormula`.
-ghost use Rattle.sat_solver.specs.solver.Whole.{IsSolver};
 
 use crate::driver::{Play, result_of};
 use sat_base::{CountedWrite, ExtendFormula, Lit};
@@ -16,13 +15,11 @@ fn add_unit<F: ExtendFormula>(formula: &mut F) -> Result<Lit, F::Error>
     Ok(lit)
 }
 
-/// Whether the model consists of the two literals `wanted`.
+/// Returns `true` if the model consists of the two literals `wanted`.
 fn is_model<W: CountedWrite + Drop>(
     solver: &Solver<W>,
     wanted: [Lit; 2],
-) -> Result<bool, SolverError>
-    requires { IsSolver solver.now }
-{
+) -> Result<bool, SolverError> {
     match solver.model()? {
         Some(lits) => Ok(lits.as_slice() == wanted.as_slice()),
         None => Ok(false),

@@ -34,6 +34,8 @@ mod scripts;
 #[cfg(test)]
 mod searcher;
 #[cfg(test)]
+mod sessions;
+#[cfg(test)]
 mod short;
 #[cfg(test)]
 mod states;

@@ -177,8 +177,8 @@ fn reported_alike(
     if same { Some(first) } else { None }
 }
 
-/// Whether a fault of the first processor at call number `at` ends the session, and the second processor was called
-/// once less.
+/// Returns `true` if a fault of the first processor at call number `at` ends the session, and the second processor was
+/// called once less.
 fn fails_at(alloc: Global, at: u64) -> bool {
     match of_solver(alloc, at) {
         ((Kind::Processor, true, _), Some((first, second, _))) => {
@@ -188,7 +188,7 @@ fn fails_at(alloc: Global, at: u64) -> bool {
     }
 }
 
-/// Whether a fault at each announcement ends the session, and there are more than eight announcements.
+/// Returns `true` if a fault at each announcement ends the session, and there are more than eight announcements.
 fn each_fails(alloc: Global) -> bool {
     match announcements(alloc) {
         Some(count) => {

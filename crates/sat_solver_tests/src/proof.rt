@@ -92,7 +92,7 @@ fn unwritten(alloc: Global) -> (bool, (Option<bool>, Seen)) {
     (made && !proof.is_open(), closed(proof, &[]))
 }
 
-/// Whether a caller's steps reach a borrowed target.
+/// Returns `true` if a caller's steps reach a borrowed target.
 fn is_lent(alloc: Global) -> bool {
     let mut target = Counted::new(Vec::new(alloc));
     let done = write_lent(alloc, &mut target).is_ok();
@@ -118,7 +118,7 @@ const ROWS: &[Row] = &[
     ((0, 0), false, Some(false), (1, 0, true)),
 ];
 
-/// Whether each row has the expected results.
+/// Returns `true` if each row has the expected results.
 fn rows_are_right(alloc: Global) -> bool {
     for (device, flushed, came, saw) in ROWS {
         if written(alloc, *device) != (true, *flushed, (*came, *saw)) {

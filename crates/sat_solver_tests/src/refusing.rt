@@ -155,7 +155,7 @@ fn text_with(
     text_of(alloc, format, &[], &parts)
 }
 
-/// Whether refused calls at position `at` change nothing.
+/// Returns `true` if refused calls at position `at` change nothing.
 fn is_same(
     alloc: Global,
     calls: &[Call],
@@ -171,7 +171,7 @@ fn is_same(
     }
 }
 
-/// Whether the refused calls of a row change nothing at any of its positions.
+/// Returns `true` if the refused calls of a row change nothing at any of its positions.
 fn is_right(alloc: Global, row: &Row) -> bool {
     let ((calls, formats), kind, refused, first, last) = *row;
     for format in formats {

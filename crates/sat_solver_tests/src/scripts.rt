@@ -25,8 +25,8 @@ pub(crate) fn text_of(
 
 const CHECKED: &[Part<'static>] = &[(Kind::Right, &[Call::Check])];
 
-/// Whether each call has the expected result, the proof is accepted, even with all hashes 0, and the proof is the same
-/// if the solver has its own checker.
+/// Returns `true` if each call has the expected result, the proof is accepted, even with all hashes 0, and the proof is
+/// the same if the solver has its own checker.
 fn is_right(alloc: Global, parts: &[Part<'_>]) -> bool {
     let text = text_of(alloc, ProofFormat::Varisat, &[], parts);
     let checked = text_of(alloc, ProofFormat::Varisat, CHECKED, parts);

@@ -37,7 +37,7 @@ const CLAUSES: &[Part<'static>] = &[(
     &[Call::Formula(&[&[1, 2], &[1, -2], &[-1, 2], &[-1, -2]])],
 )];
 
-/// Whether a target has accepted no byte of a piece.
+/// Returns `true` if a target has accepted no byte of a piece.
 fn is_full(answer: Result<bool, SolverError>) -> bool {
     match answer {
         Err(SolverError::ProofIoError { cause }) => cause.kind() == ErrorKind::WriteZero,

@@ -139,7 +139,7 @@ fn twenty_clauses_are_solved(rt: HostRuntime) {
     }
 }
 
-/// Whether a search that reduces after each round deletes more clauses than one that doesn't.
+/// Returns `true` if a search that reduces after each round deletes more clauses than one that doesn't.
 fn reduces(alloc: Global) -> bool {
     match (
         deletions(alloc, (FAST, OFTEN)),

@@ -1,8 +1,7 @@
 #![tactic(auto)]
 
 ghost use Rattle.std.specs.Prelude.{IfOk, IfSome, MatchResult};
-ghost use Rattle.sat_solver.specs.solver.Resting.{IsCore, IsModel};
-ghost use Rattle.sat_solver.specs.solver.Whole.{IsSolver};
+ghost use Rattle.sat_solver.specs.facade.Answers.{IsCore, IsModel};
 
 use sat_base::{Counted, CountedWrite, ExtendFormula, Lit};
 use sat_solver::{ProofFormat, Solver, SolverError};
@@ -17,8 +16,6 @@ pub fn ask<W: CountedWrite + Drop>(
     solver: &mut Solver<W>,
     assumptions: &[Lit],
 ) -> Result<Option<Answer>, SolverError>
-    requires { IsSolver solver.old }
-    ensures solver { IsSolver solver.new }
     ensures right { IfOk result (λ known. IfSome known (λ answer. MatchResult answer
         (λ model. IsModel solver.new model.items) (λ core. IsCore solver.new core.items))) }
 {
@@ -51,10 +48,7 @@ fn ask_twice<W: CountedWrite + Drop>(
     alloc: Global,
     solver: &mut Solver<W>,
     target: W,
-) -> Result<Solved<W>, SolverError>
-    requires { IsSolver solver.old }
-    ensures { IsSolver solver.new }
-{
+) -> Result<Solved<W>, SolverError> {
     solver.write_proof(target, ProofFormat::Varisat)?;
     let x = solver.new_lit()?;
     let y = solver.new_lit()?;
@@ -79,7 +73,7 @@ pub fn solve<W: CountedWrite + Drop>(alloc: Global, target: W) -> Result<Solved<
     solved
 }
 
-/// Whether the first ask has a core of one literal, the second a model of two, and the target a proof.
+/// Returns `true` if the first ask has a core of one literal, the second a model of two, and the target a proof.
 fn are_answered(solved: &Solved<Counted<Vec<u8>>>) -> bool {
     let refuted = match &solved.refuted {
         Some(Err(core)) => core.len() == 1,

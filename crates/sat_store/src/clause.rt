@@ -1,4 +1,4 @@
-//! Long clauses in a common buffer. A clause consists of a header of three words, followed by the literals.
+//! Long clauses in a common buffer, each of which is a header of three words, followed by the literals.
 pub mod alloc;
 pub mod edit;
 pub mod header;

@@ -1,4 +1,4 @@
-//! Laws about activities. Each law is the contract of a function with an empty body.
+//! Laws about activities, each of which is the contract of a function with an empty body.
 ghost use Rattle.sat_store.specs.heap.Rows.{BumpsPastTheLimit, SixtyDecays};
 
 /// Gives examples in which decays and a bump rescale the activities.

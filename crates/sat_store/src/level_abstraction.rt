@@ -42,7 +42,7 @@ impl LevelAbstraction {
         self.bits |= 1 << (level % 64);
     }
 
-    /// Whether `level`, or any level with the same remainder, was added.
+    /// Returns `true` if `level`, or any level with the same remainder, was added.
     pub fn test(&self, level: usize) -> bool
         ensures { result ≡ level_passes self.now level }
     {

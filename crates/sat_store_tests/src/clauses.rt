@@ -26,7 +26,7 @@ fn store_two(
     Ok((a, b))
 }
 
-/// Whether the clause has the literals with the DIMACS numbers `numbers`.
+/// Returns `true` if the clause has the literals with the DIMACS numbers `numbers`.
 fn reads(buffer: &ClauseAlloc, cref: ClauseRef, numbers: &[i64]) -> bool
     requires { IsClause buffer.now cref }
 {

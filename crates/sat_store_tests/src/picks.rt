@@ -85,7 +85,7 @@ fn most_active_first(rt: HostRuntime) {
     assert!(rt; picked == [0, 1, 2, 3, 9]);
 }
 
-/// Whether a variable that was bumped and then reset is picked after another one that was bumped.
+/// Returns `true` if a variable that was bumped and then reset is picked after another one that was bumped.
 fn reset_goes_last(vsids: &mut Vsids) -> bool
     requires { vsids.old ≡ no_variables }
 {

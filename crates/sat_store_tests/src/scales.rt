@@ -84,7 +84,7 @@ fn bump_first(vsids: &mut Vsids)
     vsids.bump(Var::from_index(0));
 }
 
-/// Tests whether the lowest index is picked first after sixty decays.
+/// Returns `true` if the lowest index is picked first after sixty decays.
 fn decayed_row(vsids: &mut Vsids) -> bool
     requires { vsids.old ≡ no_variables }
 {
@@ -95,7 +95,7 @@ fn decayed_row(vsids: &mut Vsids) -> bool
     picked(vsids) == [0, 1, 2, 3]
 }
 
-/// Tests whether the last variable is picked first after two bumps, until two more bumps make the first one equal.
+/// Returns `true` if the last variable is picked first after two bumps, until two more bumps make the first one equal.
 fn bumped_row(vsids: &mut Vsids) -> bool
     requires { vsids.old ≡ no_variables }
 {

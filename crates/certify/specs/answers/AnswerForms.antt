@@ -13,15 +13,15 @@ named_literal l = record { name = variable l + 1; positive = is_positive l }
 abbrev pub named_literals : List ℕ → List Literal
 named_literals = map named_literal
 
--- that a name is at least 1 and at most the limit
+-- `IsName n` holds if the name is at least 1 and at most the limit.
 abbrev pub IsName : ℕ → Type 0
 IsName n = (1 ≤ n) × (n ≤ var_limit)
 
--- that the name of every literal is allowed in scripts
+-- `HaveNames ls` holds if the name of every literal is allowed in scripts.
 abbrev pub HaveNames : List Literal → Type 0
 HaveNames = AllByRecursion (λ l. IsName l.name)
 
--- that each name is greater than the name before it
+-- `NamesRise names` holds if each name is greater than the name before it.
 abbrev pub NamesRise : List ℕ → Type 0
 NamesRise [] = Unit {0}
 NamesRise (n ∷ []) = Unit {0}
@@ -33,12 +33,13 @@ literals_of (Sat line) = line
 literals_of (Unsat core) = core
 literals_of Unknown = []
 
--- That the literals of an outcome are in order: the literals of a model by strictly increasing name, and those of a core as in `InOrder`.
+-- `IsOrdered o` holds if the literals of the outcome are in order: those of a model by strictly increasing name, those
+-- of a core as in `InOrder`.
 abbrev pub IsOrdered : Outcome → Type 0
 IsOrdered (Sat line) = NamesRise (names_of line)
 IsOrdered (Unsat core) = InOrder core
 IsOrdered Unknown = Unit {0}
 
--- that an answer may print the outcome: its names are allowed, and its literals are in order
+-- `IsPrintable o` holds if an answer may print the outcome: its names are allowed, and its literals are in order.
 abbrev pub IsPrintable : Outcome → Type 0
 IsPrintable o = HaveNames (literals_of o) × IsOrdered o

@@ -29,12 +29,12 @@ second_line (Sat line) = v_line line
 second_line (Unsat core) = f_line core
 second_line Unknown = []
 
--- that an answer of this kind has a second line
+-- `HasLine k` holds if an answer of kind `k` has a second line.
 abbrev pub HasLine : AnswerKind → Type 0
 HasLine kind.Unknown = ⊥
 HasLine k = Unit {0}
 
--- that the second line of an answer of this kind begins with `head`: `v ` or `f `
+-- `IsHead k head` holds if the second line of an answer of kind `k` begins with `head`: `v ` or `f `.
 abbrev pub IsHead : AnswerKind → List ℕ → Type 0
 IsHead kind.Sat head = head ≡ 118 ∷ 32 ∷ []
 IsHead kind.Unsat head = head ≡ 102 ∷ 32 ∷ []
@@ -45,86 +45,96 @@ abbrev pub literal_place : AnswerKind → ℕ → ℕ
 literal_place kind.Sat l = variable l
 literal_place k l = l
 
--- that the bytes do not begin with a literal and a space
+-- `NoLiteral bytes` holds if the bytes do not begin with a literal and a space.
 abbrev pub NoLiteral : List ℕ → Type 0
 NoLiteral bytes = (l : Literal) (tail : List ℕ) → IsName l.name → bytes ≡ literal_text l ++ (32 ∷ tail) → ⊥
 
--- that the bytes, whatever follows them, do not begin with a name and a space
+-- `StartsNoName bytes` holds if the bytes, whatever follows them, do not begin with a name and a space.
 abbrev pub StartsNoName : List ℕ → Type 0
 StartsNoName bytes = (more : List ℕ) → NoWord decimal IsName (bytes ++ more)
 
--- that the bytes, whatever follows them, do not begin with a literal and a space
+-- `StartsNoLiteral bytes` holds if the bytes, whatever follows them, do not begin with a literal and a space.
 abbrev pub StartsNoLiteral : List ℕ → Type 0
 StartsNoLiteral bytes = (more : List ℕ) → NoLiteral (bytes ++ more)
 
--- that the bytes begin with this text without its final `0` and LF
+-- `BeginWithWordsOf text bytes` holds if `bytes` begins with `text` without its final `0` and LF.
 abbrev pub BeginWithWordsOf : List ℕ → List ℕ → Type 0
 BeginWithWordsOf text bytes = (front : List ℕ) × (tail : List ℕ) × ((text ≡ front ++ (48 ∷ 10 ∷ [])) × (bytes ≡ front ++ tail))
 
--- that the bytes begin with at least one literal of a line in form; only then can memory be needed
+-- `HasFirstLiteral k text bytes` holds if the bytes begin with a line of kind `k`, in form, up to at least one of its
+-- literals; only then can memory be needed. `text` gives the text of a line.
 abbrev pub HasFirstLiteral : AnswerKind → (List Literal → List ℕ) → List ℕ → Type 0
 HasFirstLiteral k text bytes = HasLine k
     × ((ls : List Literal) × (l : Literal) × (IsPrintable (outcome_of k (ls ++ (l ∷ []))) × BeginWithWordsOf (text (ls ++ (l ∷ []))) bytes))
 
--- why the literals of a line of this kind cannot be read
+-- `NoLiterals k bytes fault` holds if `fault` is why the literals of a line of kind `k` cannot be read: they are not in
+-- form, or memory runs out after at least one.
 abbrev pub NoLiterals : AnswerKind → List ℕ → AnswerFault → Type 0
 NoLiterals k bytes Missing = ⊥
 NoLiterals k bytes Text = (ls : List Literal) (tail : List ℕ) → IsPrintable (outcome_of k ls) → bytes ≡ literals_text ls ++ tail → ⊥
 NoLiterals k bytes OutOfMemory = HasFirstLiteral k literals_text bytes
 
--- why the first line cannot be read
+-- `NoKind bytes fault` holds if `fault` is why the first line of an answer cannot be read: the bytes are empty, or
+-- begin with none.
 abbrev pub NoKind : List ℕ → AnswerFault → Type 0
 NoKind bytes Missing = bytes ≡ []
 NoKind bytes Text = (bytes ≢ []) × ((k : AnswerKind) (tail : List ℕ) → bytes ≡ first_answer_line k ++ tail → ⊥)
 NoKind bytes OutOfMemory = ⊥
 
--- why the second line of an answer of this kind cannot be read
+-- `NoLine k bytes fault` holds if `fault` is why the second line of an answer of kind `k` cannot be read: the bytes are
+-- empty, they do not begin with one, or memory runs out after at least one literal.
 abbrev pub NoLine : AnswerKind → List ℕ → AnswerFault → Type 0
 NoLine k bytes Missing = HasLine k × (bytes ≡ [])
 NoLine k bytes Text = (bytes ≢ [])
     × ((ls : List Literal) (tail : List ℕ) → IsPrintable (outcome_of k ls) → bytes ≡ second_line (outcome_of k ls) ++ tail → ⊥)
 NoLine k bytes OutOfMemory = HasFirstLiteral k (λ ls. second_line (outcome_of k ls)) bytes
 
--- that the bytes are not a prefix of literals in form with their `0` and LF
+-- `StartsNoLiterals k bytes` holds if the bytes are not a prefix of the text of literals in form for kind `k`, up to
+-- its `0` and LF.
 abbrev pub StartsNoLiterals : AnswerKind → List ℕ → Type 0
 StartsNoLiterals k bytes = (ls : List Literal) (more : List ℕ) → IsPrintable (outcome_of k ls) → literals_text ls ≡ bytes ++ more → ⊥
 
--- that the bytes are not a prefix of a first line
+-- `StartsNoKind bytes` holds if the bytes are not a prefix of the first line of an answer.
 abbrev pub StartsNoKind : List ℕ → Type 0
 StartsNoKind bytes = (k : AnswerKind) (more : List ℕ) → first_answer_line k ≡ bytes ++ more → ⊥
 
--- that the bytes are not a prefix of a second line in form
+-- `StartsNoLine k bytes` holds if the bytes are not a prefix of the second line, in form, of an answer of kind `k`.
 abbrev pub StartsNoLine : AnswerKind → List ℕ → Type 0
 StartsNoLine k bytes = (ls : List Literal) (more : List ℕ) → IsPrintable (outcome_of k ls) → second_line (outcome_of k ls) ≡ bytes ++ more → ⊥
 
--- that the bytes end where a line of an answer is expected
+-- `IsCutShort bytes` holds if the bytes end where a line of an answer is expected.
 abbrev pub IsCutShort : List ℕ → Type 0
 IsCutShort bytes = (bytes ≡ []) ⊎ ((bytes ≡ s_satisfiable) ⊎ (bytes ≡ s_unsatisfiable))
 
--- that the bytes do not begin with the text of an outcome in form
+-- `BeginsNoOutcome bytes` holds if the bytes do not begin with the text of an outcome in form.
 abbrev pub BeginsNoOutcome : List ℕ → Type 0
 BeginsNoOutcome bytes = (o : Outcome) (tail : List ℕ) → IsPrintable o → bytes ≡ outcome_text o ++ tail → ⊥
 
--- why no answer can be read
+-- `NoOutcome bytes fault` holds if `fault` is why no answer can be read: the bytes end where a line is expected, they
+-- do not begin with an answer, or memory runs out within the second line.
 abbrev pub NoOutcome : List ℕ → AnswerFault → Type 0
 NoOutcome bytes Missing = IsCutShort bytes × BeginsNoOutcome bytes
 NoOutcome bytes Text = (IsCutShort bytes → ⊥) × BeginsNoOutcome bytes
 NoOutcome bytes OutOfMemory = (k : AnswerKind) × (rest : List ℕ) × ((bytes ≡ first_answer_line k ++ rest) × NoLine k rest OutOfMemory)
 
--- that the bytes are the literal with code `l`, a space, and then `rest`
+-- `BeginsWithLiteral bytes l rest` holds if the bytes are the literal with code `l`, whose name is allowed, a space,
+-- and then `rest`.
 abbrev pub BeginsWithLiteral : List ℕ → ℕ → List ℕ → Type 0
 BeginsWithLiteral bytes l rest = IsName (named_literal l).name × (bytes ≡ literal_text (named_literal l) ++ (32 ∷ rest))
 
--- that the bytes are the literals of `line`, in form for this kind, and then `rest`
+-- `BeginsWithLiterals k bytes line rest` holds if the bytes are the literals of `line`, in form for kind `k`, with
+-- their `0` and LF, and then `rest`.
 abbrev pub BeginsWithLiterals : AnswerKind → List ℕ → List ℕ → List ℕ → Type 0
 BeginsWithLiterals k bytes line rest = IsPrintable (outcome_of k (named_literals line)) × (bytes ≡ literals_text (named_literals line) ++ rest)
 
--- that the bytes are the second line of an answer of this kind, with the literals of `line` in form, and then `rest`
+-- `BeginsWithSecondLine k bytes line rest` holds if the bytes are the second line of an answer of kind `k`, with the
+-- literals of `line` in form, and then `rest`.
 abbrev pub BeginsWithSecondLine : AnswerKind → List ℕ → List ℕ → List ℕ → Type 0
 BeginsWithSecondLine k bytes line rest = IsPrintable (outcome_of k (named_literals line))
     × (bytes ≡ second_line (outcome_of k (named_literals line)) ++ rest)
 
--- that the bytes are an answer of this kind, with the literals of `line` in form, and then `rest`
+-- `BeginsWithAnswer k bytes line rest` holds if the bytes are an answer of kind `k`, with the literals of `line` in
+-- form, and then `rest`.
 abbrev pub BeginsWithAnswer : AnswerKind → List ℕ → List ℕ → List ℕ → Type 0
 BeginsWithAnswer k bytes line rest = IsPrintable (outcome_of k (named_literals line))
     × (bytes ≡ outcome_text (outcome_of k (named_literals line)) ++ rest)

@@ -21,7 +21,8 @@ abbrev pub refusal_line : ℕ → Refusal → List ℕ
 refusal_line k PastLimit = codes "c refused " ++ (decimal k ++ codes " limit\n")
 refusal_line k (WitnessName name) = codes "c refused " ++ (decimal k ++ (codes " witness " ++ (decimal name ++ codes "\n")))
 
--- the lines of events: an ask has the lines of its outcome, and every other event has one line
+-- The lines of events. An ask has the lines of the next outcome, and every other event has one line. An ask without an
+-- outcome has none, and surplus outcomes are ignored; `EachIsRight` excludes both.
 abbrev pub event_lines : List Event → List Outcome → List ℕ
 event_lines [] outcomes = []
 event_lines (Refused k refusal ∷ events) outcomes = refusal_line k refusal ++ event_lines events outcomes

@@ -19,7 +19,7 @@ pub record Named : Type 0 where
 pub record ScriptState : Type 0 where
   pub first_unused : ℕ  -- the lowest name never used
   pub in_use : List Named  -- in increasing order of name
-  pub identity_count : ℕ
+  pub identity_count : ℕ  -- the number of variables so far, including hidden ones; the next identity
   pub clauses : List (List ℕ)  -- the accepted clauses, newest first; a literal is twice its identity, plus 1 if negated
 
 -- the state before the first command
@@ -93,7 +93,7 @@ state_after_accepted (Hide names) state = for_each (λ name s. without_name name
 state_after_accepted (Witness names) state = for_each (λ name s. with_mode true name (introduce name s)) names state
 state_after_accepted (Sample names) state = for_each (λ name s. with_mode false name (introduce name s)) names state
 
--- whether the name is in use and its mode is witness
+-- Returns `true` if the name is in use and its mode is witness.
 abbrev pub is_witness : List Named → ℕ → Bool
 is_witness [] name = false
 is_witness (n ∷ ns) name = if n.name == name then n.witness else is_witness ns name
@@ -118,8 +118,7 @@ refusal_of state (Sample names) = first_refusal true state names
 abbrev pub after_command : Command → ScriptState → ScriptState
 after_command command state = if is_some (refusal_of state command) then state else state_after_accepted command state
 
--- `IsRightModel state ask line` holds if `line` is a correct model of `ask`. `state` is the state after the names of
--- `ask` were introduced.
+-- `IsRightModel state ask line` holds if `line` is a correct model of `ask`.
 pub record IsRightModel (state : ScriptState) (ask line : List Literal) : Type 0 where
   -- `line` has one literal for every name in use, in increasing order
   pub names : names_of line ≡ map (λ n. n.name) state.in_use
@@ -130,8 +129,7 @@ pub record IsRightModel (state : ScriptState) (ask line : List Literal) : Type 0
   pub asked : EachTrue valuation (map (identity_lit state) ask)
 
 -- `IsRightCore state ask core` holds if `core` is a correct core of `ask`. It contains some of the literals of `ask`,
--- sorted and without repeats, that cannot all be true if the accepted clauses hold. It need not be minimal. `state` is
--- the state after the names of `ask` were introduced.
+-- sorted and without repeats, that cannot all be true if the accepted clauses hold. It need not be minimal.
 pub record IsRightCore (state : ScriptState) (ask core : List Literal) : Type 0 where
   pub order : InOrder core
   pub among : AllByRecursion (λ l. Among l ask) core
@@ -139,7 +137,7 @@ pub record IsRightCore (state : ScriptState) (ask core : List Literal) : Type 0 
   pub none : (a : Valuation) → EachTrue a (map (identity_lit state) core) → EachHolds a state.clauses → ⊥
 
 -- `IsRight state ask o` holds if `o` is a correct outcome of `ask`. `state` is the state after the names of `ask` were
--- introduced. `Unknown` is correct for every ask.
+-- introduced.
 abbrev pub IsRight : ScriptState → List Literal → Outcome → Type 0
 IsRight state ask (Sat line) = IsRightModel state ask line
 IsRight state ask (Unsat core) = IsRightCore state ask core

@@ -4,16 +4,16 @@ use Rattle.sat_base.specs.script.Script.{Literal, Command, Clause, Ask, Hide, Wi
 use Rattle.sat_base.specs.script.Language.{Reading, with_ask}
 use Rattle.sat_base.specs.text.Text.{prepend_to_first, is_none, same_bytes}
 
--- whether byte `b` is one of these characters
+-- Returns `true` if byte `b` is one of these characters.
 abbrev pub is_one_of : List ℕ → ℕ → Bool
 is_one_of [] b = false
 is_one_of (c ∷ cs) b = nat_eq b c || is_one_of cs b
 
--- whether a byte is a space, tab, CR or LF
+-- Returns `true` if a byte is a space, tab, CR or LF.
 abbrev pub is_blank : ℕ → Bool
 is_blank = is_one_of (codes " \t\r\n")
 
--- whether a byte is an ASCII digit
+-- Returns `true` if a byte is an ASCII digit.
 abbrev pub is_digit : ℕ → Bool
 is_digit = is_one_of (codes "0123456789")
 
@@ -22,7 +22,7 @@ unfoldable pub lines : List ℕ → List (List ℕ)
 lines [] = []
 lines (b ∷ bs) = if is_one_of (codes "\n") b then (b ∷ []) ∷ lines bs else prepend_to_first b (lines bs)
 
--- whether the text begins with a nonblank byte
+-- Returns `true` if the text begins with a nonblank byte.
 abbrev pub goes_on : List ℕ → Bool
 goes_on [] = false
 goes_on (b ∷ bs) = not (is_blank b)
@@ -32,7 +32,7 @@ unfoldable pub words : List ℕ → List (List ℕ)
 words [] = []
 words (b ∷ bs) = if is_blank b then words bs else (if goes_on bs then prepend_to_first b (words bs) else (b ∷ []) ∷ words bs)
 
--- whether the first nonblank byte of the line is one of these characters
+-- Returns `true` if the first nonblank byte of the line is one of these characters.
 unfoldable pub begins_with : List ℕ → List ℕ → Bool
 begins_with cs [] = false
 begins_with cs (b ∷ bs) = if is_blank b then begins_with cs bs else is_one_of cs b
@@ -60,7 +60,7 @@ abbrev pub number_token : Bool → Option ℕ → Token
 number_token negative None = Wrong
 number_token negative (Some n) = if negative && nat_eq n 0 then Wrong else Number negative n
 
--- the token of an optional `-` and digits; any other word is `Wrong`
+-- the token of an optional `-` and digits; `Wrong` for a 0 with a minus sign, and for any other word
 abbrev pub number_of_word : List ℕ → Token
 number_of_word [] = Wrong
 number_of_word (b ∷ bs) = if is_one_of (codes "-") b then number_token true (digits 0 bs) else number_token false (digits 0 (b ∷ bs))
@@ -117,7 +117,7 @@ parse_tokens hand (t ∷ ts) = ([], Malformed)
 abbrev pub parse_written : List ℕ → Reading
 parse_written text = parse_tokens None (tokens_of_lines true (lines text))
 
--- whether the first token is a header
+-- Returns `true` if the first token is a header.
 abbrev pub is_headed : List Token → Bool
 is_headed (Header ∷ ts) = true
 is_headed ts = false

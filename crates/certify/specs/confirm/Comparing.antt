@@ -31,27 +31,31 @@ due_of (code.Core core) = λ o ask. Fails ask (named_literals core.now)
 due_of code.Close = λ o ask. Closes
 due_of code.End = λ o ask. Finish
 
--- that the checker accepted these steps and has not failed; after them, the names have the variables of the table
+-- `AreKnown known earlier` holds if the checker accepted the steps `earlier` and has not failed, and after them the
+-- names have the variables of the table.
 pub record AreKnown (known : Known) (earlier : List Step) : Type 0 where
   pub valid : HasAccepted (kernel_of known.checker.now) earlier
   pub goes_on : kernel_has_failed (kernel_of known.checker.now) ≡ false
   pub named : variable_of earlier ≡ variable_in known.variables.now
 
--- that the step fits the expected step for every outcome and ask or, with a reason, for none
+-- `Compares due known step why` holds if the step fits the expected step for every outcome and ask (`None`) or, with a
+-- reason, for none.
 abbrev pub Compares : Due → Known → Step → Option Why → Type 0
 Compares due known step None = (earlier : List Step) → AreKnown known earlier
     → (o : Outcome) (ask : List Literal) → Fits (checker_rules.knows earlier) earlier (due o ask) step
 Compares due known step (Some why) = (earlier : List Step) → AreKnown known earlier
     → (o : Outcome) (ask : List Literal) → Fits (checker_rules.knows earlier) earlier (due o ask) step → ⊥
 
--- that the step is a model that contains the literals of a line or, with a reason, is not
+-- `ComparesLine known line step why` holds if the step is a model that contains the literals of the line (`None`) or,
+-- with a reason, is not.
 abbrev pub ComparesLine : Known → List ℕ → Step → Option Why → Type 0
 ComparesLine known line step None = (codes : List ℕ) × (step ≡ Model codes)
     × EachSpelt (variable_in known.variables.now) (named_literals line) codes
 ComparesLine known line step (Some why) = (codes : List ℕ) → step ≡ Model codes
     → EachSpelt (variable_in known.variables.now) (named_literals line) codes → ⊥
 
--- that the expected step does not open an ask, or opens an ask whose outcome is the empty core
+-- `OpenedCoreIsEmpty e` holds if the expected step does not open an ask, or opens an ask whose outcome is the empty
+-- core.
 abbrev pub OpenedCoreIsEmpty : Expected → Type 0
 OpenedCoreIsEmpty (NewName name) = Unit {0}
 OpenedCoreIsEmpty (NoName name) = Unit {0}
@@ -62,7 +66,8 @@ OpenedCoreIsEmpty (Fails ask core) = Unit {0}
 OpenedCoreIsEmpty Closes = Unit {0}
 OpenedCoreIsEmpty Finish = Unit {0}
 
--- That the expected step may be unmet once unsat is recorded, provided that `OpenedCoreIsEmpty` holds. With a reason: that it may never be unmet.
+-- `ExcusesDue due why` holds if the expected step may be unmet once unsat is recorded, provided that
+-- `OpenedCoreIsEmpty` holds (`None`) or, with a reason, may never be unmet.
 abbrev pub ExcusesDue : Due → Option Why → Type 0
 ExcusesDue due None = (o : Outcome) (ask : List Literal) → OpenedCoreIsEmpty (due o ask) → MayBeUnmet (due o ask)
 ExcusesDue due (Some why) = (o : Outcome) (ask : List Literal) → MayBeUnmet (due o ask) → ⊥

@@ -23,9 +23,9 @@ answers_in seen answers s = answers_source seen answers s.answers
 abbrev pub stream_in : {C : Type 0} → (C → Reader) → StepReader C Buffers → Matching → Stream
 stream_in seen steps m = stream_of seen steps (kernel_of m.certificate.checker)
 
--- The effect of a call that confirms a command. The certificate's reader stays the same borrow and can be read
--- further if the call succeeds. P says what the result means for answers and certificate. M holds if there are too
--- many commands.
+-- `ConfirmsBoth M goes result seen steps_seen old_answers new_answers old new before after P` holds if `P` says what
+-- the result of a call that confirms a command means for answers and certificate, as in `Joins`. The certificate's
+-- reader stays the same borrow and can be read further if the call succeeds. `M` holds if there are too many commands.
 pub record ConfirmsBoth {A C T : Type 0} (M : Type 0) (goes : Bool) (result : Result T Stop)
     (seen : A → Reader) (steps_seen : C → Reader) (old_answers new_answers : A)
     (old new : StepReader C Buffers) (before after : ConfirmState) (P : List ℕ → List ℕ → CertificateState → CertificateState → Result T Why → Type 0) : Type 0 where

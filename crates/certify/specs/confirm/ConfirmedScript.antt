@@ -44,7 +44,8 @@ confirm_place script_seen seen steps_seen script answers steps c = record {
   table = table_of c.session.matching;
 }
 
--- That the commands between two places were confirmed. After them, `left` gives the reading of the rest of the script.
+-- `ConfirmsThrough text old new reader` holds if the commands between two places were confirmed. After them, some
+-- reading of the rest of the script is left, which the reader represents.
 pub record ConfirmsThrough (text : List ℕ → Reading) (old new : ConfirmPlace) (reader : ScriptReader) : Type 0 where
   pub left : List ℕ → Reading
   pub means : ReaderMeans reader left
@@ -54,17 +55,20 @@ pub record ConfirmsThrough (text : List ℕ → Reading) (old new : ConfirmPlace
   pub joins : (total : List ℕ) → Covers new.script total → Joins ⊥ true (Ok tt) old.answers new.answers old.certificate new.certificate
       (Through old.number (text (rest_in total old.script)) old.table new.number (left (rest_in total new.script)) new.table)
 
--- that the script is confirmed to its end or, with `No`, cannot be; other errors mean the same as in `Joins`
+-- `JoinsWhole r script old new` holds if the script is confirmed to its end or, with `No`, cannot be; other errors mean
+-- what they mean in `Joins`.
 abbrev pub JoinsWhole : Result (Unit {0}) Stop → Reading → ConfirmPlace → ConfirmPlace → Type 0
 JoinsWhole r script old new = Joins ⊥ false r old.answers new.answers old.certificate new.certificate
     (λ before following u v. ConfirmsLast old.number script old.table before u)
 
--- the effect on answers and certificate of a call that stopped for a reason that lies in neither of them
+-- `Unsaid old new` holds if a call stopped for a reason that lies in neither answers nor certificate, and no read of
+-- either failed.
 abbrev pub Unsaid : ConfirmPlace → ConfirmPlace → Type 0
 Unsaid old new = NoReadFailedAhead old.answers new.answers × Confirms {A = Unit {0}} (Err stop.OutOfMemory) old.certificate new.certificate Any
 
--- That the script is confirmed to its end, or cannot be. Otherwise a text cannot be read, memory runs out, a number
--- does not fit into 64 bits, or there are too many commands.
+-- `ConfirmsScript text result old new` holds if `result` is that of confirming the script: it is confirmed to its end,
+-- or it cannot be. Otherwise a text cannot be read, memory runs out, a number does not fit into 64 bits, or there are
+-- too many commands.
 abbrev pub ConfirmsScript : (List ℕ → Reading) → Result (Unit {0}) Stop → ConfirmPlace → ConfirmPlace → Type 0
 ConfirmsScript text (Ok x) old new = TakesSome false old.script new.script
     × ((total : List ℕ) → Covers new.script total → JoinsWhole (Ok x) (text (rest_in total old.script)) old new)

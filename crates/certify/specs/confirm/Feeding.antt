@@ -11,13 +11,13 @@ use Rattle.certify.specs.declared.confirm.stop.Stop.{Stop}
 use Rattle.certify.specs.declared.confirm.stop.Stop.TheVariants as stop
 use Rattle.certify.specs.declared.verdict.Why.TheVariants.{StepRefused}
 
--- that the checker accepted these steps, the newest first, and has not failed
+-- `HasTaken checker steps` holds if the checker accepted these steps, the newest first, and has not failed.
 pub record HasTaken (checker : Kernel) (steps : List Step) : Type 0 where
   pub valid : HasAccepted checker steps
   pub goes_on : kernel_has_failed checker ≡ false
 
--- The error of a call if a step is not accepted. A checker that has not failed can only refuse the step, run out of
--- memory, or reach the end of a counter.
+-- the error of a call if a step is not accepted; a checker that has not failed can only refuse the step, run out of
+-- memory, or reach the end of a counter
 abbrev pub stop_by : CheckerError → Stop
 stop_by errors.CheckFailed = stop.No StepRefused
 stop_by errors.OutOfMemory = stop.OutOfMemory
@@ -29,8 +29,8 @@ stop_by errors.ParseError = stop.No StepRefused
 -- cannot occur, because there is no listener
 stop_by (errors.ProofProcessorError cause) = stop.OutOfMemory
 
--- That the step is accepted after the earlier steps; or, with an error, that it is refused, memory runs out, or a number does not fit into 64
--- bits.
+-- `FeedsStep result old step new` holds if the step is accepted after the earlier steps or, with an error, it is
+-- refused, memory runs out, or a number does not fit into 64 bits.
 abbrev pub FeedsStep : Result (Unit {0}) Stop → Kernel → Step → Kernel → Type 0
 FeedsStep (Ok x) old step new = (steps : List Step) → HasTaken old steps → Accepts (ready_after steps) step × HasTaken new (step ∷ steps)
 FeedsStep (Err (stop.No why)) old step new = (steps : List Step) → HasTaken old steps → Accepts (ready_after steps) step → ⊥
@@ -41,8 +41,8 @@ FeedsStep (Err stop.ScriptRead) old step new = ⊥
 FeedsStep (Err stop.AnswersRead) old step new = ⊥
 FeedsStep (Err stop.TooMany) old step new = ⊥
 
--- That a pending unit conflict is settled; or, with an error, that a number does not fit into 64 bits or memory runs
--- out. No step is added, and there are no further looks.
+-- `SettlesConflict result old new` holds if a pending unit conflict is settled or, with an error, a number does not fit
+-- into 64 bits or memory runs out. No step is added, and there are no further looks.
 abbrev pub SettlesConflict : Result (Unit {0}) Stop → Kernel → Kernel → Type 0
 SettlesConflict (Ok x) old new = (steps : List Step) → HasTaken old steps → HasTaken new steps × (kernel_looks new ≡ kernel_looks old)
 SettlesConflict (Err (stop.No why)) old new = (steps : List Step) → HasTaken old steps → ⊥

@@ -10,7 +10,8 @@ use Rattle.sat_checker.specs.matching.Expected.{Outcome, Expected, Opens, Closes
 use Rattle.sat_checker.specs.matching.Checking.{CheckerRules}
 use Rattle.certify.specs.confirm.Matches.{OneOutcomePerAsk, CoreIsInOrder, Meets}
 
--- that the rest of the certificate begins with steps that meet the expected steps `es`, after the earlier steps
+-- `CertificateMeets k earlier es certificate` holds if the rest of the certificate begins with steps that meet the
+-- expected steps `es`, after the steps `earlier`.
 pub record CertificateMeets (k : CheckerRules) (earlier : List Step) (es : List Expected) (certificate : List ℕ) : Type 0 where
   pub steps : List Step
   pub text : List ℕ
@@ -19,8 +20,9 @@ pub record CertificateMeets (k : CheckerRules) (earlier : List Step) (es : List 
   pub spelt : SpellsSteps steps text
   pub meets : Meets k earlier steps es
 
--- That the rest of the script matches from command `n` on, in state `j`. The expected steps in `pending` belong to
--- earlier commands.
+-- `RemainsToMatch k j n earlier pending commands ending answers certificate` holds if in state `j`, the rest of the
+-- script matches the rest of the answers and of the certificate, from command `n` on. The expected steps in `pending`
+-- belong to earlier commands.
 pub record RemainsToMatch (k : CheckerRules) (j : ScriptState) (n : ℕ) (earlier : List Step) (pending : List Expected)
     (commands : List Command) (ending : ScriptEnding) (answers certificate : List ℕ) : Type 0 where
   pub outcomes : List Outcome
@@ -29,8 +31,9 @@ pub record RemainsToMatch (k : CheckerRules) (j : ScriptState) (n : ℕ) (earlie
   pub in_form : AllByRecursion CoreIsInOrder outcomes
   pub certified : CertificateMeets k earlier (pending ++ expected j (accepted_commands j commands) outcomes) certificate
 
--- That the rest matches from the answer to an ask on. `j` is the state after the names of the ask were introduced. First the steps in `pending`
--- are expected, then the ask's assumptions.
+-- `AskRemainsToMatch k j n earlier pending ask commands ending answers certificate` holds if the rest matches from the
+-- answer to an ask on. `j` is the state after the names of the ask were introduced. First the steps in `pending` are
+-- expected, then the ask's assumptions.
 pub record AskRemainsToMatch (k : CheckerRules) (j : ScriptState) (n : ℕ) (earlier : List Step) (pending : List Expected) (ask : List Literal)
     (commands : List Command) (ending : ScriptEnding) (answers certificate : List ℕ) : Type 0 where
   pub outcome : Outcome

@@ -13,7 +13,7 @@ use Rattle.certify.specs.answers.AnswersText.{event_lines}
 use Rattle.certify.specs.answers.Events.{events_in}
 use Rattle.certify.specs.answers.ScriptText.{parse_script}
 
--- that there is one outcome for each ask among the commands
+-- `OneOutcomePerAsk commands outcomes` holds if there is one outcome for each ask among the commands.
 abbrev pub OneOutcomePerAsk : List Command → List Outcome → Type 0
 OneOutcomePerAsk [] [] = Unit {0}
 OneOutcomePerAsk [] (o ∷ os) = ⊥
@@ -21,22 +21,23 @@ OneOutcomePerAsk (Ask ls ∷ commands) [] = ⊥
 OneOutcomePerAsk (Ask ls ∷ commands) (o ∷ os) = OneOutcomePerAsk commands os
 OneOutcomePerAsk (command ∷ commands) outcomes = OneOutcomePerAsk commands outcomes
 
--- that a core is sorted as in `InOrder`, without repeats; a model need not be sorted
+-- `CoreIsInOrder o` holds if a core is sorted as in `InOrder`, without repeats; a model need not be sorted.
 abbrev pub CoreIsInOrder : Outcome → Type 0
 CoreIsInOrder (Sat line) = Unit {0}
 CoreIsInOrder (Unsat core) = InOrder core
 CoreIsInOrder Unknown = Unit {0}
 
--- that an expected step may be unmet once unsat is recorded: any step except a model, a core that is not empty, or an
--- ask whose outcome is not the empty core
+-- `MayBeUnmet e` holds if the expected step may be unmet once unsat is recorded: it is not a model, nor a core that is
+-- not empty, nor an ask whose outcome is not the empty core.
 abbrev pub MayBeUnmet : Expected → Type 0
 MayBeUnmet (Opens ls o) = o ≡ Unsat []
 MayBeUnmet (Shows names ask line) = ⊥
 MayBeUnmet (Fails ask core) = core ≡ []
 MayBeUnmet e = Unit {0}
 
--- That these steps are accepted one by one after the earlier steps, and the ordered steps among them are the expected
--- steps. Once unsat is recorded, the steps end, and all expected steps that are left satisfy `MayBeUnmet`.
+-- `Meets k earlier steps es` holds if the steps are accepted one by one after the earlier steps, and the ordered steps
+-- among them are the expected steps. Once unsat is recorded, the steps end, and all expected steps that are left
+-- satisfy `MayBeUnmet`.
 pub data Meets (k : CheckerRules) : List Step → List Step → List Expected → Type 0 where
   met : {earlier : List Step} → k.unsat earlier ≡ false → Meets k earlier [] []
   cut : {earlier : List Step} {es : List Expected} → k.unsat earlier ≡ true → AllByRecursion MayBeUnmet es → Meets k earlier [] es
@@ -47,14 +48,15 @@ pub data Meets (k : CheckerRules) : List Step → List Step → List Expected �
       → k.unsat earlier ≡ false → Fits (k.knows earlier) earlier e step → k.Accepts earlier step → Meets k (step ∷ earlier) steps es
       → Meets k earlier (step ∷ steps) (e ∷ es)
 
--- that the steps match the script's commands and these outcomes, as `Meets` says, and every core is in form
+-- `StepsMatch k commands outcomes steps` holds if there is one outcome for each accepted ask, every core is in order,
+-- and the steps are those of the accepted commands with these outcomes, as in `Meets`.
 pub record StepsMatch (k : CheckerRules) (commands : List Command) (outcomes : List Outcome) (steps : List Step) : Type 0 where
   pub one_each : OneOutcomePerAsk (accepted_commands initial_state commands) outcomes
   pub in_form : AllByRecursion CoreIsInOrder outcomes
   pub meets : Meets k [] steps (expected initial_state (accepted_commands initial_state commands) outcomes)
 
--- That the answers and the certificate match these commands and this ending of a script. The certificate may continue with any bytes after the
--- steps.
+-- `MatchesCommands k commands ending answers certificate` holds if the answers and the certificate match these commands
+-- and this ending of a script. The certificate may continue with any bytes after the steps.
 pub record MatchesCommands (k : CheckerRules) (commands : List Command) (ending : ScriptEnding) (answers certificate : List ℕ) : Type 0 where
   pub outcomes : List Outcome
   pub steps : List Step
@@ -65,14 +67,15 @@ pub record MatchesCommands (k : CheckerRules) (commands : List Command) (ending 
   pub spelt : SpellsSteps steps text
   pub match : StepsMatch k commands outcomes steps
 
--- that three texts match if `reading` defines how a script is read
+-- `Matches k reading script answers certificate` holds if the three texts match if `reading` defines how a script is
+-- read.
 abbrev pub Matches : CheckerRules → (List ℕ → List Command × ScriptEnding) → List ℕ → List ℕ → List ℕ → Type 0
 Matches k reading script answers certificate = MatchesCommands k (reading script).0 (reading script).1 answers certificate
 
--- That the three texts match. The answers are the lines of these outcomes. The certificate begins with the text of
--- these steps, and the checker accepts each of them after the earlier ones. The ordered steps are those of the
--- script's commands and these outcomes. Once unsat is recorded, the steps end, and `MayBeUnmet` says which expected
--- steps may be missing. Any bytes may follow the steps.
+-- `TextsMatch script answers certificate` holds if the three texts match. The answers are the lines of some outcomes.
+-- The certificate begins with the text of some steps, and the checker accepts each of them after the earlier ones. The
+-- ordered steps are those of the script's commands and these outcomes. Once unsat is recorded, the steps end, and
+-- `MayBeUnmet` says which expected steps may be missing. Any bytes may follow the steps.
 pub record TextsMatch (script answers certificate : List ℕ) : Type 0 where
   pub outcomes : List Outcome
   pub steps : List Step

@@ -13,13 +13,13 @@ use Rattle.certify.specs.declared.judge.names.Names.{Names}
 use Rattle.certify.specs.declared.confirm.variables.NamedVars.{NamedVars}
 use Rattle.certify.specs.declared.verdict.Why.{Why}
 
--- that exactly the steps in `pending` were met
+-- `GoesOnTo pending after old earlier new` holds if exactly the steps in `pending` were met between `old` and `new`.
 pub record GoesOnTo (pending : List Expected) (after : NamedVars) (old : CertificateState) (earlier : List Step) (new : CertificateState) : Type 0 where
   pub later : List Step
   pub valid : CheckerIsAt new.checker after later
   pub leads : MeetsExactly earlier old.rest pending later new.rest
 
--- that the steps in `pending` are met or, with an error, cannot be
+-- `MeetsAll pending before after old new result` holds if the steps in `pending` are met or, with an error, cannot be.
 abbrev pub MeetsAll : List Expected → NamedVars → NamedVars → CertificateState → CertificateState → Result (Unit {0}) Why → Type 0
 MeetsAll pending before after old new (Ok x) = (earlier : List Step) → CheckerIsAt old.checker before earlier → GoesOnTo pending after old earlier new
 MeetsAll pending before after old new (Err why) = (earlier : List Step) → CheckerIsAt old.checker before earlier → MeetsNoneOf earlier old.rest pending
@@ -36,7 +36,8 @@ hidden_by OfSample name = []
 abbrev pub expected_naming : Kind → ℕ → ScriptState → List Expected
 expected_naming kind name j = map NewName (new_names name j) ++ hidden_by kind name
 
--- that the steps that a command expects for one of its names are met or, with an error, cannot be
+-- `MeetsName kind name names before after old new r` holds if the steps that a command of this kind expects for one of
+-- its names are met or, with an error, cannot be.
 abbrev pub MeetsName : Kind → ℕ → Names → NamedVars → NamedVars → CertificateState → CertificateState → Result (Unit {0}) Why → Type 0
 MeetsName kind name names before after old new r = (j : ScriptState) → NamesHaveState names j → MeetsAll (expected_naming kind name j) before after old new r
 
@@ -45,7 +46,8 @@ abbrev pub naming_all : Kind → List ℕ → ScriptState → List Expected
 naming_all kind [] j = []
 naming_all kind (name ∷ names) j = expected_naming kind name j ++ naming_all kind names (taken kind name j)
 
--- that the steps that a command expects for its names are met or, with an error, cannot be
+-- `MeetsNames kind list names before after old new r` holds if the steps that a command of this kind expects for its
+-- names are met or, with an error, cannot be.
 abbrev pub MeetsNames : Kind → List ℕ → Names → NamedVars → NamedVars → CertificateState → CertificateState → Result (Unit {0}) Why → Type 0
 MeetsNames kind list names before after old new r = (j : ScriptState) → NamesHaveState names j → MeetsAll (naming_all kind list j) before after old new r
 
@@ -54,8 +56,8 @@ abbrev pub taken_by : Kind → List ℕ → ScriptState → ScriptState
 taken_by kind [] j = j
 taken_by kind (name ∷ names) j = taken_by kind names (taken kind name j)
 
--- That `naming_all` gives the steps that each kind of command expects. `taken_by` gives the state after the command;
--- for a clause or an ask, that is the state after its names are introduced.
+-- `NamesAreExpected` holds if `naming_all` is the list of steps that each kind of command expects for its names, and
+-- `taken_by` is the state after the command; for a clause or an ask, the state after its names are introduced.
 pub record NamesAreExpected : Type 0 where
   pub clauses : (names : List ℕ) (j : ScriptState) → naming_all OfClause names j ≡ introducing names j
   pub asks : (names : List ℕ) (j : ScriptState) → naming_all OfAsk names j ≡ introducing names j

@@ -3,17 +3,17 @@ use Rattle.std.specs.Prelude.{ℕ, ◌≡◌, List, ◌++◌}
 use Rattle.sat_base.specs.steps.Steps.{Step}
 use Rattle.sat_base.specs.steps.StepText.{SpellsStep}
 
--- how far a certificate was read: the last step, and the bytes after it
+-- the place up to which a certificate was read: its last step, and the bytes after it
 pub record CertificatePlace : Type 0 where
   pub step : Step
   pub rest : List ℕ
 
--- that a step was read from the beginning of the bytes
+-- `ReadsStep old new` holds if a step was read from the beginning of the bytes of `old`.
 pub record ReadsStep (old new : CertificatePlace) : Type 0 where
   pub text : List ℕ
   pub spelt : SpellsStep new.step text
   pub front : old.rest ≡ text ++ new.rest
 
--- that the bytes do not begin with the text of a step
+-- `BeginsNoStep bytes` holds if the bytes do not begin with the text of a step.
 abbrev pub BeginsNoStep : List ℕ → Type 0
 BeginsNoStep bytes = (step : Step) (text rest : List ℕ) → bytes ≡ text ++ rest → SpellsStep step text → ⊥

@@ -20,7 +20,8 @@ abbrev pub script_stop : ReadError → Stop
 script_stop errors.Failed = stop.ScriptRead
 script_stop errors.OutOfMemory = stop.OutOfMemory
 
--- The result of a call that reads only answers. P says what the result means for the remaining answers before and after the call.
+-- `Replies goes result a b P` holds if `P` says what the result of a call that reads only answers means for the
+-- remaining answers before and after the call. If the answers cannot be read, the error says why.
 abbrev pub Replies : {A : Type 0} → Bool → Result A Stop → Source → Source → (List ℕ → List ℕ → Result A Why → Type 0) → Type 0
 Replies goes (Ok x) a b P = TakesSome goes a b × ((total : List ℕ) → Covers b total → P (rest_in total a) (rest_in total b) (Ok x))
 Replies goes (Err (stop.No why)) a b P =
@@ -32,12 +33,12 @@ Replies goes (Err stop.CounterEnd) a b P = ⊥
 Replies goes (Err stop.ScriptRead) a b P = ⊥
 Replies goes (Err stop.TooMany) a b P = ⊥
 
--- no statement about the result
+-- `Any old new r` always holds: it says nothing about the result.
 abbrev pub Any : {A : Type 0} → CertificateState → CertificateState → Result A Why → Type 0
 Any old new r = Unit {0}
 
--- The result of a call that reads answers and certificate. P says what the result means for what remains of both. M holds if there are too many
--- commands.
+-- `Joins M goes result a b s t P` holds if `P` says what the result of a call that reads answers and certificate means
+-- for what remains of both. If the error is `TooMany`, `M` holds.
 abbrev pub Joins : {A : Type 0} → Type 0 → Bool → Result A Stop → Source → Source → Stream → Stream
     → (List ℕ → List ℕ → CertificateState → CertificateState → Result A Why → Type 0) → Type 0
 Joins M goes (Ok x) a b s t P = TakesSome goes a b
@@ -51,7 +52,7 @@ Joins {A} M goes (Err stop.AnswersRead) a b s t P = FaultsAhead a b × Confirms 
 Joins {A} M goes (Err stop.TooMany) a b s t P = NoReadFailedAhead a b × Confirms {A = A} (Err stop.OutOfMemory) s t Any × M
 Joins M goes (Err stop.ScriptRead) a b s t P = ⊥
 
--- that P holds or, with an error, does not hold
+-- `SaysSo P result` holds if `P` holds or, with an error, does not hold.
 abbrev pub SaysSo : Type 0 → Result (Unit {0}) Why → Type 0
 SaysSo P (Ok x) = P
 SaysSo P (Err why) = P → ⊥

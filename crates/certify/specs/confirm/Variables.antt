@@ -8,6 +8,7 @@ abbrev pub variable_in : NamedVars → ℕ → Option ℕ
 variable_in names zero = None
 variable_in names (suc index) = value_at None names.variables index
 
--- that `name` now has this variable, or none, and every other name has the same variable as before
+-- `PutsVariable old new name value` holds if `name` now has this variable, or none, and every other name has the same
+-- variable as before.
 pub record PutsVariable (old new : NamedVars) (name : ℕ) (value : Option ℕ) : Type 0 where
   pub each : (m : ℕ) → variable_in new m ≡ (if name == m then value else variable_in old m)

@@ -14,7 +14,7 @@ use Rattle.certify.specs.declared.verdict.ConfirmFault.TheVariants as fault
 use Rattle.certify.specs.declared.verdict.Verdict.{Verdict}
 use Rattle.certify.specs.declared.verdict.Verdict.TheVariants.{Yes}
 
--- `GaveTextWith r IsSo` is `GaveEnough`, for a reader before and after a call.
+-- `GaveTextWith r IsSo` holds if `GaveEnough` does, for a reader before and after a call.
 abbrev pub GaveTextWith : Reader × Reader → (List ℕ → Type 0) → Type 0
 GaveTextWith r IsSo = GaveEnough r.0 r.1 IsSo
 
@@ -24,8 +24,8 @@ abbrev pub Exact : Reader × Reader → Reader × Reader → Reader × Reader �
 Exact script answers certificate v =
     GaveTextWith script (λ s. GaveTextWith answers (λ a. GaveTextWith certificate (λ c. (v ≡ Yes) ↔ TextsMatch s a c)))
 
--- `IsExact r script answers certificate old new` holds if the call failed, or `Exact` holds for the three readers
--- before and after it.
+-- `IsExact r script answers certificate old new` holds if `r` is an `Err`, or `Exact` holds for the three
+-- readers before and after the call.
 abbrev pub IsExact : {S A C E : Type 0} → Result Verdict E → (S → Reader) → (A → Reader) → (C → Reader)
     → S × A × C → S × A × C → Type 0
 IsExact r script answers certificate old new =
@@ -55,8 +55,8 @@ abbrev pub IsSoundVerdict : Reader × Reader → Reader × Reader → Verdict �
 IsSoundVerdict script answers v = v ≡ Yes → GaveRightAnswers script answers
 
 -- `TakesLooks old new from to` holds if the number of looks did not fall from `from` to `to`, and rose by at most
--- 16 (n + 1)^2, where n is the number of bytes that the reader gave. Steps at the beginning of these bytes account for
--- the rise (`LooksReach`), whatever bytes could follow.
+-- 16 (n + 1)^2, where n is the number of bytes that the reader gave between `old` and `new`. Steps at the beginning of
+-- these bytes account for the rise (`LooksReach`), whatever bytes could follow.
 pub record TakesLooks (old new : Reader) (from to : ℕ) : Type 0 where
   pub text : List ℕ
   pub front : GavePrefix old new text
@@ -69,7 +69,9 @@ abbrev pub command_count : Reading → ℕ
 command_count (commands, Clean) = length commands
 command_count (commands, Malformed) = length commands + 1
 
--- what `confirm` guarantees, except for the looks
+-- `ConfirmGuarantee r script answers certificate` holds if `r` is a result of `confirm` as guaranteed, except for the
+-- looks: a verdict is exact and sound, a reader's fault means that its read failed, no other read failed, `CounterEnd`
+-- is never returned, and at most `most_reads` reads are made of each text.
 pub record ConfirmGuarantee (r : Result Verdict ConfirmFault) (script answers certificate : Reader × Reader) : Type 0 where
   pub exact : IfOk r (Exact script answers certificate)
   pub sound : IfOk r (IsSoundVerdict script answers)

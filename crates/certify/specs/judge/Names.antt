@@ -40,11 +40,12 @@ first_states states (suc n) = first_states states n ++ value_at state.Sampled st
 abbrev pub states_of : Names → List NameState
 states_of names = first_states names.states names.used
 
--- that the table has only the default state for names that were never used
+-- `UnusedAreUnlisted names` holds if the table has only the default state for names that were never used.
 abbrev pub UnusedAreUnlisted : Names → Type 0
 UnusedAreUnlisted names = (v : ℕ) → names.used ≤ v → value_at state.Sampled names.states v ≡ state.Sampled
 
--- that names and modes are those of the script state, and all names are within the limit
+-- `NamesHaveState names j` holds if names and modes are those of the script state `j`, and all names are within the
+-- limit.
 pub record NamesHaveState (names : Names) (j : ScriptState) : Type 0 where
   pub first : j.first_unused ≡ names.used + 1
   pub limit : j.first_unused ≤ var_limit + 1
@@ -55,7 +56,7 @@ pub record NamesHaveState (names : Names) (j : ScriptState) : Type 0 where
   pub modes : length j.modes ≡ j.identity_count
   pub apart : (m n i : ℕ) → identity_of j m ≡ Some i → identity_of j n ≡ Some i → m ≡ n
 
--- whether a name in this state is not in use
+-- `is_hidden state` is true if a name in this state is not in use.
 abbrev pub is_hidden : NameState → Bool
 is_hidden state.Hidden = true
 is_hidden state.Sampled = false
@@ -70,7 +71,7 @@ used_from name (s ∷ ss) = if is_hidden s then used_from (name + 1) ss else nam
 abbrev pub used_in : List NameState → List ℕ
 used_in states = used_from 1 states
 
--- that the literals with these codes are those of the names in use, in order
+-- `ListsUsed names codes` holds if the literals with these codes are those of the names in use, in order.
 abbrev pub ListsUsed : Names → List ℕ → Type 0
 ListsUsed names codes = names_of (named_literals codes) ≡ used_in (states_of names)
 
@@ -84,7 +85,7 @@ abbrev pub refusal_said : Option CodeRefusal → Option Refusal
 refusal_said None = None
 refusal_said (Some refusal) = Some (refusal_in refusal)
 
--- that `refusal` says why the command is refused, or is `None` if it is accepted
+-- `ReportsRefusal refusal names lent` holds if `refusal` is why the command is refused, or `None` if it is accepted.
 abbrev pub ReportsRefusal : Option CodeRefusal → Names → Lent → Type 0
 ReportsRefusal refusal names lent = (j : ScriptState) (c : Command) → NamesHaveState names j → RepresentsCommand lent c → refusal_said refusal ≡ refusal_of j c
 
@@ -93,17 +94,17 @@ abbrev pub limit_refusal : Bool → Option CodeRefusal
 limit_refusal false = None
 limit_refusal true = Some code.Limit
 
--- whether a name in this state is in use, with mode witness
+-- `is_witnessed state` is true if a name in this state is in use, with mode witness.
 abbrev pub is_witnessed : NameState → Bool
 is_witnessed state.Hidden = false
 is_witnessed state.Sampled = false
 is_witnessed state.Witnessed = true
 
--- that the name is in use
+-- `IsInUse names name` holds if the name is in use.
 abbrev pub IsInUse : Names → ℕ → Type 0
 IsInUse names name = state_in (states_of names) name ≡ state.Hidden → ⊥
 
--- that the name is in use after a command that introduces it, if the names before are those of a script state
+-- `ComesInUse old new name` holds if the name is in use in `new`, if the names in `old` are those of a script state.
 abbrev pub ComesInUse : (old new : Names) → ℕ → Type 0
 ComesInUse old new name = (j : ScriptState) → NamesHaveState old j → IsInUse new name
 
@@ -125,11 +126,11 @@ changed_state OfSample name j = with_mode Sampled name j
 abbrev pub taken : Kind → ℕ → ScriptState → ScriptState
 taken kind name j = changed_state kind name (introduce name j)
 
--- that the names change as `change` changes the script state
+-- `Changes old new change` holds if the names change from `old` to `new` as `change` changes the script state.
 abbrev pub Changes : Names → Names → (ScriptState → ScriptState) → Type 0
 Changes old new change = (j : ScriptState) → NamesHaveState old j → NamesHaveState new (change j)
 
--- whether a command of this kind only introduces names
+-- `is_of_literals kind` is true if a command of this kind has literals and only introduces names.
 abbrev pub is_of_literals : Kind → Bool
 is_of_literals OfClause = true
 is_of_literals OfAsk = true
@@ -137,7 +138,8 @@ is_of_literals OfHide = false
 is_of_literals OfWitness = false
 is_of_literals OfSample = false
 
--- that a command of this kind would only introduce names, and none of these names is new
+-- `IntroducesNothing kind list names` holds if a command of this kind only introduces names, and none of the names in
+-- `list` is new.
 pub record IntroducesNothing (kind : Kind) (list : List ℕ) (names : Names) : Type 0 where
   pub of_literals : is_of_literals kind ≡ true
   pub known : (j : ScriptState) → NamesHaveState names j → AllByRecursion (λ name. new_names name j ≡ []) list

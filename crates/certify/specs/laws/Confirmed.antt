@@ -12,8 +12,8 @@ use Rattle.certify.specs.answers.RightAnswers.{AnswersAreRight}
 use Rattle.certify.specs.confirm.Matches.{Matches}
 use Rattle.certify.specs.run.Certifies.{Certifies}
 
--- That the text of correct outcomes matches any accepted steps that certify them, however a script is read. The
--- newest step comes first; the certificate is the text of the steps in reverse.
+-- `CertifiedMatches` holds if the text of correct outcomes matches any accepted steps that certify them, however a
+-- script is read. The newest step comes first; the certificate is the text of the steps in reverse.
 abbrev pub CertifiedMatches : Type 0
 CertifiedMatches =
     (reading : List ℕ → List Command × ScriptEnding) (script certificate : List ℕ) (outcomes : List Outcome) (steps : List Step) (counts : List ℕ)

@@ -38,8 +38,10 @@ pub record VerdictGuarantee (script answers certificate : List ℕ) (v : Verdict
 abbrev pub most_looks_over : List ℕ → ℕ
 most_looks_over certificate = 16 * (length certificate + 1) ^ 2
 
--- What `certify_over` guarantees. A run of `script` wrote `answers` and `certificate`. `own` is the verdict on what it wrote, and `other` the
--- verdict on the answers `claimed` with the certificate `shown`. The number of looks was `before` at the start and is `after` at the end.
+-- `Certified script budget claimed shown summary answers certificate own other before after` holds if a run of `script`
+-- wrote `answers` and `certificate`, `own` is the verdict on what it wrote, and `other` the verdict on the answers
+-- `claimed` with the certificate `shown`, all as `certify_over` guarantees. The number of looks was `before` at the
+-- start and is `after` at the end.
 pub record Certified (script : List ℕ) (budget : ℕ) (claimed shown : List ℕ) (summary : Summary) (answers certificate : List ℕ)
     (own other : Verdict) (before after : ℕ) : Type 0 where
   -- One answer for each accepted ask: a correct model, a correct core, or unknown. An answer is unknown only if its rounds are exhausted, and

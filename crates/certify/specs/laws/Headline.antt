@@ -14,8 +14,7 @@ use Rattle.certify.specs.declared.verdict.Verdict.TheVariants.{Yes}
 
 -- `TookRounds n left taken o` holds if `taken` is at most `left` and below 2^(2n+3), and equals `left` if `o` is
 -- unknown: an ask with outcome `o` was allowed `left` rounds and took `taken`. So `o` is not unknown if at least
--- 2^(2n+3) rounds were left. `n` is the number of variables created so far, including hidden ones. Since a budget is
--- below 2^64, `few` matters only for `n` up to 30.
+-- 2^(2n+3) rounds were left. `n` is the number of variables created so far, including hidden ones.
 pub record TookRounds (n left taken : ℕ) (o : Outcome) : Type 0 where
   pub within : taken ≤ left
   pub few : taken < 2 ^ (2 * n + 3)

@@ -19,40 +19,42 @@ use Rattle.certify.specs.laws.Headline.{Headline}
 use Rattle.certify.specs.declared.summary.Summary.{Summary}
 use Rattle.certify.specs.declared.verdict.Verdict.{Verdict}
 
--- that both definitions read every text alike
+-- `ReadingsAgree` holds if both definitions read every text alike.
 abbrev pub ReadingsAgree : Type 0
 ReadingsAgree = (text : List ℕ) → parse_script text ≡ reading text
 
--- that both definitions give outcomes the same text
+-- `SameAnswers` holds if both definitions give outcomes the same text.
 abbrev pub SameAnswers : Type 0
 SameAnswers = (commands : List Command) (ending : ScriptEnding) (outcomes : List Outcome)
     → event_lines (events 1 initial_state commands ending) outcomes ≡ answers_text commands ending outcomes
 
--- that outcomes are correct for the events of commands exactly when they are correct for the accepted commands
+-- `RightByEvents` holds if outcomes are correct for the events of commands exactly when they are correct for the
+-- accepted commands.
 abbrev pub RightByEvents : Type 0
 RightByEvents = (commands : List Command) (ending : ScriptEnding) (outcomes : List Outcome)
     → AnswersAreRight commands outcomes ↔ EachIsRight (events 1 initial_state commands ending) outcomes
 
--- that answers are correct exactly when they are the text of correct outcomes
+-- `RightByOutcomes` holds if answers are correct exactly when they are the text of correct outcomes.
 abbrev pub RightByOutcomes : Type 0
 RightByOutcomes = (script answers : List ℕ)
     → AreRightAnswers script answers
     ↔ ((outcomes : List Outcome) × (answers ≡ answers_text (reading script).0 (reading script).1 outcomes) × AnswersAreRight (reading script).0 outcomes)
 
--- that three texts match by the short definitions exactly when they match by the definitions that code is proved against
+-- `SameMatches` holds if three texts match by the short definitions exactly when they match by the definitions that
+-- code is proved against.
 abbrev pub SameMatches : Type 0
 SameMatches = (script answers certificate : List ℕ) → TextsMatch script answers certificate ↔ Matches checker_rules reading script answers certificate
 
--- that the answers of three matching texts are correct, by the short definitions
+-- `MatchingAnswersAreRight` holds if the answers of any three matching texts are correct (`AreRightAnswers`).
 abbrev pub MatchingAnswersAreRight : Type 0
 MatchingAnswersAreRight = (script answers certificate : List ℕ) → TextsMatch script answers certificate → AreRightAnswers script answers
 
--- that both definitions agree on whether the answers and the summary of a run are correct
+-- `SameReports` holds if both definitions agree on whether the answers and the summary of a run are correct.
 abbrev pub SameReports : Type 0
 SameReports = (text : List ℕ) (budget : ℕ) (summary : Summary) (answered : List ℕ)
     → ReportsRightly text budget summary answered ↔ AnswersRightly text budget summary answered
 
--- that the guarantee of `certify_over` implies the headline
+-- `CertifiedIsHeadline` holds if the guarantee of `certify_over` implies the headline.
 abbrev pub CertifiedIsHeadline : Type 0
 CertifiedIsHeadline =
     (script : List ℕ) (budget : ℕ) (claimed shown : List ℕ) (summary : Summary) (answers certificate : List ℕ)

@@ -10,14 +10,15 @@ use Rattle.sat_hints.specs.declared.error.HintError.TheVariants.{Refused, HasDel
 use Rattle.certify.specs.run.FinishedRun.{CertificateGuarantee}
 use Rattle.certify.specs.declared.summary.Summary.{Summary}
 
--- that the text is a proof, for some flag `empty` and some numbers of cores and lines
+-- `IsProved text` holds if the text is a proof, for some `empty` and some numbers of cores and lines.
 pub record IsProved (text : List ℕ) : Type 0 where
   pub empty : Bool
   pub cores : ℕ
   pub lines : ℕ
   pub proof : IsProof text empty cores lines
 
--- That the hint text of these steps was written, which is a proof; or a read, a write or an allocation failed.
+-- `HasHints result steps old new` holds if the hint text of these steps was written, which is a proof, or a read, a
+-- write or an allocation failed.
 abbrev pub HasHints : Result (Unit {0}) HintError → List Step → Writer → Writer → Type 0
 HasHints (Ok x) steps old new = WriterAccepts old new (hint_text steps) × IsProved (hint_text steps)
 HasHints (Err HasDeleteVar) steps old new = ⊥
@@ -26,8 +27,8 @@ HasHints (Err Read) steps old new = Unit {0}
 HasHints (Err Write) steps old new = Unit {0}
 HasHints (Err OutOfMemory) steps old new = Unit {0}
 
--- that `HasHints` holds when `convert` reads the certificate of a finished run, if the reader's bytes are known; any
--- bytes may follow it
+-- `RunsHaveHints` holds if `HasHints` holds when `convert` reads the certificate of a finished run, if the reader's
+-- bytes are known; any bytes may follow it.
 abbrev pub RunsHaveHints : Type 0
 RunsHaveHints = (budget : ℕ) (summary : Summary) (text answered certified more : List ℕ) (result : Result (Unit {0}) HintError) (from to : Reader) (old new : Writer)
     → (b : CertificateGuarantee text budget summary answered certified) → from.to_come ≡ Some (certified ++ more)

@@ -12,40 +12,41 @@ use Rattle.certify.specs.answers.RightAnswers.{AnswersAreRight}
 use Rattle.certify.specs.confirm.Matches.{OneOutcomePerAsk, StepsMatch, Matches}
 use Rattle.sat_checker.specs.matching.ProofChecking.{checker_rules}
 
--- that no ask has both a correct model and a correct core
+-- `NotBoth` holds if no ask has both a correct model and a correct core.
 abbrev pub NotBoth : Type 0
 NotBoth = (j : ScriptState) (ask line core : List Literal) → IsRightModel j ask line → IsRightCore j ask core → ⊥
 
--- that clauses with the same literals, in any order and with any repeats, hold under the same valuations
+-- `RepeatChangesNothing` holds if clauses with the same literals, in any order and with any repeats, hold under the
+-- same valuations.
 abbrev pub RepeatChangesNothing : Type 0
 RepeatChangesNothing =
     (j : ScriptState) (ls ks : List Literal) (a : Valuation)
     → AllByRecursion (λ l. Among l ks) ls → AllByRecursion (λ l. Among l ls) ks
     → EachHolds a (with_clause ls j).clauses ↔ EachHolds a (with_clause ks j).clauses
 
--- that a clause that contains both literals of a name changes nothing
+-- `TautologyChangesNothing` holds if a clause that contains both literals of a name changes nothing.
 abbrev pub TautologyChangesNothing : Type 0
 TautologyChangesNothing =
     (j : ScriptState) (name : ℕ) (ls : List Literal) (a : Valuation)
     → Among (record { name = name; positive = true }) ls → Among (record { name = name; positive = false }) ls
     → EachHolds a (with_clause ls j).clauses ↔ EachHolds a j.clauses
 
--- that an ask does not change the clauses
+-- `AskBindsNothing` holds if no ask changes the clauses.
 abbrev pub AskBindsNothing : Type 0
 AskBindsNothing = (j : ScriptState) (ls : List Literal) → (state_after_accepted (Ask ls) j).clauses ≡ j.clauses
 
--- that the state after an ask depends only on the names in the ask, not on their signs
+-- `AskLeavesNames` holds if the state after an ask depends only on the names in the ask, not on their signs.
 abbrev pub AskLeavesNames : Type 0
 AskLeavesNames = (j : ScriptState) (ls ks : List Literal) → names_of ls ≡ names_of ks → state_after_accepted (Ask ls) j ≡ state_after_accepted (Ask ks) j
 
--- that no name of an outcome is past the limit
+-- `HasPrintableNames o` holds if no name of the outcome is past the limit.
 abbrev pub HasPrintableNames : Outcome → Type 0
 HasPrintableNames (Sat line) = AllByRecursion (λ l. l.name ≤ var_limit) line
 HasPrintableNames (Unsat core) = AllByRecursion (λ l. l.name ≤ var_limit) core
 HasPrintableNames Unknown = Unit {0}
 
--- that different lists of outcomes give different answers, if each has one outcome for every accepted ask and no name
--- past the limit
+-- `TextsDetermineOutcomes` holds if different lists of outcomes give different answers, provided that each has one
+-- outcome for every accepted ask and no name past the limit.
 abbrev pub TextsDetermineOutcomes : Type 0
 TextsDetermineOutcomes =
     (commands : List Command) (ending : ScriptEnding) (vs ws : List Outcome)
@@ -54,12 +55,13 @@ TextsDetermineOutcomes =
     → answers_text commands ending vs ≡ answers_text commands ending ws
     → vs ≡ ws
 
--- that outcomes are correct if they match steps that the checker accepts
+-- `MatchingIsRight` holds if outcomes are correct whenever they match some steps (`StepsMatch`).
 abbrev pub MatchingIsRight : Type 0
 MatchingIsRight = (commands : List Command) (outcomes : List Outcome) (steps : List Step)
     → StepsMatch checker_rules commands outcomes steps → AnswersAreRight commands outcomes
 
--- that the answers of three matching texts are the text of correct outcomes, however a script is read
+-- `TextsThatMatchAreRight` holds if the answers of three matching texts are the text of correct outcomes, however a
+-- script is read.
 abbrev pub TextsThatMatchAreRight : Type 0
 TextsThatMatchAreRight =
     (reading : List ℕ → List Command × ScriptEnding) (script answers certificate : List ℕ)

@@ -15,14 +15,16 @@ pub data Request : Type 0 where
   Hints : (certificate hints : List ℕ) → Request
   Check : (hints : List ℕ) → Request
 
--- that an argument is a number of rounds in decimal digits
+-- `IsRoundCount word steps` holds if the argument has only decimal digits, at least one, and spells `steps`, which is
+-- at most 2^64 - 1.
 pub record IsRoundCount (word : List ℕ) (steps : ℕ) : Type 0 where
   pub digits : all_ascii_digits word ≡ true
   pub some : 0 < length word
   pub value : steps ≡ digits_value 10 word
   pub fits : steps ≤ most_rounds
 
--- that the arguments are none, `run S A C [STEPS]`, `confirm S A C`, `hints C H` or `check H`
+-- `IsUsage words request` holds if the arguments spell this request: they are none, `run S A C [STEPS]`, `confirm S A
+-- C`, `hints C H` or `check H`.
 abbrev pub IsUsage : List (List ℕ) → Request → Type 0
 IsUsage words Standard = words ≡ []
 IsUsage words (Run s a c budget) = ((words ≡ codes "run" ∷ s ∷ a ∷ c ∷ []) × (budget ≡ most_rounds))
@@ -31,7 +33,7 @@ IsUsage words (Confirm s a c) = words ≡ codes "confirm" ∷ s ∷ a ∷ c ∷ 
 IsUsage words (Hints c h) = words ≡ codes "hints" ∷ c ∷ h ∷ []
 IsUsage words (Check h) = words ≡ codes "check" ∷ h ∷ []
 
--- that no output has the same argument as the input, so the input is not overwritten
+-- `KeepsInput request` holds if the argument for the input is not that for an output, byte for byte.
 abbrev pub KeepsInput : Request → Type 0
 KeepsInput Standard = Unit {0}
 KeepsInput (Run s a c budget) = (a ≡ s → ⊥) × (c ≡ s → ⊥)
@@ -39,11 +41,11 @@ KeepsInput (Confirm s a c) = Unit {0}
 KeepsInput (Hints c h) = h ≡ c → ⊥
 KeepsInput (Check h) = Unit {0}
 
--- that the arguments are a call whose outputs differ from its input
+-- `AsksFor words request` holds if the arguments ask for this request, and its outputs differ from its input.
 abbrev pub AsksFor : List (List ℕ) → Request → Type 0
 AsksFor words request = IsUsage words request × KeepsInput request
 
--- that the arguments are not such a call
+-- `AsksNothing words` holds if the arguments ask for no request.
 abbrev pub AsksNothing : List (List ℕ) → Type 0
 AsksNothing words = (request : Request) → AsksFor words request → ⊥
 
@@ -52,7 +54,7 @@ abbrev pub NamesFiles : Request → Type 0
 NamesFiles Standard = ⊥
 NamesFiles request = Unit {0}
 
--- that the call writes files
+-- `WritesFiles request` holds if the request is one that writes files.
 abbrev pub WritesFiles : Request → Type 0
 WritesFiles Standard = ⊥
 WritesFiles (Run s a c budget) = Unit {0}
@@ -76,15 +78,17 @@ request_of (call.Confirm files) = confirming files
 request_of (call.Hints certificate hints) = Hints certificate.now hints.now
 request_of (call.Check hints) = Check hints.now
 
--- that the call is what the arguments ask for, or there is no call and they ask for nothing
+-- `IsParsedAs words answer` holds if the call is what the arguments ask for, or there is no call and they ask for
+-- nothing.
 abbrev pub IsParsedAs : List (List ℕ) → Option Call → Type 0
 IsParsedAs words answer = MatchOption answer (AsksNothing words) (λ c. AsksFor words (request_of c))
 
--- that the call is this request, which preserves its input, or there is no call and the request does not preserve its input
+-- `AllowsRequest answer request` holds if the call is this request, which preserves its input, or there is no call and
+-- the request does not preserve its input.
 abbrev pub AllowsRequest : Option Call → Request → Type 0
 AllowsRequest answer request = MatchOption answer (KeepsInput request → ⊥) (λ c. (request_of c ≡ request) × KeepsInput request)
 
--- that the status is 0 or 1 unless there was an error
+-- `HasStatus r` holds if the status is 0 or 1 unless there was an error.
 abbrev pub HasStatus : {E : Type 0} → Result ℕ E → Type 0
 HasStatus r = IfOk r (λ status. status ≤ 1)
 

@@ -8,7 +8,7 @@ use Rattle.sat_base.specs.declared.device.counted.Counted.{Counted}
 abbrev pub given_before : List ℕ → List ℕ → ℕ
 given_before given kept = length given - length kept
 
--- that the bytes kept are the last of those given
+-- `IsCopy given kept` holds if the bytes kept are the last of those given.
 abbrev pub IsCopy : List ℕ → List ℕ → Type 0
 IsCopy given kept = drop (given_before given kept) given ≡ kept
 
@@ -29,7 +29,8 @@ kept_reader r kept refusals = record {
   loans = given_before r.given kept ∷ r.loans;
 }
 
--- that a reader gave enough for P, all bytes that it gave were kept and are enough too, and no read failed
+-- `GaveKept old new kept P` holds if the reader gave enough for `P`, the bytes `kept` are enough too, and no read
+-- failed.
 pub record GaveKept (old new : Reader) (kept : List ℕ) (P : List ℕ → Type 0) : Type 0 where
   pub gave : GaveEnough old new P
   pub copy : P kept

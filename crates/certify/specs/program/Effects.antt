@@ -32,48 +32,58 @@ PrintsNothing e = e.output.1 ≡ e.output.0
 abbrev pub LeavesStreams : Effect → Type 0
 LeavesStreams e = ReadsNothing e × PrintsNothing e
 
--- `Ends status Done Cut` holds if the status is 0 or 1, and `Done` holds; or if it is 3, after a fault, and `Cut` holds.
+-- `Ends status Done Cut` holds if the status is 0 or 1, and `Done` holds; or if it is 3, and `Cut` holds.
 abbrev pub Ends : ℕ → (Done Cut : Type 0) → Type 0
 Ends status Done Cut = ((status ≤ 1) × Done) ⊎ ((status ≡ 3) × Cut)
 
--- `certify`: the answers to the bytes that were read from standard input were printed, whatever bytes could follow, and then `c confirmed`. After
--- a fault, nothing was printed, or the answers alone, or a write failed.
+-- `StandardCall e` holds in two cases. With status 0 or 1, the answers to the bytes that were read from standard input
+-- were printed, whatever bytes could follow, and then `c confirmed`. With status 3, nothing was printed, or the answers
+-- alone, or a write failed after a prefix of what is due. In both, `ReadsToFailure` and `StopsReading` hold of standard
+-- input.
 abbrev pub StandardCall : Effect → Type 0
 StandardCall e = ReadsToFailure e.input × StopsReading e.input.0 e.input.1 × Ends e.status
     (Prints e.status e.input e.output)
     (PrintsNothing e ⊎ PrintsCut e.input e.output)
 
--- `certify run S A C [STEPS]`: the answers to S were written to A, and their certificate to C. After a fault, A received a prefix of correct
--- answers, and C a prefix of accepted steps. Nothing is printed.
+-- `RunCall budget script answers certificate e` holds in two cases. With status 0 or 1, the answers and the certificate
+-- of a finished run were written. With status 3, a prefix of correct answers and a prefix of accepted steps were
+-- written. In both, standard input and output are left alone, and `RunsToFailure` and `StopsReading` hold.
 abbrev pub RunCall : (budget : ℕ) → Reader × Reader → (answers certificate : Writer × Writer) → Effect → Type 0
 RunCall budget script answers certificate e = LeavesStreams e × RunsToFailure script answers certificate × StopsReading script.0 script.1 × Ends e.status
     (Ran e.status budget script answers certificate)
     (Stopped budget script answers certificate)
 
--- `certify confirm S A C`: it was printed whether the three texts match. After a fault, nothing was printed, or writing the right line failed.
+-- `ConfirmCall script answers certificate e` holds in two cases. With status 0 or 1, the line was printed that says
+-- whether the three texts match. With status 3, nothing was printed, or writing a correct line failed after a prefix.
+-- In both, standard input is not read, and `ConfirmsToFailure` and `StopsReading` hold.
 abbrev pub ConfirmCall : (script answers certificate : Reader × Reader) → Effect → Type 0
 ConfirmCall script answers certificate e = ReadsNothing e × ConfirmsToFailure script answers certificate × StopsReading script.0 script.1 × Ends e.status
     (PrintsYesOrNo e.status script answers certificate e.output)
     (PrintsNothing e ⊎ CutsYesOrNo script answers certificate e.output)
 
--- `certify hints C H`: the hint text of C was written to H, or C has none. After a fault, H received a prefix of the hint text. Nothing is
--- printed.
+-- `HintsCall certificate hints e` holds in two cases. With status 0 or 1, the hint text of the certificate was written,
+-- or the certificate has none. With status 3, a prefix of a hint text was written. In both, standard input and output
+-- are left alone.
 abbrev pub HintsCall : (certificate : Reader × Reader) → (hints : Writer × Writer) → Effect → Type 0
 HintsCall certificate hints e = LeavesStreams e × Ends e.status
     (WritesHints e.status certificate hints)
     (CutsHints certificate hints)
 
--- `certify check H`: the verdict on the hint text H was printed. After a fault, nothing was printed, or writing the right line failed.
+-- `CheckCall hints e` holds in two cases. With status 0 or 1, the line for the verdict on the hint text was printed.
+-- With status 3, nothing was printed, or writing a correct line failed after a prefix. In both, standard input is not
+-- read, and `ReadsToFailure` holds.
 abbrev pub CheckCall : (hints : Reader × Reader) → Effect → Type 0
 CheckCall hints e = ReadsNothing e × ReadsToFailure hints × Ends e.status
     (PrintsHintVerdict e.status hints e.output)
     (PrintsNothing e ⊎ CutsHintVerdict hints e.output)
 
--- Other arguments: nothing is read or written but the usage, on standard error.
+-- `Misuse e` holds if the status is 2, nothing was read from standard input, and nothing was written to standard
+-- output.
 abbrev pub Misuse : Effect → Type 0
 Misuse e = (e.status ≡ 2) × LeavesStreams e
 
--- Arguments that could not be read: with status 3 if memory ran out, otherwise with status 2, since they are not text.
+-- `Unread error e` holds if nothing was read from standard input or written to standard output, and the status is 3 if
+-- the error is that memory ran out, and otherwise 2.
 abbrev pub Unread : Error → Effect → Type 0
 Unread error e = LeavesStreams e
     × (((error_kind error ≡ OutOfMemory) × (e.status ≡ 3)) ⊎ ((error_kind error ≡ OutOfMemory → ⊥) × (e.status ≡ 2)))

@@ -9,7 +9,7 @@ use Rattle.certify.specs.declared.program.opened.OpenCall.{OpenCall}
 use Rattle.certify.specs.declared.program.opened.OpenCall.TheVariants as opened
 
 module _ {F : Type 0} (remaining : F → Option (List ℕ)) where
-  -- `IsUnread path file` holds if the file was opened at this path, and has not been read yet.
+  -- `IsUnread path file` holds if the file has this path, and no bytes or calls are counted for it yet.
   pub record IsUnread (path : List ℕ) (file : OpenFile F) : Type 0 where
     pub at : file.path.now ≡ path
     pub unread : reader_of remaining file.device ≡ new_reader (remaining (device_of file.device))
@@ -19,7 +19,7 @@ module _ {F : Type 0} (remaining : F → Option (List ℕ)) where
   read_of old new = (reader_of remaining old.device, reader_of remaining new.device)
 
 module _ {G : Type 0} (contents : G → Option (List ℕ)) where
-  -- `IsUnwritten path file` holds if the file was created at this path, and has not been written yet.
+  -- `IsUnwritten path file` holds if the file has this path, and no bytes or calls are counted for it yet.
   pub record IsUnwritten (path : List ℕ) (file : OpenFile G) : Type 0 where
     pub at : file.path.now ≡ path
     pub unwritten : writer_of contents file.device ≡ new_writer (contents (device_of file.device))
@@ -29,7 +29,7 @@ module _ {G : Type 0} (contents : G → Option (List ℕ)) where
   written_of old new = (writer_of contents old.device, writer_of contents new.device)
 
 module _ {F G : Type 0} (remaining : F → Option (List ℕ)) (contents : G → Option (List ℕ)) where
-  -- `IsOpenedFor request call` holds if the files of the request were opened, and nothing else was done.
+  -- `IsOpenedFor request call` holds if the call has the request's files and budget, and nothing is counted for these files yet.
   abbrev pub IsOpenedFor : Request → OpenCall F G → Type 0
   IsOpenedFor Standard opened.Standard = Unit {0}
   IsOpenedFor (Run s a c budget) (opened.Run run) =
@@ -40,7 +40,8 @@ module _ {F G : Type 0} (remaining : F → Option (List ℕ)) (contents : G → 
   IsOpenedFor (Check h) (opened.Check hints) = IsUnread remaining h hints
   IsOpenedFor request call = ⊥
 
-  -- What a call with open files does, given these files before and after. It is carried out with all of them.
+  -- `DoesCall old new e` holds if the call was carried out with its open files. They are those in `old` before, and
+  -- those in `new` after.
   abbrev pub DoesCall : OpenCall F G → OpenCall F G → Effect → Type 0
   DoesCall opened.Standard opened.Standard e = StandardCall e
   DoesCall (opened.Run old) (opened.Run new) e = RunCall old.budget (read_of remaining old.script new.script)

@@ -40,13 +40,13 @@ abbrev pub hint_verdict_text : HintVerdict → List ℕ
 hint_verdict_text (Proved empty cores lines) = proved_text empty cores lines
 hint_verdict_text (Bad line cause) = bad_text line cause
 
--- whether the verdict says that the hint text is a proof
+-- Returns `true` if the verdict says that the hint text is a proof.
 abbrev pub is_proved : HintVerdict → Bool
 is_proved (Proved empty cores lines) = true
 is_proved (Bad line cause) = false
 
--- That the verdict on the text that a reader gave was printed, whatever bytes could follow. The status is 0 exactly when the verdict is that the
--- text is a proof.
+-- `PrintsHintVerdict status input output` holds if the verdict on the text that the reader gave was printed, whatever
+-- bytes could follow, and no read failed. The status is 0 exactly when the verdict is that the text is a proof.
 pub record PrintsHintVerdict (status : ℕ) (input : Reader × Reader) (output : Writer × Writer) : Type 0 where
   pub verdict : HintVerdict
   pub judges : GaveEnough input.0 input.1 (VerdictHolds verdict)
@@ -69,14 +69,16 @@ status_after (Err error.Read) = None
 status_after (Err error.Write) = None
 status_after (Err error.OutOfMemory) = None
 
--- That a certificate was read, and its hint text was written and flushed or, with status 1, there is none.
+-- `WritesHints status certificate hints` holds if the certificate was converted and, with status 0, its hint text was
+-- written and flushed; or if, with status 1, it has none.
 pub record WritesHints (status : ℕ) (certificate : Reader × Reader) (hints : Writer × Writer) : Type 0 where
   pub answer : Result (Unit {0}) HintError
   pub converts : Converts answer certificate.0 certificate.1 hints.0 hints.1
   pub following : status_after answer ≡ Some status
   pub flushed : status ≡ 0 → hints.1.flushed ≡ true
 
--- That a read, a write or an allocation failed while a certificate was converted; or its hint text was written, and the flush failed.
+-- `CutsHints certificate hints` holds if a read, a write or an allocation failed while the certificate was converted,
+-- or 2^48 reads were made; or if its hint text was written, and the flush failed.
 abbrev pub CutsHints : Reader × Reader → Writer × Writer → Type 0
 CutsHints certificate hints =
     ((answer : Result (Unit {0}) HintError) × Converts answer certificate.0 certificate.1 hints.0 hints.1 × (status_after answer ≡ None))

@@ -79,7 +79,7 @@ abbrev pub yes_or_no_text : Verdict → List ℕ
 yes_or_no_text Yes = codes "yes" ++ 10 ∷ []
 yes_or_no_text (No ask why) = codes "no " ++ no_text ask why
 
--- whether the script is malformed
+-- Returns `true` if the script is malformed.
 abbrev pub is_malformed : ScriptEnding → Bool
 is_malformed Clean = false
 is_malformed Malformed = true
@@ -92,33 +92,39 @@ pub record RunOf (text : List ℕ) (budget : ℕ) : Type 0 where
   pub fits : length certificate < 2 ^ 63
   pub guarantee : CertificateGuarantee text budget summary answers certificate
 
--- that a run with the largest budget wrote correct answers to a text in memory, and their certificate
+-- `IsWritten text w` holds if a run with the largest budget wrote correct answers to a text in memory, and their
+-- certificate.
 abbrev pub IsWritten : List ℕ → Written → Type 0
 IsWritten text w = CertificateGuarantee text most_rounds w.summary w.answers.items w.certificate.items
 
--- That the answers of a finished run were printed, and then `c confirmed`. The status is 0 exactly when its script is not malformed.
+-- `PrintsWritten status w old new` holds if the answers of the finished run `w` were printed, and then `c confirmed`.
+-- The status is 0 exactly when its script is not malformed.
 pub record PrintsWritten (status : ℕ) (w : Written) (old new : Writer) : Type 0 where
   pub printed : WriterAccepts old new (w.answers.items ++ verdict_text Yes)
   pub flushed : new.flushed ≡ true
   pub done : (status ≡ 0) ↔ (is_some w.summary.malformed ≡ false)
 
--- that the answers of a finished run were printed, and nothing else; or writing them and the line `c confirmed` failed after a prefix
+-- `CutsWritten w old new` holds if the answers of the finished run `w` were printed, and nothing else, or writing them
+-- and the line `c confirmed` failed after a prefix.
 abbrev pub CutsWritten : Written → Writer → Writer → Type 0
 CutsWritten w old new = WriterAccepts old new w.answers.items ⊎ WriterFails old new (w.answers.items ++ verdict_text Yes)
 
--- That the answers of a run of a text were printed, and then `c confirmed`. The status is 0 exactly when the text is not malformed.
+-- `PrintsRun status text old new` holds if the writer received the answers of a run of the text, and then `c
+-- confirmed`, and was flushed last. The status is 0 exactly when the text is not malformed.
 pub record PrintsRun (status : ℕ) (text : List ℕ) (old new : Writer) : Type 0 where
   pub run : RunOf text most_rounds
   pub printed : WriterAccepts old new (run.answers ++ verdict_text Yes)
   pub flushed : new.flushed ≡ true
   pub done : (status ≡ 0) ↔ (is_malformed (reading text).1 ≡ false)
 
--- that `PrintsRun` holds for the text that a reader gave, whatever bytes could follow, and no read failed
+-- `Prints status input output` holds if `PrintsRun` holds for the text that the reader gave, whatever bytes could
+-- follow, and no read failed.
 pub record Prints (status : ℕ) (input : Reader × Reader) (output : Writer × Writer) : Type 0 where
   pub given : GaveEnough input.0 input.1 (λ text. PrintsRun status text output.0 output.1)
   pub read : NoReadFailed input
 
--- That the answers of a run of a text were printed, and nothing else; or writing them and the line `c confirmed` failed after a prefix.
+-- `CutsRun text old new` holds if the writer received the answers of a run of the text, and nothing else; or if writing
+-- them and the line `c confirmed` failed after a prefix.
 pub record CutsRun (text : List ℕ) (old new : Writer) : Type 0 where
   pub run : RunOf text most_rounds
   pub printed : WriterAccepts old new run.answers ⊎ WriterFails old new (run.answers ++ verdict_text Yes)
@@ -128,13 +134,16 @@ pub record PrintsCut (input : Reader × Reader) (output : Writer × Writer) : Ty
   pub given : GaveEnough input.0 input.1 (λ text. CutsRun text output.0 output.1)
   pub read : NoReadFailed input
 
--- That a line was printed. The status is 0 exactly when `IsSo` holds.
+-- `PrintsLine status line IsSo old new` holds if the writer received the line, and was flushed last. The status is 0
+-- exactly when `IsSo` holds.
 pub record PrintsLine (status : ℕ) (line : List ℕ) (IsSo : Type 0) (old new : Writer) : Type 0 where
   pub printed : WriterAccepts old new line
   pub flushed : new.flushed ≡ true
   pub done : (status ≡ 0) ↔ IsSo
 
--- That it was printed whether the texts that three readers gave match, whatever bytes could follow. The status is 0 exactly when they do.
+-- `PrintsYesOrNo status script answers certificate output` holds if the line was printed that says whether the texts
+-- that the three readers gave match, whatever bytes could follow, and no read failed. The status is 0 exactly when they
+-- do.
 pub record PrintsYesOrNo (status : ℕ) (script answers certificate : Reader × Reader) (output : Writer × Writer) : Type 0 where
   pub verdict : Verdict
   pub exact : Exact script answers certificate verdict
@@ -148,7 +157,9 @@ pub record CutsYesOrNo (script answers certificate : Reader × Reader) (output :
   pub printed : WriterFails output.0 output.1 (yes_or_no_text verdict)
   pub read : NoReadFailed script × NoReadFailed answers × NoReadFailed certificate
 
--- That the answers to the text that a reader gave were written, and their certificate. The status is 0 exactly when the text is not malformed.
+-- `Ran status budget script answers certificate` holds if the writers received the answers and the certificate of a
+-- finished run of the text that the reader gave, and were flushed last. The status is 0 exactly when the text is not
+-- malformed.
 pub record Ran (status budget : ℕ) (script : Reader × Reader) (answers certificate : Writer × Writer) : Type 0 where
   pub summary : Summary
   pub guaranteed : TookCertificate budget summary script answers certificate

@@ -10,14 +10,14 @@ module _ {F G : Type 0} (remaining : F → Option (List ℕ)) (contents : G → 
   abbrev pub IsCarriedOut : Request → Effect → Type 0
   IsCarriedOut request e = (old : OpenCall F G) × (new : OpenCall F G) × IsOpenedFor remaining contents request old × DoesCall remaining contents old new e
 
-  -- `DoesRequest request e` holds if the request was carried out. Otherwise standard input and output are left alone: with status 2, the request was
-  -- refused, since an output is another file of the call; with status 3, one of its files could not be opened.
+  -- `DoesRequest request e` holds if the request was carried out; or if standard input and output were left alone, and a request that writes files
+  -- ended with status 2, or one that names files with status 3.
   abbrev pub DoesRequest : Request → Effect → Type 0
   DoesRequest request e = IsCarriedOut request e
       ⊎ (WritesFiles request × (e.status ≡ 2) × LeavesStreams e)
       ⊎ (NamesFiles request × (e.status ≡ 3) × LeavesStreams e)
 
   -- THE PROGRAM
-  -- `Obeys words e` holds if the arguments ask for a request, and it was done; or if they ask for none, and the usage was reported.
+  -- `Obeys words e` holds if the arguments ask for a request, and it was done; or if they ask for none, the status is 2, and standard input and output were left alone.
   abbrev pub Obeys : List (List ℕ) → Effect → Type 0
   Obeys words e = ((request : Request) × AsksFor words request × DoesRequest request e) ⊎ (AsksNothing words × Misuse e)

@@ -12,7 +12,8 @@ use Rattle.sat_checker.specs.Accepts.{ready_after}
 use Rattle.sat_checker.specs.matching.Checking.{is_ordered}
 use Rattle.sat_solver.specs.session.Quiet.{others_of}
 
--- that unit propagation over the stored clauses leads from the first list of literals to the second
+-- `PropagatesTo f ls ks` holds if unit propagation over the stored clauses leads from the literals `ls` to the literals
+-- `ks`.
 pub data PropagatesTo (f : Stored) : List ℕ → List ℕ → Type 0 where
   leads_none : {ls : List ℕ} → PropagatesTo f ls ls
   leads_one : {ls ks : List ℕ} (clause : List ℕ) (open_literal : ℕ) → Among clause (long_clauses f) → IsUnit ls clause open_literal
@@ -22,33 +23,36 @@ pub data PropagatesTo (f : Stored) : List ℕ → List ℕ → Type 0 where
 abbrev pub start_literals : Stored → List ℕ → List ℕ
 start_literals f others = map negated others ++ unit_literals f
 
--- that the reached literals contain neither the literal nor its negation, and falsify no stored clause
+-- `StaysUnassignedInStored f literal reached` holds if the reached literals contain neither the literal nor its
+-- negation, and falsify no stored clause.
 pub record StaysUnassignedInStored (f : Stored) (literal : ℕ) (reached : List ℕ) : Type 0 where
   pub not_true : is_among reached literal ≡ false
   pub not_false : is_among reached (negated literal) ≡ false
   pub no_conflict : (clause : List ℕ) → Among clause (long_clauses f) → IsFalsified reached clause → ⊥
 
--- That the literals of `start_literals` do not contradict each other and leave `literal` unassigned. No unit
--- propagation from them over stored clauses assigns `literal` or falsifies a clause.
+-- `LeavesUnassigned f others literal` holds if the literals of `start_literals` do not contradict each other, and no
+-- unit propagation from them over stored clauses assigns `literal` or falsifies a clause.
 pub record LeavesUnassigned (f : Stored) (others : List ℕ) (literal : ℕ) : Type 0 where
   pub agree : (l : ℕ) → is_among (start_literals f others) l ≡ true → is_among (start_literals f others) (negated l) ≡ false
   pub open_still : (reached : List ℕ) → PropagatesTo f (start_literals f others) reached → StaysUnassignedInStored f literal reached
 
--- That the clause is new to unit propagation: for some literal of it, the negations of the other literals leave that literal unassigned.
+-- `IsEmpoweringFor f clause` holds if the clause is new to unit propagation: for some literal of it, the negations of
+-- the other literals leave that literal unassigned.
 abbrev pub IsEmpoweringFor : Stored → List ℕ → Type 0
 IsEmpoweringFor f clause = (literal : ℕ) × (is_among clause literal ≡ true) × LeavesUnassigned f (others_of literal clause) literal
 
--- that the step derives an empowering clause
+-- `DerivesEmpowering f step` holds if the step derives an empowering clause.
 abbrev pub DerivesEmpowering : Stored → Step → Type 0
 DerivesEmpowering f (AtClause redundant clause hashes) = IsEmpoweringFor f clause
 DerivesEmpowering f step = ⊥
 
--- that exactly `k` of these steps derive an empowering clause, judged after the steps before it
+-- `CountsEmpoweringFor earlier steps k` holds if exactly `k` of the steps derive an empowering clause, each judged
+-- after the steps before it.
 abbrev pub CountsEmpoweringFor : (earlier steps : List Step) → ℕ → Type 0
 CountsEmpoweringFor earlier [] k = k ≡ 0
 CountsEmpoweringFor earlier (step ∷ steps) k = (CountsEmpoweringFor earlier steps k × (DerivesEmpowering (ready_after (steps ++ earlier)) step → ⊥))
     ⊎ ((j : ℕ) × (k ≡ j + 1) × DerivesEmpowering (ready_after (steps ++ earlier)) step × CountsEmpoweringFor earlier steps j)
 
--- that none of the steps is an ordered step
+-- `AreUnordered steps` holds if none of the steps is an ordered step.
 abbrev pub AreUnordered : List Step → Type 0
 AreUnordered = AllByRecursion (λ step. is_ordered step ≡ false)

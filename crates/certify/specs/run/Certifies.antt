@@ -7,19 +7,21 @@ use Rattle.sat_checker.specs.Fold.{Holds}
 use Rattle.sat_checker.specs.matching.Checking.{CheckerRules, is_ordered}
 use Rattle.sat_checker.specs.matching.Expected.{Outcome, Unsat, Expected, Opens, Adds, Shows, Fails, Closes, Fits}
 
--- that a checker that was fed these steps has recorded unsat, and no valuation satisfies their clauses
+-- `IsRecorded k earlier` holds if a checker that was fed these steps has recorded unsat, and no valuation satisfies
+-- their clauses.
 pub record IsRecorded (k : CheckerRules) (earlier : List Step) : Type 0 where
   pub recorded : k.unsat earlier ≡ true
   pub none : (a : Valuation) → Holds earlier a → ⊥
 
--- that the expected step may be left out once unsat is recorded: a clause, or the empty core
+-- `MayBeLeftOut e` holds if the expected step may be left out once unsat is recorded: it is a clause, or the empty
+-- core.
 abbrev pub MayBeLeftOut : Expected → Type 0
 MayBeLeftOut (Adds ls) = Unit {0}
 MayBeLeftOut (Fails ask core) = core ≡ []
 MayBeLeftOut e = ⊥
 
--- That the expected step may be written. Once unsat is recorded, there is no step for a model or a core. How an ask is opened and closed is
--- stated separately.
+-- `MayOccur unsat e` holds if the expected step may be written, and does not open or close an ask. Once unsat is
+-- recorded, there is no step for a model or a core.
 abbrev pub MayOccur : Bool → Expected → Type 0
 MayOccur unsat (Shows names ask line) = unsat ≡ false
 MayOccur unsat (Fails ask core) = unsat ≡ false
@@ -27,14 +29,15 @@ MayOccur unsat (Opens ask outcome) = ⊥
 MayOccur unsat Closes = ⊥
 MayOccur unsat e = Unit {0}
 
--- that an ask is answered with the empty core, without a round of search
+-- `IsKnown o n` holds if the outcome is the empty core, and the number of rounds is 0.
 pub record IsKnown (o : Outcome) (n : ℕ) : Type 0 where
   pub outcome : o ≡ Unsat []
   pub rounds : n ≡ 0
 
--- That the steps after `earlier`, up to `all`, contain the expected steps in order, among unordered steps; `MayBeLeftOut`
--- says which may be left out. No step follows the last expected step. `counts` are the rounds of the asks. The
--- `Option` is the outcome of the ask that is open at first, if any.
+-- `Certifies k all current earlier es counts` holds if the steps after `earlier`, up to `all`, contain the expected
+-- steps `es` in order, among unordered steps; `MayBeLeftOut` says which may be left out. No step follows the last
+-- expected step. `counts` are the rounds of the asks, and `current` is the outcome of the ask that is open at first, if
+-- any.
 pub data Certifies (k : CheckerRules) (all : List Step) : Option Outcome → List Step → List Expected → List ℕ → Type 0 where
   complete : Certifies k all None all [] []
   left_out : {current : Option Outcome} {earlier : List Step} {e : Expected} {es : List Expected} {counts : List ℕ}

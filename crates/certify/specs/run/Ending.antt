@@ -6,70 +6,73 @@ use Rattle.sat_base.specs.device.Sink.{empty_sink}
 use Rattle.sat_solver.specs.declared.proof.format.ProofFormat.TheVariants.{Varisat}
 use Rattle.sat_solver.specs.declared.proof.hash_bits.Counting.{Counting}
 use Rattle.sat_solver.specs.proof.Counting.{nothing_counted as uncounted}
-use Rattle.sat_solver.specs.session.Making.{ComesBySteps, BreaksEmitting}
-use Rattle.sat_solver.specs.proof.ProofView.{Closed, Open, GivesWriter, TakesAll, is_open, target_of}
+use Rattle.sat_solver.specs.proof.ProofView.{Closed, Open, GivesWriter, TakesAll, is_open}
 use Rattle.sat_solver.specs.session.Session.{AreAllowedSteps}
-use Rattle.sat_solver.specs.solver.Prefixes.{ReachesBySteps}
-use Rattle.sat_solver.specs.solver.Whole.{steps_in}
+use Rattle.sat_solver.specs.facade.Calls.{MakesSteps, ReachesBySteps}
+use Rattle.sat_solver.specs.facade.Recording.{BreaksWriting}
 use Rattle.certify.specs.Devices.{NoneFailed, OneFailed}
 use Rattle.certify.specs.declared.fault.RunFault.{RunFault}
 use Rattle.certify.specs.declared.run.session.RunState.{RunState}
 use Rattle.certify.specs.declared.summary.Summary.{Summary}
 use Rattle.certify.specs.run.Unfinished.{TookBytes, TookSteps}
-use Rattle.sat_solver.specs.solver.View.{proof_in}
 use Rattle.certify.specs.run.SolverCalls.{FaultSays, IsCaused}
-use Rattle.certify.specs.run.Quiet.{Proof, Solver}
+use Rattle.certify.specs.run.Quiet.{Solver}
 
--- that the proof has a target, open or broken
-abbrev pub HasTarget : {C : Type 0} → (C → Writer) → Solver C → Type 0
-HasTarget seen s = (c : Counting) → target_of seen (proof_in s) ≡ Closed c → ⊥
+-- `HasTarget s` holds if the solver has a target, open or broken.
+abbrev pub HasTarget : Solver → Type 0
+HasTarget s = (c : Counting) → s.target ≡ Closed c → ⊥
 
--- that the target of the proof is open
-abbrev pub HasOpenTarget : {C : Type 0} → (C → Writer) → Solver C → Type 0
-HasOpenTarget seen s = is_open (target_of seen (proof_in s)) ≡ true
+-- `HasOpenTarget s` holds if the solver's target is open.
+abbrev pub HasOpenTarget : Solver → Type 0
+HasOpenTarget s = is_open s.target ≡ true
 
--- that the step `End` was written, and the writer is returned
-pub record ClosedBy {C : Type 0} (seen : C → Writer) (s : Solver C) (given : C) : Type 0 where
-  pub takes : TakesAll (target_of seen (proof_in s)) (End ∷ []) (seen given)
-  pub may : AreAllowedSteps (End ∷ steps_in s)
+-- `ClosedBy s given` holds if the step `End` was written, and the writer is returned.
+pub record ClosedBy (s : Solver) (given : Writer) : Type 0 where
+  pub takes : TakesAll s.target (End ∷ []) given
+  pub may : AreAllowedSteps (End ∷ s.steps)
 
--- that `Goes` leads to some proof, and the writer of that proof is returned
-pub record GivenBack {C : Type 0} (seen : C → Writer) (Goes : (C → Writer) → Proof C → Proof C → Type 0) (s : Solver C) (given : C) : Type 0 where
-  pub proof : Proof C
-  pub goes : Goes seen (proof_in s) proof
-  pub gives : GivesWriter (target_of seen proof) (Some (seen given))
+-- `GivenBack Goes s given` holds if `Goes` leads to some state of the solver, and the writer of its target is returned.
+pub record GivenBack (Goes : Solver → Solver → Type 0) (s : Solver) (given : Writer) : Type 0 where
+  pub last : Solver
+  pub goes : Goes s last
+  pub may : ∥ AreAllowedSteps last.steps ∥₁
+  pub gives : GivesWriter last.target (Some given)
 
--- If the certificate was opened before any step, the returned writer received a prefix of the text of accepted steps, even after a fault.
-pub record GivesPrefix {C : Type 0} (seen : C → Writer) (s : Solver C) (given : C) : Type 0 where
-  pub front : (opened : Solver C) (from : Writer) → target_of seen (proof_in opened) ≡ Open Varisat uncounted (empty_sink from)
-      → steps_in opened ≡ [] → ReachesBySteps seen opened s → TookSteps (from, seen given)
+-- `GivesPrefix s given` holds if the returned writer received a prefix of the text of accepted steps, even after a
+-- fault, if the certificate was opened before any step.
+pub record GivesPrefix (s : Solver) (given : Writer) : Type 0 where
+  pub front : (opened : Solver) (from : Writer) → opened.target ≡ Open Varisat uncounted (empty_sink from)
+      → opened.steps ≡ [] → ReachesBySteps opened s → TookSteps (from, given)
 
--- that the certificate was ended or, with an error, was not; a full store and the end of a counter are never the reason
-abbrev pub EndsCertificate : {C : Type 0} → (C → Writer) → Result (Unit {0}) RunFault → Solver C → C → Type 0
-EndsCertificate seen (Ok x) s given = ClosedBy seen s given
-EndsCertificate seen (Err e) s given = FaultSays e ⊥ (GivenBack seen BreaksEmitting s given) (GivenBack seen ComesBySteps s given) × IsCaused e ⊥ ⊥
+-- `EndsCertificate result s given` holds if the certificate was ended or, with an error, was not; a full store and the
+-- end of a counter are never the reason.
+abbrev pub EndsCertificate : Result (Unit {0}) RunFault → Solver → Writer → Type 0
+EndsCertificate (Ok x) s given = ClosedBy s given
+EndsCertificate (Err e) s given = FaultSays e ⊥ (GivenBack BreaksWriting s given) (GivenBack MakesSteps s given) × IsCaused e ⊥ ⊥
 
--- that the certificate was ended, and then the answers' writer was flushed without receiving more bytes; or, with a
--- fault, that this failed
-abbrev pub FinishesRun : {C : Type 0} → (C → Writer) → Result (Unit {0}) RunFault → Solver C → C → Writer → Writer → Type 0
-FinishesRun seen (Ok x) s given before after = ClosedBy seen s given × WriterAccepts before after [] × (after.flushed ≡ true)
-FinishesRun seen (Err e) s given before after = FaultSays e
-    (OneFailed before after × ClosedBy seen s given)
-    (NoneFailed before after × GivenBack seen BreaksEmitting s given)
-    (NoneFailed before after × GivenBack seen ComesBySteps s given)
+-- `FinishesRun result s given before after` holds if the certificate was ended, and then the answers' writer was
+-- flushed without receiving more bytes or, with a fault, this failed.
+abbrev pub FinishesRun : Result (Unit {0}) RunFault → Solver → (given before after : Writer) → Type 0
+FinishesRun (Ok x) s given before after = ClosedBy s given × WriterAccepts before after [] × (after.flushed ≡ true)
+FinishesRun (Err e) s given before after = FaultSays e
+    (OneFailed before after × ClosedBy s given)
+    (NoneFailed before after × GivenBack BreaksWriting s given)
+    (NoneFailed before after × GivenBack MakesSteps s given)
     × TookBytes before after []
     × IsCaused e ⊥ ⊥
 
--- that the summary agrees with the state of the run
+-- `SumsUp at s summary` holds if the summary agrees with the state of the run, which is malformed at command `at`, or
+-- nowhere.
 pub record SumsUp {C : Type 0} (at : Option ℕ) (s : RunState C) (summary : Summary) : Type 0 where
   pub commands : summary.commands ≡ s.commands
   pub refused : summary.refused ≡ s.refused
   pub ends : summary.malformed ≡ at
   pub asks : summary.asks ≡ s.asks
 
--- The end of a run, given the result of serving its script. If serving failed, nothing more is written.
-abbrev pub EndsRun : {C : Type 0} → (C → Writer) → Result (Option ℕ) RunFault → Result Summary RunFault → RunState C → C → Writer → Writer → Type 0
-EndsRun seen (Ok at) (Ok summary) s given before after = FinishesRun seen (Ok tt) s.solver given before after × SumsUp at s summary
-EndsRun seen (Ok at) (Err e) s given before after = FinishesRun seen (Err e) s.solver given before after
-EndsRun seen (Err e) r s given before after =
-    (r ≡ Err e) × (after ≡ before) × GivesWriter (target_of seen (proof_in s.solver)) (Some (seen given))
+-- `EndsRun served result s given before after` holds if a run ended with `result` after serving its script with the
+-- result `served`. If serving failed, nothing more is written.
+abbrev pub EndsRun : {C : Type 0} → Result (Option ℕ) RunFault → Result Summary RunFault → RunState C → (given before after : Writer) → Type 0
+EndsRun (Ok at) (Ok summary) s given before after = FinishesRun (Ok tt) s.solver given before after × SumsUp at s summary
+EndsRun (Ok at) (Err e) s given before after = FinishesRun (Err e) s.solver given before after
+EndsRun (Err e) r s given before after =
+    (r ≡ Err e) × (after ≡ before) × GivesWriter s.solver.target (Some given) × ∥ AreAllowedSteps s.solver.steps ∥₁

@@ -68,7 +68,7 @@ identities_given j (Hide names ∷ commands) = identities_given (state_after_acc
 identities_given j (Witness names ∷ commands) = identities_given (state_after_accepted (Witness names) j) commands
 identities_given j (Sample names ∷ commands) = identities_given (state_after_accepted (Sample names) j) commands
 
--- the number of rounds that each ask took
+-- the numbers of rounds in these reports
 abbrev pub rounds_of_asks : List AskReport → List ℕ
 rounds_of_asks reports = map (λ r. r.steps) reports
 
@@ -82,8 +82,8 @@ AreWithinBudget budget before (n ∷ ns) [] = ⊥
 AreWithinBudget budget before (n ∷ ns) (report ∷ reports) =
     SpendsWithinBudget budget before report × IsBounded n budget before report × AreWithinBudget budget (before + report.steps) ns reports
 
--- That the summary and the answers of a finished run are correct for a text. There is one correct outcome for each accepted ask, and the
--- answers are the text of these outcomes.
+-- `AnswersRightly text budget summary answered` holds if the summary and the answers of a finished run are correct for
+-- the text: there is one correct outcome for each accepted ask, and the answers are the text of these outcomes.
 pub record AnswersRightly (text : List ℕ) (budget : ℕ) (summary : Summary) (answered : List ℕ) : Type 0 where
   pub outcomes : List Outcome
   pub right : AnswersAreRight (reading text).0 outcomes
@@ -96,9 +96,8 @@ pub record AnswersRightly (text : List ℕ) (budget : ℕ) (summary : Summary) (
   pub spent : AreWithinBudget budget 0 (identities_given initial_state (accepted_commands initial_state (reading text).0)) summary.asks.items
 
 -- `ReportsRightly text budget summary answered` holds if `answered` are the lines of the text's events for some
--- outcomes, a correct one for each accepted ask, and the summary fits: it has the number of commands that are written
--- in the text, the number of refused ones, the number of the malformed one, if there is one, and for each ask the kind
--- of its outcome and a number of rounds within its bounds.
+-- outcomes, a correct one for each accepted ask, and the summary fits: it has the numbers of written and of refused
+-- commands, that of a malformed one, and for each ask the kind of its outcome and rounds within its bounds.
 pub record ReportsRightly (text : List ℕ) (budget : ℕ) (summary : Summary) (answered : List ℕ) : Type 0 where
   pub outcomes : List Outcome
   pub right : EachIsRight (events_in text) outcomes
@@ -110,10 +109,11 @@ pub record ReportsRightly (text : List ℕ) (budget : ℕ) (summary : Summary) (
   pub kinds : map (λ r. r.answer) summary.asks.items ≡ map answer_kind outcomes
   pub spent : AreWithinBudget budget 0 (variables_at (events_in text)) summary.asks.items
 
--- What the certificate of a finished run guarantees. It spells steps, the oldest first, of which a checker accepts each after the earlier ones.
--- In order, they contain the steps of the accepted commands and of these outcomes, with the rounds that the summary reports. Besides these
--- there are only the steps that the solver makes for commands and asks, at their places, and widths for their hashes. The list `steps` has the
--- newest first.
+-- `CertificateGuarantee text budget summary answered certified` holds if the certificate of a finished run is as
+-- guaranteed. It spells steps, the oldest first, of which a checker accepts each after the earlier ones. In order, they
+-- contain the steps of the accepted commands and of these outcomes, with the rounds that the summary reports. Besides
+-- these there are only the steps that the solver makes for commands and asks, at their places, and widths for their
+-- hashes. The list `steps` has the newest first.
 pub record CertificateGuarantee (text : List ℕ) (budget : ℕ) (summary : Summary) (answered certified : List ℕ) : Type 0 where
   pub is_answered : AnswersRightly text budget summary answered
   pub steps : List Step
@@ -142,14 +142,14 @@ WritesAnswers budget summary script answers =
     × WriterAccepts answers.0 answers.1 answered × ReportsRightly text budget summary answered)
 
 -- `TookCertificate budget summary script answers certificate` holds if the writers received answers and a certificate
--- for which `CertificateGuarantee` holds, together with the summary and the text that the script's reader gave,
--- whatever bytes could follow.
+-- for which `CertificateGuarantee` holds, together with the budget, the summary and the text that the script's reader
+-- gave, whatever bytes could follow.
 abbrev pub TookCertificate : ℕ → Summary → Reader × Reader → Writer × Writer → Writer × Writer → Type 0
 TookCertificate budget summary script answers certificate = GaveEnough script.0 script.1 (λ text. (answered : List ℕ) × (certified : List ℕ)
     × WriterAccepts answers.0 answers.1 answered × WriterAccepts certificate.0 certificate.1 certified × CertificateGuarantee text budget summary answered certified)
 
--- `CertificateIsGuaranteed r budget script answers certificate old new` holds if the run failed, or `TookCertificate`
--- holds for the three devices before and after it.
+-- `CertificateIsGuaranteed r budget script answers certificate old new` holds if `r` is an `Err`, or `TookCertificate`
+-- holds for the three devices before and after the call.
 abbrev pub CertificateIsGuaranteed : {S A C : Type 0} → Result Summary RunFault → ℕ → (S → Reader) → (A → Writer) → (C → Writer)
     → S × A × C → S × A × C → Type 0
 CertificateIsGuaranteed r budget script answers certificate old new =

@@ -2,7 +2,7 @@
 use Rattle.std.specs.Prelude.{◌∷◌}
 use Rattle.sat_base.specs.script.Script.{Command, Hide}
 
--- that the command hides no name: it is not `h` with a name
+-- `HidesNothing command` holds if the command hides no name: it is not `h` with a name.
 abbrev pub HidesNothing : Command → Type 0
 HidesNothing (Hide (name ∷ names)) = ⊥
 HidesNothing command = Unit {0}

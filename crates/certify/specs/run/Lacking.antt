@@ -8,8 +8,8 @@ use Rattle.sat_base.specs.values.Literals.{var_limit}
 use Rattle.sat_checker.specs.SortedSets.{NoRepeats}
 use Rattle.sat_checker.specs.matching.ProofChecking.{checker_rules}
 
--- That there are not enough proof variables for the names that are introduced: together with the variables in use after these steps, they would
--- exceed the limit.
+-- `LacksVariables steps introduced` holds if there are not enough proof variables for this number of new names:
+-- together with the variables in use after these steps, they would exceed the limit.
 pub record LacksVariables (steps : List Step) (introduced : ℕ) : Type 0 where
   pub in_use : List ℕ
   pub once : NoRepeats in_use
@@ -20,7 +20,8 @@ pub record LacksVariables (steps : List Step) (introduced : ℕ) : Type 0 where
 abbrev pub introduced_for : List ℕ → ScriptState → ℕ
 introduced_for names j = (introduce_all names j).identity_count - j.identity_count
 
--- that a command that processes its names one by one reaches a name that lacks a variable
+-- `NextLacks command names j steps` holds if a command that processes its names one by one reaches a name that lacks a
+-- variable.
 pub record NextLacks (command : List ℕ → Command) (names : List ℕ) (j : ScriptState) (steps : List Step) : Type 0 where
   pub first : List ℕ
   pub name : ℕ
@@ -28,7 +29,7 @@ pub record NextLacks (command : List ℕ → Command) (names : List ℕ) (j : Sc
   pub whole : names ≡ first ++ (name ∷ following)
   pub lacks : LacksVariables steps (introduced_for (name ∷ []) (state_after_accepted (command first) j))
 
--- that the command lacks variables for its names
+-- `CommandLacks j command steps` holds if the command lacks variables for its names.
 abbrev pub CommandLacks : ScriptState → Command → List Step → Type 0
 CommandLacks j (Clause ls) steps = LacksVariables steps (introduced_for (names_of ls) j)
 CommandLacks j (Ask ls) steps = LacksVariables steps (introduced_for (names_of ls) j)
@@ -36,7 +37,8 @@ CommandLacks j (Hide names) steps = NextLacks Hide names j steps
 CommandLacks j (Witness names) steps = NextLacks Witness names j steps
 CommandLacks j (Sample names) steps = NextLacks Sample names j steps
 
--- that one of these commands is not refused and lacks variables for its names, after the commands before it
+-- `OneLacks j commands steps` holds if one of the commands is not refused and lacks variables for its names, after the
+-- commands before it.
 pub record OneLacks (j : ScriptState) (commands : List Command) (steps : List Step) : Type 0 where
   pub before : List Command
   pub command : Command

@@ -16,6 +16,7 @@ assumed_times (step ∷ earlier) = assumed_times earlier
 -- clauses that fits `o` and `rounds` (`LearnsEachRound`). All lists have the newest step first. The ask is opened by the
 -- step `Assumptions ask`, after two that set assumptions for each earlier ask. The next step that sets assumptions is
 -- `Assumptions []`, and closes it; its steps are those between. If `o` is unknown, none of them is an ordered step.
+-- Nothing here ties `ask` and `before` to a script.
 pub record LearnsIn (steps : List Step) (asks : ℕ) (o : Outcome) (rounds : ℕ) : Type 0 where
   pub before : List Step
   pub ask : List ℕ

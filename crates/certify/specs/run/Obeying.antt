@@ -1,21 +1,18 @@
 -- Commands that are not asks, as a run's solver carries them out: clauses, and commands that hide names or set modes.
 use Rattle.std.specs.Prelude.{ℕ, ◌+◌, ◌≡◌, true, false, List, [], ◌∷◌, Result}
-use Rattle.sat_base.specs.device.Device.{Writer}
 use Rattle.sat_base.specs.script.Script.{Command, Hide, Witness, Sample}
 use Rattle.sat_base.specs.script.ScriptState.{ScriptState, Sampled, Witnessed, state_after_accepted}
 use Rattle.sat_base.specs.steps.Steps.{Step}
 use Rattle.sat_checker.specs.matching.ProofChecking.{checker_rules}
 use Rattle.sat_solver.specs.declared.error.SolverError.{SolverError}
-use Rattle.sat_solver.specs.variables.Calls.{NamesAgree}
 use Rattle.sat_solver.specs.variables.NamingSteps.{IsHidingStep, IsModeStep}
 use Rattle.sat_checker.specs.matching.Expected.{Expected, hiding, setting}
 use Rattle.sat_checker.specs.matching.Bridge.{LiveVariables}
-use Rattle.sat_solver.specs.session.Making.{ComesBySteps}
-use Rattle.sat_solver.specs.solver.Naming.{ChangesMode}
-use Rattle.sat_solver.specs.solver.Whole.{steps_in}
+use Rattle.sat_solver.specs.facade.Calls.{MakesSteps}
+use Rattle.sat_solver.specs.facade.Naming.{ChangesMode}
+use Rattle.sat_solver.specs.facade.View.{IsInState}
 use Rattle.certify.specs.declared.judge.NameState.{NameState}
 use Rattle.certify.specs.declared.judge.NameState.TheVariants as state
-use Rattle.sat_solver.specs.solver.View.{proof_in}
 use Rattle.certify.specs.run.SolverCalls.{IsReadySolver}
 use Rattle.certify.specs.run.Stretches.{IsCommandStep, Stretch, due_for}
 use Rattle.certify.specs.run.Quiet.{Solver}
@@ -32,23 +29,22 @@ due_to state.Hidden names = hiding names
 due_to state.Sampled names = setting Sampled names
 due_to state.Witnessed names = setting Witnessed names
 
--- that a step is allowed for a name that gets this state
+-- `may_to state name earlier step` holds if the step is allowed for a name that gets this state.
 abbrev pub may_to : NameState → ℕ → List Step → Step → Type 0
 may_to state.Hidden name = IsHidingStep
 may_to state.Sampled name = IsModeStep name true
 may_to state.Witnessed name = IsModeStep name false
 
--- the effect of a call that introduces a name and gives it this state
-abbrev pub ChangesName : {C : Type 0} → (C → Writer) → Result (Unit {0}) SolverError → Solver C → Solver C → ℕ → NameState → Type 0
-ChangesName seen r old new user st =
-    ChangesMode seen r old new user (state_after_accepted (command_to st ((user + 1) ∷ []))) (due_to st ((user + 1) ∷ [])) (may_to st (user + 1))
+-- `ChangesName r old new user st` holds if the call introduces a name and gives it this state, as in `ChangesMode`.
+abbrev pub ChangesName : Result (Unit {0}) SolverError → Solver → Solver → ℕ → NameState → Type 0
+ChangesName r old new user st = ChangesMode r old new user (state_after_accepted (command_to st ((user + 1) ∷ []))) (due_to st ((user + 1) ∷ []))
 
--- that a command that is not an ask was carried out
-pub record Obeyed {C : Type 0} (seen : C → Writer) (c : Command) (old new : Solver C) : Type 0 where
+-- `Obeyed c old new` holds if the command, which is not an ask, was carried out.
+pub record Obeyed (c : Command) (old new : Solver) : Type 0 where
   pub ready : IsReadySolver new
-  pub took : ComesBySteps seen (proof_in old) (proof_in new)
-  pub assumed : new.assumed ≡ old.assumed
+  pub took : MakesSteps old new
+  pub assumed : new.assumptions ≡ old.assumptions
   pub clock : new.clock ≡ old.clock
-  pub keeps : (j : ScriptState) (live : LiveVariables) → NamesAgree old.names (steps_in old) j live
-      → (then : LiveVariables) × NamesAgree new.names (steps_in new) (state_after_accepted c j) then
-      × Stretch (IsCommandStep c) (steps_in old) (steps_in new) (due_for (checker_rules.unsat (steps_in old)) c j)
+  pub keeps : (j : ScriptState) (live : LiveVariables) → IsInState old j live
+      → (then : LiveVariables) × IsInState new (state_after_accepted c j) then
+      × Stretch (IsCommandStep c) old.steps new.steps (due_for (checker_rules.unsat old.steps) c j)

@@ -7,7 +7,8 @@ use Rattle.certify.specs.declared.summary.Summary.{Summary}
 use Rattle.certify.specs.run.FinishedRun.{CertificateGuarantee}
 use Rattle.certify.specs.run.ServedScript.{RunFaultSays}
 
--- that a run wrote the answers to a text and a certificate with its guarantee
+-- `WritesRun text budget summary answers certificate` holds if a run wrote the answers to the text and a certificate
+-- with its guarantee.
 pub record WritesRun (text : List ℕ) (budget : ℕ) (summary : Summary) (answers certificate : Writer × Writer) : Type 0 where
   pub answered : List ℕ
   pub certified : List ℕ
@@ -15,11 +16,12 @@ pub record WritesRun (text : List ℕ) (budget : ℕ) (summary : Summary) (answe
   pub certifies : WriterAccepts certificate.0 certificate.1 certified
   pub guarantee : CertificateGuarantee text budget summary answered certified
 
--- that no read of the script failed
+-- `NoneUnread script` holds if no read of the script failed.
 abbrev pub NoneUnread : Reader × Reader → Type 0
 NoneUnread script = script.1.failures ≡ script.0.failures
 
--- That a run was finished, and its writers were flushed.
+-- `Finished budget summary script answers certificate` holds if a run was finished: it wrote answers and a certificate
+-- (`WritesRun`) for the bytes that were read, its writers were flushed, and no call of a device failed.
 pub record Finished (budget : ℕ) (summary : Summary) (script : Reader × Reader) (answers certificate : Writer × Writer) : Type 0 where
   pub wrote : GaveEnough script.0 script.1 (λ text. WritesRun text budget summary answers certificate)
   pub read : NoneUnread script
@@ -28,7 +30,8 @@ pub record Finished (budget : ℕ) (summary : Summary) (script : Reader × Reade
   pub answers_flushed : answers.1.flushed ≡ true
   pub certificate_flushed : certificate.1.flushed ≡ true
 
--- that a run was finished or, with an error, failed; if the error names a device, one call of that device failed
+-- `FinishesOrFaults result budget script answers certificate` holds if a run was finished or, with an error, failed; if
+-- the error names a device, a call of that device failed, and of no other.
 abbrev pub FinishesOrFaults : Result Summary RunFault → ℕ → Reader × Reader → Writer × Writer → Writer × Writer → Type 0
 FinishesOrFaults (Ok summary) budget script answers certificate = Finished budget summary script answers certificate
 FinishesOrFaults (Err e) budget script answers certificate = RunFaultSays e
@@ -37,6 +40,6 @@ FinishesOrFaults (Err e) budget script answers certificate = RunFaultSays e
     (NoneUnread script × NoneFailed answers.0 answers.1 × OneFailed certificate.0 certificate.1)
     (NoneUnread script × NoneFailed answers.0 answers.1 × NoneFailed certificate.0 certificate.1)
 
--- that the script is read at most 2^48 times
+-- `ReadsFew script` holds if the script is read at most 2^48 times.
 abbrev pub ReadsFew : Reader × Reader → Type 0
 ReadsFew script = script.1.calls ≤ script.0.calls + most_reads

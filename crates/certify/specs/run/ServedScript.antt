@@ -10,8 +10,8 @@ use Rattle.sat_base.specs.script.Language.{Reading, prepend_commands}
 use Rattle.sat_base.specs.script.ScriptState.{ScriptState, accepted_commands, after_script}
 use Rattle.sat_base.specs.steps.Steps.{Step}
 use Rattle.sat_checker.specs.matching.Expected.{Outcome}
-use Rattle.sat_solver.specs.session.Making.{ComesBySteps, BreaksEmitting}
-use Rattle.sat_solver.specs.solver.Whole.{HasFullStore, steps_in}
+use Rattle.sat_solver.specs.facade.Calls.{HasFullStore, MakesSteps}
+use Rattle.sat_solver.specs.facade.Recording.{BreaksWriting}
 use Rattle.certify.specs.Devices.{NoneFailed, OneFailed}
 use Rattle.certify.specs.answers.Answers.{answers_from}
 use Rattle.certify.specs.answers.RightAnswers.{AreRight}
@@ -26,20 +26,19 @@ use Rattle.certify.specs.script.Commands.{ReaderMeans, MeansIf}
 use Rattle.certify.specs.run.FinishedRun.{refused_count, malformed_at, answer_kind, AreWithinBudget, rounds_of_asks, identities_given}
 use Rattle.certify.specs.run.Stopping.{StopsServing}
 use Rattle.certify.specs.run.Unfinished.{Exceeds}
-use Rattle.sat_solver.specs.solver.View.{proof_in}
 use Rattle.certify.specs.run.SolverCalls.{IsCaused, IsReadySolver}
 use Rattle.certify.specs.run.Serving.{RunPlace, Serves}
 use Rattle.certify.specs.run.BetweenCommands.{RunGoesOn, HasStateBetweenCommands, place_in}
 use Rattle.certify.specs.run.Stretches.{ServesCommands}
 use Rattle.certify.specs.run.Quiet.{Solver}
 
--- That these commands were served, one after another.
-pub record ServedAll {C : Type 0} (seen : C → Writer) (j : ScriptState) (commands : List Command)
+-- `ServedAll j commands old new before after` holds if these commands were served, one after another.
+pub record ServedAll {C : Type 0} (j : ScriptState) (commands : List Command)
     (old new : RunState C) (before after : Writer) : Type 0 where
   pub judge : ScriptState
   pub at : HasStateBetweenCommands new judge
   pub judges : judge ≡ after_script commands j
-  pub took : ComesBySteps seen (proof_in old.solver) (proof_in new.solver)
+  pub took : MakesSteps old.solver new.solver
   pub counted : new.commands ≡ old.commands + length commands
   pub budget : new.budget ≡ old.budget
   pub text : List ℕ
@@ -50,8 +49,9 @@ pub record ServedAll {C : Type 0} (seen : C → Writer) (j : ScriptState) (comma
   pub refusals : new.refused ≡ old.refused + refused
   pub serves : Serves old.budget (place_in old j) (place_in new judge) commands text reports refused
 
--- That the complete script was served from this place on, which led to these steps. `answered` is the text of the answers, `reports` are those
--- of the asks, and `refused` is the number of refused commands.
+-- `ServesTo budget a script to answered reports refused` holds if the complete script was served from place `a` on,
+-- which led to the steps `to`. `answered` is the text of the answers, `reports` are those of the asks, and `refused` is
+-- the number of refused commands.
 pub record ServesTo (budget : ℕ) (a : RunPlace) (script : Reading) (to : List Step)
     (answered : List ℕ) (reports : List AskReport) (refused : ℕ) : Type 0 where
   pub outcomes : List Outcome
@@ -62,10 +62,11 @@ pub record ServesTo (budget : ℕ) (a : RunPlace) (script : Reading) (to : List 
   pub spent : AreWithinBudget budget a.rounds (identities_given a.judge (accepted_commands a.judge script.0)) reports
   pub follows : ServesCommands a.judge a.steps to (accepted_commands a.judge script.0) outcomes (rounds_of_asks reports)
 
--- That the complete script was served, with this number of commands. `at` is the command at which it is malformed, or `None`.
-pub record ServesWhole {C : Type 0} (seen : C → Writer) (j : ScriptState) (script : Reading) (count : ℕ) (at : Option ℕ)
+-- `ServesWhole j script count at old new before after` holds if the complete script was served, with this number of
+-- commands. `at` is the command at which it is malformed, or `None`.
+pub record ServesWhole {C : Type 0} (j : ScriptState) (script : Reading) (count : ℕ) (at : Option ℕ)
     (old new : RunState C) (before after : Writer) : Type 0 where
-  pub took : ComesBySteps seen (proof_in old.solver) (proof_in new.solver)
+  pub took : MakesSteps old.solver new.solver
   pub counted : new.commands ≡ old.commands + count
   pub ends : at ≡ malformed_at (old.commands + length script.0 + 1) script.1
   pub text : List ℕ
@@ -74,11 +75,11 @@ pub record ServesWhole {C : Type 0} (seen : C → Writer) (j : ScriptState) (scr
   pub asks : new.asks.items ≡ old.asks.items ++ reports
   pub refused : ℕ
   pub refusals : new.refused ≡ old.refused + refused
-  pub serves : ServesTo old.budget (place_in old j) script (steps_in new.solver) text reports refused
+  pub serves : ServesTo old.budget (place_in old j) script new.solver.steps text reports refused
 
--- That these commands were served between two places. After them, `left` gives the reading of the rest of the script.
--- `plain` gives the same without the ask that a header may add.
-pub record ServesThrough {C : Type 0} (seen : C → Writer) (j : ScriptState) (text counted : List ℕ → Reading) (a b : Source)
+-- `ServesThrough j text counted a b reader old new before after` holds if some commands were served between two places.
+-- After them, the reader is at the rest of the script, both with and without the ask that a header may add.
+pub record ServesThrough {C : Type 0} (j : ScriptState) (text counted : List ℕ → Reading) (a b : Source)
     (reader : ScriptReader) (old new : RunState C) (before after : Writer) : Type 0 where
   pub commands : List Command
   pub left : List ℕ → Reading
@@ -90,14 +91,15 @@ pub record ServesThrough {C : Type 0} (seen : C → Writer) (j : ScriptState) (t
   pub holds : (total : List ℕ) → Covers b total
       → length (counted (rest_in total a)).0 ≡ length commands + length (plain (rest_in total b)).0
   pub goes_on : RunGoesOn new
-  pub served : ServedAll seen j commands old new before after
+  pub served : ServedAll j commands old new before after
 
 -- the fault of a run whose script cannot be read
 abbrev pub run_fault : ReadError → RunFault
 run_fault errors.Failed = fault.ScriptRead
 run_fault errors.OutOfMemory = fault.OutOfMemory
 
--- the statement for a fault: `script`, `answers` or `certificate` if that device failed, otherwise `rest`
+-- `RunFaultSays fault script answers certificate rest` holds if the statement for this fault holds: `script`, `answers`
+-- or `certificate` if that device failed, otherwise `rest`.
 abbrev pub RunFaultSays : RunFault → Type 0 → Type 0 → Type 0 → Type 0 → Type 0
 RunFaultSays fault.ScriptRead script answers certificate rest = script
 RunFaultSays fault.AnswersWrite script answers certificate rest = answers
@@ -106,20 +108,22 @@ RunFaultSays fault.OutOfMemory script answers certificate rest = rest
 RunFaultSays fault.StoreFull script answers certificate rest = rest
 RunFaultSays fault.CounterEnd script answers certificate rest = rest
 
--- the effect of a run that fails: if the fault names a device, one call of that device failed
-abbrev pub FailsWhole : {C : Type 0} → (C → Writer) → RunFault → Source → Source → Solver C → Solver C → Writer → Writer → Type 0
-FailsWhole seen e a b old new before after = RunFaultSays e
-    (FaultsAhead a b × NoneFailed before after × ComesBySteps seen (proof_in old) (proof_in new))
-    (TakesSomeOrEnds a b × OneFailed before after × ComesBySteps seen (proof_in old) (proof_in new))
-    (TakesSomeOrEnds a b × NoneFailed before after × BreaksEmitting seen (proof_in old) (proof_in new))
-    (TakesSomeOrEnds a b × NoneFailed before after × ComesBySteps seen (proof_in old) (proof_in new))
+-- `FailsWhole e a b old new before after` holds if a run failed, and if the fault names a device, a call of that device
+-- failed, and of no other.
+abbrev pub FailsWhole : RunFault → Source → Source → Solver → Solver → Writer → Writer → Type 0
+FailsWhole e a b old new before after = RunFaultSays e
+    (FaultsAhead a b × NoneFailed before after × MakesSteps old new)
+    (TakesSomeOrEnds a b × OneFailed before after × MakesSteps old new)
+    (TakesSomeOrEnds a b × NoneFailed before after × BreaksWriting old new)
+    (TakesSomeOrEnds a b × NoneFailed before after × MakesSteps old new)
 
--- That the script is served to its end or, with an error, that a prefix of correct answers was written. A full store or the end of a counter is
--- only reported if `IsCaused` holds.
-abbrev pub ServesScript : {C : Type 0} → (C → Writer) → ScriptState → (List ℕ → Reading) → (List ℕ → Reading) → Result (Option ℕ) RunFault
+-- `ServesScript j text counted result a b old new before after` holds if the script is served to its end or, with an
+-- error, a prefix of correct answers was written. A full store or the end of a counter is only reported if `IsCaused`
+-- holds.
+abbrev pub ServesScript : {C : Type 0} → ScriptState → (List ℕ → Reading) → (List ℕ → Reading) → Result (Option ℕ) RunFault
     → Source → Source → RunState C → RunState C → Writer → Writer → Type 0
-ServesScript seen j text counted (Ok at) a b old new before after = TookOf false a b × IsReadySolver new.solver × ((total : List ℕ) → Covers b total
-    → ServesWhole seen j (text (rest_in total a)) (length (counted (rest_in total a)).0) at old new before after)
-ServesScript seen j text counted (Err e) a b old new before after = FailsWhole seen e a b old.solver new.solver before after
-    × ((total : List ℕ) → Covers b total → StopsServing old.budget (place_in old j) (text (rest_in total a)) (steps_in new.solver) before after)
-    × IsCaused e (HasFullStore new.solver) ((total : List ℕ) → Covers b total → Exceeds old.commands j (text (rest_in total a)) (steps_in new.solver))
+ServesScript j text counted (Ok at) a b old new before after = TookOf false a b × IsReadySolver new.solver × ((total : List ℕ) → Covers b total
+    → ServesWhole j (text (rest_in total a)) (length (counted (rest_in total a)).0) at old new before after)
+ServesScript j text counted (Err e) a b old new before after = FailsWhole e a b old.solver new.solver before after
+    × ((total : List ℕ) → Covers b total → StopsServing old.budget (place_in old j) (text (rest_in total a)) new.solver.steps before after)
+    × IsCaused e (HasFullStore new.solver) ((total : List ℕ) → Covers b total → Exceeds old.commands j (text (rest_in total a)) new.solver.steps)

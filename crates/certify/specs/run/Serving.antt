@@ -17,8 +17,9 @@ pub record RunPlace : Type 0 where
   pub steps : List Step
   pub rounds : ℕ
 
--- That these commands led a run from place `a` to place `b`. `answered` is the text of their answers, `reports` are those of the asks, and
--- `refused` is the number of refused commands. This holds whatever commands are left, and whatever their answers are.
+-- `Serves budget a b commands answered reports refused` holds if these commands led a run from place `a` to place `b`,
+-- whatever commands are left, and whatever their answers are. `answered` is the text of their answers, `reports` are
+-- those of the asks, and `refused` is the number of refused commands.
 pub record Serves (budget : ℕ) (a b : RunPlace) (commands : List Command)
     (answered : List ℕ) (reports : List AskReport) (refused : ℕ) : Type 0 where
   pub outcomes : List Outcome

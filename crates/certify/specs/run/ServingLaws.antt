@@ -16,23 +16,25 @@ use Rattle.certify.specs.run.Serving.{RunPlace, Serves, place_after}
 use Rattle.certify.specs.run.Stretches.{AskStretches, IsNoAsk, IsCommandStep, Stretch, due_for}
 use Rattle.certify.specs.declared.summary.AskReport.{AskReport}
 
--- that serving some commands and then others serves all of them
+-- `ServingComposes` holds if serving some commands and then others serves all of them.
 abbrev pub ServingComposes : Type 0
 ServingComposes = (budget : ℕ) (a b c : RunPlace) (xs ys : List Command) (s t : List ℕ) (rs qs : List AskReport) (k l : ℕ)
     → Serves budget a b xs s rs k → Serves budget b c ys t qs l → Serves budget a c (xs ++ ys) (s ++ t) (rs ++ qs) (k + l)
 
--- that a refused command is answered by its line, and nothing else changes
+-- `RefusalServes` holds if a refused command is answered by its line, and nothing else changes.
 abbrev pub RefusalServes : Type 0
 RefusalServes = (budget : ℕ) (a : RunPlace) (c : Command) (r : Refusal) → refusal_of a.judge c ≡ Some r
     → Serves budget a (record a { number = a.number + 1 }) (c ∷ []) (refused_line a.number r) [] 1
 
--- that an accepted command that is not an ask has no answer, if the steps expected for it were made
+-- `PlainServes` holds if every accepted command that is not an ask has no answer, once the steps expected for it were
+-- made.
 abbrev pub PlainServes : Type 0
 PlainServes = (budget : ℕ) (a : RunPlace) (c : Command) (steps : List Step) → IsNoAsk c → refusal_of a.judge c ≡ None
     → Stretch (IsCommandStep c) a.steps steps (due_for (checker_rules.unsat a.steps) c a.judge)
     → Serves budget a (place_after a c steps a.rounds) (c ∷ []) [] [] 0
 
--- that an accepted ask is answered by its outcome, if the outcome is correct and took no more rounds than allowed
+-- `AskServes` holds if every accepted ask is answered by its outcome, once the ask's steps were made, and provided that
+-- the outcome is correct and took no more rounds than allowed.
 abbrev pub AskServes : Type 0
 AskServes = (budget : ℕ) (a : RunPlace) (ls : List Literal) (o : Outcome) (report : AskReport) (steps : List Step) → refusal_of a.judge (Ask ls) ≡ None
     → IsRight (state_after_accepted (Ask ls) a.judge) ls o → report.answer ≡ answer_kind o → SpendsWithinBudget budget a.rounds report
@@ -40,7 +42,7 @@ AskServes = (budget : ℕ) (a : RunPlace) (ls : List Literal) (o : Outcome) (rep
     → AskStretches a.judge ls o report.steps a.steps steps
     → Serves budget a (place_after a (Ask ls) steps (a.rounds + report.steps)) (Ask ls ∷ []) (outcome_text o) (report ∷ []) 0
 
--- that a core of an ask, in any order, is a correct core once its literals are sorted
+-- `CoresAreSorted` holds if a core of an ask, in any order, is a correct core once its literals are sorted.
 abbrev pub CoresAreSorted : Type 0
 CoresAreSorted = (j : ScriptState) (ask : List Literal) (core : List ℕ) → AllByRecursion (λ l. Among l ask) (named_literals core)
     → ((a : Valuation) → EachTrue a (map (identity_lit j) (named_literals core)) → EachHolds a j.clauses → ⊥)

@@ -8,8 +8,8 @@ use Rattle.certify.specs.run.Serving.{RunPlace}
 use Rattle.certify.specs.run.Stretches.{ServesFirst}
 use Rattle.certify.specs.run.Unfinished.{TookAnswersPrefix}
 
--- That a run went on from place `a` and failed after the steps `to`. It wrote a prefix of correct answers to this script, and the answered asks were
--- served in these steps.
+-- `StopsServing budget a script to old new` holds if, after place `a`, the writer received a prefix of correct answers
+-- to this script, and the answered asks were served in the steps up to `to`.
 pub record StopsServing (budget : ℕ) (a : RunPlace) (script : Reading) (to : List Step) (old new : Writer) : Type 0 where
   pub took : TookAnswersPrefix budget a.rounds a.number a.judge script old new
   pub serves : ServesFirst a.judge script.0 a.steps to took.front.answered (rounds_of_asks took.front.reports)

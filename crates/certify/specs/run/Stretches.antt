@@ -12,19 +12,20 @@ use Rattle.sat_solver.specs.schedule.Solving.{CountsEmpoweringIn}
 use Rattle.sat_solver.specs.session.AllowedSteps.{OnlyAllowedSteps, EndsAtUnsat}
 use Rattle.certify.specs.run.Certifies.{IsKnown}
 
--- That the ordered steps between `from` and `to` are those expected, and every step is allowed at its place.
+-- `Stretch IsAllowedStep from to es` holds if the ordered steps between `from` and `to` are those expected, and every
+-- step is allowed at its place.
 pub record Stretch (IsAllowedStep : List Step → Step → Type 0) (from to : List Step) (es : List Expected) : Type 0 where
   pub due : HasTrace checker_rules from to es
   pub comes : OnlyAllowedSteps IsAllowedStep from to
 
 -- COMMANDS OTHER THAN ASKS
 
--- that the command is not an ask: it is a clause, or a command about names
+-- `IsNoAsk command` holds if the command is not an ask: it is a clause, or a command about names.
 abbrev pub IsNoAsk : Command → Type 0
 IsNoAsk (Ask ls) = ⊥
 IsNoAsk command = Unit {0}
 
--- the steps expected for such a command; for a clause, only those of its names once unsat is recorded
+-- the steps expected for a command that is not an ask; for a clause, only those of its names once unsat is recorded
 abbrev pub due_for : Bool → Command → ScriptState → List Expected
 due_for unsat (Clause ls) j = introducing (names_of ls) j ++ (if unsat then [] else Adds ls ∷ [])
 due_for unsat (Ask ls) j = []
@@ -32,13 +33,15 @@ due_for unsat (Hide names) j = hiding names j
 due_for unsat (Witness names) j = setting Witnessed names j
 due_for unsat (Sample names) j = setting Sampled names j
 
--- that the step is an ordered step at its place, or sets the variable of one of these names to this mode
+-- `IsOneModeStep names sample earlier step` holds if the step is an ordered step at its place, or sets the variable of
+-- one of these names to this mode.
 abbrev pub IsOneModeStep : List ℕ → Bool → List Step → Step → Type 0
 IsOneModeStep names sample earlier step = (name : ℕ) × Among name names × IsModeStep name sample earlier step
 
--- The steps that are allowed for a command: ordered steps at their places, and some others. A clause and an ask may
--- give their names indices and change the width. A clause may be deleted right after its step. A hidden variable
--- without an index may be deleted right after its name is removed. `w` and `s` may change the mode of their names.
+-- `IsCommandStep command earlier step` holds if the step is allowed for the command: it is an ordered step at its
+-- place, or one of some others. A clause and an ask may give their names indices and change the width. A clause may be
+-- deleted right after its step. A hidden variable without an index may be deleted right after its name is removed. `w`
+-- and `s` may change the mode of their names.
 abbrev pub IsCommandStep : Command → List Step → Step → Type 0
 IsCommandStep (Clause ls) = IsClauseStep (names_of ls)
 IsCommandStep (Ask ls) = IsLiteralsStep (names_of ls)
@@ -61,15 +64,16 @@ LearnsEachRound false Unknown rounds learned = rounds ≡ learned
 LearnsEachRound false (Sat line) rounds learned = rounds ≡ learned + 1
 LearnsEachRound false (Unsat core) rounds learned = rounds ≡ learned + 1
 
--- that exactly the required number of steps between these two places derive an empowering clause
+-- `LearnsBetween unsat o rounds opened shown` holds if exactly the required number of steps between these two places
+-- derive an empowering clause.
 pub record LearnsBetween (unsat : Bool) (o : Outcome) (rounds : ℕ) (opened shown : List Step) : Type 0 where
   pub learned : ℕ
   pub times : CountsEmpoweringIn opened shown learned
   pub counts : LearnsEachRound unsat o rounds learned
 
--- The steps of an ask. First its names are introduced, with indices, and it is opened. Then the search may make any
--- unordered steps (only changes of the width once unsat is recorded), and the outcome is shown. Finally the ask is
--- closed.
+-- `AskStretches j ls o rounds from to` holds if the steps between `from` and `to` are those of an ask. First its names
+-- are introduced, with indices, and it is opened. Then the search may make any unordered steps (only changes of the
+-- width once unsat is recorded), and the outcome is shown. Finally the ask is closed.
 pub record AskStretches (j : ScriptState) (ls : List Literal) (o : Outcome) (rounds : ℕ) (from to : List Step) : Type 0 where
   pub opened : List Step
   pub shown : List Step
@@ -84,8 +88,8 @@ pub record AskStretches (j : ScriptState) (ls : List Literal) (o : Outcome) (rou
 
 -- ALL COMMANDS
 
--- That these commands, none of which is refused, were carried out between two lists of steps. The outcomes and the rounds are those of the
--- asks.
+-- `ServesCommands j from to commands outcomes counts` holds if these commands, none of which is refused, were carried
+-- out between two lists of steps. The outcomes and the rounds are those of the asks.
 pub data ServesCommands : ScriptState → List Step → List Step → List Command → List Outcome → List ℕ → Type 0 where
   made_none : {j : ScriptState} {s : List Step} → ServesCommands j s s [] [] []
   made_one : {j : ScriptState} {from to : List Step} {c : Command} {cs : List Command} {os : List Outcome} {counts : List ℕ} (mid : List Step)
@@ -95,8 +99,9 @@ pub data ServesCommands : ScriptState → List Step → List Step → List Comma
       {counts : List ℕ} (mid : List Step) → AskStretches j ls o n from mid
       → ServesCommands (state_after_accepted (Ask ls) j) mid to cs os counts → ServesCommands j from to (Ask ls ∷ cs) (o ∷ os) (n ∷ counts)
 
--- That the first ones of these commands were served after the steps `from`, without the refused ones; later steps may have been made, up to
--- `to`. The outcomes and the rounds are those of the asks.
+-- `ServesFirst j commands from to outcomes counts` holds if the first of these commands, without the refused ones, were
+-- served after the steps `from`; later steps may follow, up to `to`. `outcomes` and `counts` are the outcomes and the
+-- rounds of the asks among them.
 pub record ServesFirst (j : ScriptState) (commands : List Command) (from to : List Step) (outcomes : List Outcome) (counts : List ℕ) : Type 0 where
   pub first : List Command
   pub left : List Command

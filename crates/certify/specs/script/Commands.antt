@@ -28,12 +28,12 @@ kind_of kind.Hide = OfHide
 kind_of kind.Witness = OfWitness
 kind_of kind.Sample = OfSample
 
--- that the letter begins a command of this kind, or no command
+-- `BeginsKind kind letter` holds if the letter begins a command of this kind, or no command (`None`).
 abbrev pub BeginsKind : Option CommandKind → ℕ → Type 0
 BeginsKind None letter = kind_of_letter letter ≡ None
 BeginsKind (Some kind) letter = kind_of_letter letter ≡ Some (kind_of kind)
 
--- whether a command of this kind is an ask
+-- `is_ask_kind kind` is true if a command of this kind is an ask.
 abbrev pub is_ask_kind : Kind → Bool
 is_ask_kind OfClause = false
 is_ask_kind OfAsk = true
@@ -41,54 +41,59 @@ is_ask_kind OfHide = false
 is_ask_kind OfWitness = false
 is_ask_kind OfSample = false
 
--- that the first literal is past the limit or, if the flag is false, that there are no literals
+-- `BeginsPast past ls` holds if the first literal is past the limit or, if `past` is false, there are no literals.
 abbrev pub BeginsPast : Bool → List Literal → Type 0
 BeginsPast false ls = ls ≡ []
 BeginsPast true [] = ⊥
 BeginsPast true (l ∷ ls) = var_limit < l.name
 
--- that the codes are those of the literals before the first literal past the limit; `past` says whether there is one
+-- `IsPrefixWithinLimit codes past ls` holds if the codes are those of the literals before the first literal past the
+-- limit; `past` is true if there is one.
 pub record IsPrefixWithinLimit (codes : List ℕ) (past : Bool) (ls : List Literal) : Type 0 where
   pub within : AllByRecursion (λ code. code < 2 * var_limit) codes
   pub following : List Literal
   pub whole : ls ≡ named_literals codes ++ following
   pub limit : BeginsPast past following
 
--- that the code's value represents the command `c`: it has the literals of `c` before the first one past the limit
+-- `RepresentsCommand lent c` holds if the code's value represents the command `c`: it has the literals of `c` before
+-- the first one past the limit.
 abbrev pub RepresentsCommand : Lent → Command → Type 0
 RepresentsCommand lent c = (ls : List Literal) × IsPrefixWithinLimit lent.literals.now lent.past_limit ls × (c ≡ command_of (kind_of lent.kind) ls)
 
--- that the code's value represents some command
+-- `RepresentsSomeCommand lent` holds if the code's value represents some command.
 abbrev pub RepresentsSomeCommand : Lent → Type 0
 RepresentsSomeCommand lent = (c : Command) × RepresentsCommand lent c
 
--- that the reader's draft is the complete command `c`: it has the literals of `c` before the first one past the limit
+-- `IsWholeCommand draft c` holds if the reader's draft is the complete command `c`: it has the literals of `c` before
+-- the first one past the limit.
 abbrev pub IsWholeCommand : Draft → Command → Type 0
 IsWholeCommand draft c = (ls : List Literal) × IsPrefixWithinLimit draft.literals.items draft.past_limit ls × (c ≡ command_of (kind_of draft.kind) ls)
 
--- that the draft of the reader represents the unfinished command, if any
+-- `HoldsPartialCommand draft hand` holds if the draft of the reader represents the unfinished command, or is not open
+-- if there is none.
 abbrev pub HoldsPartialCommand : Draft → PartialCommand → Type 0
 HoldsPartialCommand draft Nothing = draft.is_open ≡ false
 HoldsPartialCommand draft (Within k ls) = (draft.is_open ≡ true) × (k ≡ kind_of draft.kind) × IsPrefixWithinLimit draft.literals.items draft.past_limit ls
 
--- the unfinished command or, if there is none, an empty clause, to which a literal is then added
+-- the unfinished command or, if there is none, an empty clause
 abbrev pub opened : PartialCommand → PartialCommand
 opened Nothing = Within OfClause []
 opened (Within kind ls) = Within kind ls
 
--- that `name` is the name of the literal, capped at 2^64-1, and `positive` is its sign
+-- `IsNumbered l name positive` holds if `name` is the name of the literal, capped at 2^64-1, and `positive` is its
+-- sign.
 pub record IsNumbered (l : Literal) (name : ℕ) (positive : Bool) : Type 0 where
   pub number : name ≡ capped l.name
   pub sign : positive ≡ l.positive
 
--- whether the token is a line `p cnf V C`
+-- `is_header token` is true if the token is a line `p cnf V C`.
 abbrev pub is_header : Token → Bool
 is_header (Number negative value) = false
 is_header (Letter b) = false
 is_header (Header v c) = true
 is_header Wrong = false
 
--- whether any of the tokens is a line `p cnf V C`
+-- `any_header tokens` is true if one of the tokens is a line `p cnf V C`.
 abbrev pub any_header : List Token → Bool
 any_header [] = false
 any_header (t ∷ ts) = is_header t || any_header ts
@@ -98,7 +103,8 @@ any_header (t ∷ ts) = is_header t || any_header ts
 abbrev pub remaining_reading : Bool → Commands → PartialCommand → List Token → Reading
 remaining_reading asks commands hand ts = with_ask (asks && ((commands.headed || any_header ts) && not commands.asked)) (commands_of hand ts)
 
--- the effect of a token: more is to be read, a command is complete, or the text is malformed
+-- `TakesToken reached old t new` holds if `reached` is what the token led to: more is to be read, a command is
+-- complete, or the text is malformed.
 abbrev pub TakesToken : Reached → Commands → Token → Commands → Type 0
 TakesToken reached.More old t new = (hand : PartialCommand) → HoldsPartialCommand old.draft hand
     → (next : PartialCommand) × HoldsPartialCommand new.draft next × ((asks : Bool) (ts : List Token) → remaining_reading asks old hand (t ∷ ts) ≡ remaining_reading asks new next ts)
@@ -108,7 +114,8 @@ TakesToken reached.Command old t new = (hand : PartialCommand) → HoldsPartialC
 TakesToken reached.Malformed old t new = (hand : PartialCommand) → HoldsPartialCommand old.draft hand
     → (asks : Bool) (ts : List Token) → remaining_reading asks old hand (t ∷ ts) ≡ ([], Malformed)
 
--- that the reader is at a place of a text, and `left_of` gives the reading of the rest, whatever bytes follow
+-- `MeansIf asks reader left_of` holds if the reader is at a place of a text, and `left_of` gives the reading of the
+-- rest, whatever bytes follow; if `asks` is true, with the ask that a header may add.
 pub record MeansIf (asks : Bool) (reader : ScriptReader) (left_of : List ℕ → Reading) : Type 0 where
   pub hand : PartialCommand
   pub holds : HoldsPartialCommand reader.commands.draft hand
@@ -116,23 +123,23 @@ pub record MeansIf (asks : Bool) (reader : ScriptReader) (left_of : List ℕ →
   pub valid : IsPositionedBefore reader.tokenizer scan_of
   pub reads : (rest : List ℕ) → left_of rest ≡ remaining_reading asks reader.commands hand (without_lines (scan_of rest).tokens)
 
--- that `MeansIf` holds, including the ask that a header may add
+-- `ReaderMeans reader left_of` holds if `MeansIf` holds, including the ask that a header may add.
 abbrev pub ReaderMeans : ScriptReader → (List ℕ → Reading) → Type 0
 ReaderMeans = MeansIf true
 
--- that the text can continue without a wrong word
+-- `CanContinue reader` holds if the text can continue without a wrong word.
 abbrev pub CanContinue : ScriptReader → Type 0
 CanContinue reader = (scan_of : List ℕ → Scan) → IsPositionedBefore reader.tokenizer scan_of → HasValidContinuation scan_of
 
--- that the bytes that follow matter: no line has begun with `%`
+-- `RestMatters reader` holds if the bytes that follow matter: no line has begun with `%`.
 abbrev pub RestMatters : ScriptReader → Type 0
 RestMatters reader = (scan_of : List ℕ → Scan) → IsPositionedBefore reader.tokenizer scan_of → IgnoresRest scan_of → ⊥
 
--- that the reader's draft is the complete command `c`
+-- `HasWhole reader c` holds if the reader's draft is the complete command `c`.
 pub record HasWhole (reader : ScriptReader) (c : Command) : Type 0 where
   pub whole : IsWholeCommand reader.commands.draft c
 
--- that the bytes complete a command, whatever bytes follow
+-- `ReachesCommand asks before bytes new` holds if the bytes complete a command, whatever bytes follow.
 pub record ReachesCommand (asks : Bool) (before : List ℕ → Reading) (bytes : List ℕ) (new : ScriptReader) : Type 0 where
   pub command : Command
   pub whole : HasWhole new command
@@ -140,7 +147,8 @@ pub record ReachesCommand (asks : Bool) (before : List ℕ → Reading) (bytes :
   pub valid : MeansIf asks new after
   pub reads : (rest : List ℕ) → before (bytes ++ rest) ≡ prepend_commands (command ∷ []) (after rest)
 
--- the effect of bytes, whatever bytes follow
+-- `TakesBytes reached old bytes new` holds if `reached` is what the bytes led to, whatever bytes follow: more is to be
+-- read, a command is complete, or the text is malformed.
 abbrev pub TakesBytes : Reached → ScriptReader → List ℕ → ScriptReader → Type 0
 TakesBytes reached.More old bytes new = (asks : Bool) → Follows (MeansIf asks) old bytes new
 TakesBytes reached.Command old bytes new =
@@ -154,23 +162,26 @@ end_reading ends.Clean = ([], Clean)
 end_reading ends.Asked = (Ask [] ∷ [], Clean)
 end_reading ends.Malformed = ([], Malformed)
 
--- the reading of the end of a script, with the ask that a header may add, or, if the flag is false, without it
+-- the reading of the end of a script, with the ask that a header may add or, if the flag is false, without it
 abbrev pub end_if : Bool → ScriptEnd → Reading
 end_if true e = end_reading e
 end_if false ends.Clean = ([], Clean)
 end_if false ends.Asked = ([], Clean)
 end_if false ends.Malformed = ([], Malformed)
 
--- that the script has this end whatever bytes follow, because a line has begun with `%`
+-- `EndsWhateverFollows reader e` holds if the script has this end whatever bytes follow, because a line has begun with
+-- `%`.
 abbrev pub EndsWhateverFollows : ScriptReader → ScriptEnd → Type 0
 EndsWhateverFollows reader e = (asks : Bool) (before : List ℕ → Reading) → MeansIf asks reader before → (rest : List ℕ) → before rest ≡ end_if asks e
 
--- the reading of the rest at the end of the text: possibly a last command, and the end
+-- `EndsSo asks last e new r` holds if `r` is the reading of the rest at the end of the text: a last command if `last`
+-- is true, and the end.
 abbrev pub EndsSo : Bool → Bool → ScriptEnd → Commands → Reading → Type 0
 EndsSo asks false e new r = r ≡ end_if asks e
 EndsSo asks true e new r = (c : Command) × IsWholeCommand new.draft c × (r ≡ prepend_commands (c ∷ []) (end_if asks e))
 
--- the reading of the rest at the end of the text, for a reader of scripts
+-- `EndsLast asks last e new r` holds if `r` is the reading of the rest at the end of the text, for a reader of scripts:
+-- a last command if `last` is true, and the end.
 abbrev pub EndsLast : Bool → Bool → ScriptEnd → ScriptReader → Reading → Type 0
 EndsLast asks false e new r = r ≡ end_if asks e
 EndsLast asks true e new r = (c : Command) × HasWhole new c × (r ≡ prepend_commands (c ∷ []) (end_if asks e))

@@ -15,29 +15,31 @@ waiting_bytes a = take (a.end - a.at) (drop a.at a.piece)
 abbrev pub source_in : {R : Type 0} → (R → Reader) → R → LastPiece → Source
 source_in seen r a = record { reader = seen r; waiting = waiting_bytes a; reads = a.reads; names = [] }
 
--- that another chunk was read, and its length was returned: 0 only at the end
+-- `RefillsAhead result old new` holds if another chunk was read, and its length was returned, which is 0 only at the
+-- end; with an error, the read failed.
 abbrev pub RefillsAhead : Result ℕ ReadError → Source → Source → Type 0
 RefillsAhead (Ok n) old new = ConsumesWithReads (none_given n) old new [] × (n ≡ 0 → AllTaken new)
 RefillsAhead (Err errors.Failed) old new = ConsumesAndFails old new []
 RefillsAhead (Err errors.OutOfMemory) old new = ⊥
 
--- that the reader is not at its end
+-- `IsNotAtEnd s` holds if the reader is not at its end.
 abbrev pub IsNotAtEnd : Source → Type 0
 IsNotAtEnd s = AtEnd s → ⊥
 
--- That some bytes were consumed, possibly none. If the flag is false, the end may have been found.
+-- `TakesSome goes old new` holds if some bytes were consumed, possibly none. If `goes` is false, the end may have been
+-- found.
 abbrev pub TakesSome : Bool → Source → Source → Type 0
 TakesSome true old new = (text : List ℕ) × ConsumesBytes old new text
 TakesSome false old new = ((text : List ℕ) × ConsumesWithReads 1 old new text) × (AtEnd new → IsAtEnd new.reader.to_come)
 
--- that some bytes were consumed, possibly none, and at most one read gave nothing
+-- `TakesSomeOrEnds old new` holds if some bytes were consumed, possibly none, and at most one read gave nothing.
 abbrev pub TakesSomeOrEnds : Source → Source → Type 0
 TakesSomeOrEnds old new = (text : List ℕ) × ConsumesWithReads 1 old new text
 
--- that no read failed, and the calls of the reader are those counted in `reads`
+-- `NoReadFailedAhead old new` holds if no read failed, and the calls of the reader are those counted in `reads`.
 abbrev pub NoReadFailedAhead : Source → Source → Type 0
 NoReadFailedAhead old new = (new.reader.failures ≡ old.reader.failures) × (new.reader.calls + old.reads ≡ old.reader.calls + new.reads)
 
--- that a read failed, or there were already 2^48 reads
+-- `FaultsAhead old new` holds if a read failed, or there were already 2^48 reads.
 abbrev pub FaultsAhead : Source → Source → Type 0
 FaultsAhead old new = (text : List ℕ) × ConsumesAndFails old new text

@@ -1,5 +1,7 @@
-//! Reads answers line by line, each from the start of a byte slice. Bytes are refused unless they have exactly this
-//! form: single spaces, no leading zeros, LF at the end of every line, and names from 1 to 2^28 in order.
+//! Reads answers line by line, each from the start of a byte slice.
+//!
+//! Bytes are refused unless they have exactly this form: single spaces, no leading zeros, LF at the end of every line,
+//! and names from 1 to 2^28 in order.
 ghost use Rattle.std.specs.Prelude.{◌≡◌, ◌++◌, false, ◌*◌, ◌<◌, decimal, MatchOption, MatchResult, List, ℕ};
 ghost use Rattle.certify.specs.answers.AnswerForms.{IsName};
 ghost use Rattle.certify.specs.answers.AnswerReading.{NoLiteral, NoLiterals, NoKind, NoLine};
@@ -48,7 +50,7 @@ impl<T: Drop> From<AllocFailed<T>> for AnswerFault {
     }
 }
 
-/// Whether `text` begins with `bytes`.
+/// Returns `true` if `text` begins with `bytes`.
 pub fn is_front(bytes: &[u8], text: &[u8]) -> bool
     ensures { result ≡ false → (tail : List ℕ) → text.now ≡ bytes.now ++ tail → ⊥ }
 {
@@ -68,7 +70,7 @@ fn read_name(bytes: &[u8]) -> Option<(usize, &[u8])>
     Some((name as usize, rest))
 }
 
-/// Whether `bytes`, or some continuation of `bytes`, begins with a name and a space.
+/// Returns `true` if `bytes`, or some continuation of `bytes`, begins with a name and a space.
 fn begins_name(bytes: &[u8]) -> bool
     ensures { result ≡ false → StartsNoName bytes.now }
 {
@@ -86,8 +88,8 @@ fn begins_name(bytes: &[u8]) -> bool
     true
 }
 
-/// Returns the literal at the start of `bytes`, and the bytes after the space that must follow it. Skips the sign without
-/// a branch.
+/// Returns the literal at the start of `bytes`, and the bytes after the space that must follow it. Skips the sign
+/// without a branch.
 fn read_literal(bytes: &[u8]) -> Option<(Lit, &[u8])>
     ensures { MatchOption result (NoLiteral bytes.now) (λ x. BeginsWithLiteral bytes.now x.0 x.1.now) }
 {
@@ -99,7 +101,7 @@ fn read_literal(bytes: &[u8]) -> Option<(Lit, &[u8])>
     Some((Lit::from_index(name - 1, !negative), rest))
 }
 
-/// Whether `bytes`, or some continuation of `bytes`, begins with a literal and a space.
+/// Returns `true` if `bytes`, or some continuation of `bytes`, begins with a literal and a space.
 fn begins_literal(bytes: &[u8]) -> bool
     ensures { result ≡ false → StartsNoLiteral bytes.now }
 {
@@ -147,8 +149,8 @@ fn read_literals<'a>(
     take_text(rest, b"0\n").ok_or(AnswerFault::Text)
 }
 
-/// Whether `bytes`, or some continuation of `bytes`, begins with the literals of the second line of an answer of this
-/// kind, followed by `0` and LF.
+/// Returns `true` if `bytes`, or some continuation of `bytes`, begins with the literals of the second line of an answer
+/// of this kind, followed by `0` and LF.
 fn begins_literals(kind: AnswerKind, bytes: &[u8]) -> bool
     requires { HasLine kind }
     ensures { result ≡ false → StartsNoLiterals kind bytes.now }
@@ -170,7 +172,7 @@ fn begins_literals(kind: AnswerKind, bytes: &[u8]) -> bool
     begins_literal(rest)
 }
 
-/// Whether `bytes`, or some continuation of `bytes`, begins with the first line of an answer.
+/// Returns `true` if `bytes`, or some continuation of `bytes`, begins with the first line of an answer.
 pub fn begins_kind(bytes: &[u8]) -> bool
     ensures { result ≡ false → StartsNoKind bytes.now }
 {
@@ -221,8 +223,8 @@ fn read_list<'a>(
     read_literals(kind, following, line)
 }
 
-/// Whether `bytes`, or some continuation of `bytes`, begins with the second line of an answer of this kind, which
-/// begins with `head`.
+/// Returns `true` if `bytes`, or some continuation of `bytes`, begins with the second line of an answer of this kind,
+/// which begins with `head`.
 fn begins_list(kind: AnswerKind, head: &[u8], bytes: &[u8]) -> bool
     requires { IsHead kind head.now }
     ensures { result ≡ false → StartsNoLine kind bytes.now }
@@ -236,7 +238,7 @@ fn begins_list(kind: AnswerKind, head: &[u8], bytes: &[u8]) -> bool
     }
 }
 
-/// Whether `bytes`, or some continuation of `bytes`, begins with the second line of an answer of this kind.
+/// Returns `true` if `bytes`, or some continuation of `bytes`, begins with the second line of an answer of this kind.
 pub fn begins_line(kind: AnswerKind, bytes: &[u8]) -> bool
     ensures { result ≡ false → StartsNoLine kind bytes.now }
 {

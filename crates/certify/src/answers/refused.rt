@@ -10,8 +10,7 @@ use crate::judge::Refusal;
 use sat_base::{Var, push_decimal};
 use std::alloc::AllocError;
 
-/// Appends the line that says that command number `command` is refused because `name` is in use and its mode
-/// is witness.
+/// Appends the line that says that command `command` is refused because `name` is in use and its mode is witness.
 fn push_refused_witness(out: &mut Vec<u8>, command: u64, name: Var) -> Result<(), AllocError>
     ensures text { OnOk result (out.new.items ≡ out.old.items ++ refused_line command (WitnessName (name + 1))) }
     ensures line { OnOk result (IsOneLine (refused_line command (WitnessName (name + 1)))) }
@@ -25,7 +24,7 @@ fn push_refused_witness(out: &mut Vec<u8>, command: u64, name: Var) -> Result<()
     Ok(())
 }
 
-/// Appends the line that says that command number `command` is refused, and why.
+/// Appends the line that says that command `command` is refused, and why.
 pub(crate) fn push_refused(
     out: &mut Vec<u8>,
     command: u64,

@@ -1,5 +1,7 @@
-//! Appends the lines of answers to a buffer. If memory runs out, part of a line may have been appended. A name is
-//! written as a number that is one more than the name's index.
+//! Appends the lines of answers to a buffer.
+//!
+//! If memory runs out, part of a line may have been appended. A name is written as a number that is one more than the
+//! name's index.
 ghost use Rattle.std.specs.Prelude.{◌≡◌, ◌++◌, OnOk};
 ghost use Rattle.certify.specs.answers.Answers.{literals_text, malformed_line, outcome_text, refused_line};
 ghost use Rattle.certify.specs.answers.Answers.{literal_text};
@@ -56,7 +58,7 @@ pub fn push_unknown(out: &mut Vec<u8>) -> Result<(), AllocError>
     out.extend_from_slice(b"s UNKNOWN\n")
 }
 
-/// Appends the line that says that command number `command` is refused because of a name past the limit.
+/// Appends the line that says that command `command` is refused because of a name past the limit.
 pub fn push_refused_limit(out: &mut Vec<u8>, command: u64) -> Result<(), AllocError>
     ensures { OnOk result (out.new.items ≡ out.old.items ++ refused_line command PastLimit) }
 {
@@ -65,7 +67,7 @@ pub fn push_refused_limit(out: &mut Vec<u8>, command: u64) -> Result<(), AllocEr
     out.extend_from_slice(b" limit\n")
 }
 
-/// Appends the last line of the answers for a script that is malformed at command number `command`.
+/// Appends the last line of the answers for a script that is malformed at command `command`.
 pub fn push_malformed(out: &mut Vec<u8>, command: u64) -> Result<(), AllocError>
     ensures { OnOk result (out.new.items ≡ out.old.items ++ malformed_line command) }
 {

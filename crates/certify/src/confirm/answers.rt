@@ -37,21 +37,22 @@ pub(crate) struct Answers {
     due: Vec<u8>,
 }
 
-/// Whether `line`, which was read, is the expected line `due`.
+/// Returns `true` if `line`, which was read, is the expected line `due`.
 fn is_same(line: &[u8], due: &[u8]) -> bool
     ensures { MatchBool result (line.now ≡ due.now) (line.now ≡ due.now → ⊥) }
 {
     line == due
 }
 
-/// Whether the line that was read is empty, which means that the answers have ended.
+/// Returns `true` if the line that was read is empty, which means that the answers have ended.
 fn is_none(line: &[u8]) -> bool
     ensures { MatchBool result (line.now ≡ []) (line.now ≡ [] → ⊥) }
 {
     line.is_empty()
 }
 
-/// Whether `settled` rules out an answer of this kind: if `settled` is true, only the kind `Unsat` is allowed.
+/// Returns `true` if `settled` rules out an answer of this kind: if `settled` is true, only the kind `Unsat` is
+/// allowed.
 fn is_other(settled: bool, kind: AnswerKind) -> bool
     ensures { MatchBool result ((settled ≡ true) × (kind ≡ AnswerKind.Unsat → ⊥))
         (settled ≡ true → kind ≡ AnswerKind.Unsat) }
@@ -66,8 +67,8 @@ fn is_other(settled: bool, kind: AnswerKind) -> bool
     }
 }
 
-/// Whether `settled` rules out the literals of an answer: if `settled` is true, only an answer without literals
-/// is allowed.
+/// Returns `true` if `settled` rules out the literals of an answer: if `settled` is true, only an answer without
+/// literals is allowed.
 fn has_more(settled: bool, lits: &[Lit]) -> bool
     ensures { MatchBool result ((settled ≡ true) × (lits.now ≡ [] → ⊥)) (settled ≡ true → lits.now ≡ []) }
 {
@@ -135,7 +136,7 @@ impl Answers {
         Err(Stop::No(Why::AnswerText))
     }
 
-    /// Expects the line that says that command number `number` is refused, and why.
+    /// Expects the line that says that command `number` is refused, and why.
     pub fn refuse<A: CountedRead>(
         &mut self,
         answers: &mut A,
@@ -152,7 +153,7 @@ impl Answers {
         self.take_due(answers)
     }
 
-    /// Expects the last line of the answers to a script that is malformed at command number `number`.
+    /// Expects the last line of the answers to a script that is malformed at command `number`.
     pub fn refuse_rest<A: CountedRead>(&mut self, answers: &mut A, number: u64) -> Result<(), Stop>
         requires open_yet { IsNotAtEnd (answers_source A.seen answers.old self.old) }
         ensures { Replies true result (answers_source A.seen answers.old self.old)

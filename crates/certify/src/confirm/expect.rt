@@ -154,7 +154,7 @@ fn compare_core(
     Ok(unless(same, Why::AnswerDiffers))
 }
 
-/// Whether `line` lists the names in use, in order, and contains the literals of `ask`.
+/// Returns `true` if `line` lists the names in use, in order, and contains the literals of `ask`.
 fn is_line(
     names: &Names,
     ask: &[Lit],

@@ -14,7 +14,7 @@ use crate::confirm::stop::{Stop, refused, refused_step, unread};
 use sat_base::{CountedRead, ProofStep, StepReader};
 use sat_checker::{Checker, SelfChecker};
 
-/// Whether `tag` is the tag of an ordered step. Steps with other tags can be anywhere in a certificate.
+/// Returns `true` if `tag` is the tag of an ordered step. Steps with other tags can be anywhere in a certificate.
 pub(crate) fn is_ordered(tag: u8) -> bool
     ensures { result ≡ is_ordered_tag tag }
 {
@@ -39,8 +39,8 @@ pub(crate) fn read_next<R: CountedRead>(steps: &mut StepReader<'_, R>) -> Result
     }
 }
 
-/// Feeds a step to the checker. If the checker doesn't accept the step, the certificate is rejected, whatever
-/// is expected.
+/// Feeds a step to the checker. If the check fails, the certificate is rejected, whatever is expected; if memory or a
+/// counter ends, that is a fault.
 pub(crate) fn feed(checker: &mut Checker, step: &ProofStep<'_>) -> Result<(), Stop>
     ensures feeds { FeedsStep result (kernel_of checker.old) (step_of step.now) (kernel_of checker.new) }
     ensures looks { LooksAtMost (kernel_of checker.old) (step_of step.now) (kernel_of checker.new) }

@@ -47,7 +47,7 @@ fn up_to_line(bytes: &[u8]) -> (usize, bool)
     (bytes.len(), false)
 }
 
-/// Whether an allowed line can begin with `bytes`.
+/// Returns `true` if an allowed line can begin with `bytes`.
 fn may_begin(wanted: Wanted, due: &[u8], bytes: &[u8]) -> bool
     ensures { result ≡ false → StartsNone (IsWantedLine wanted due.now) bytes.now }
 {
@@ -89,7 +89,7 @@ impl Lines {
         }
     }
 
-    /// Consumes the bytes that were read, up to the end of the line. Returns whether the end of the line was reached.
+    /// Consumes the bytes that were read, up to the end of the line. Returns `true` if the end of the line was reached.
     fn take(&mut self) -> Result<bool, AllocError>
         ensures { MovesPrefix result self.old.ahead self.new.ahead self.old.line.items self.new.line.items }
     {

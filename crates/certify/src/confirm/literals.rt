@@ -1,4 +1,6 @@
-//! Compares lists of literals as sets. In literals over names, each name stands for its variable.
+//! Compares lists of literals as sets.
+//!
+//! In literals over names, each name stands for its variable.
 ghost use Rattle.std.specs.Prelude.{IfOk, ◌≡◌, [], true};
 ghost use Rattle.sat_checker.specs.LiteralSets.{is_among};
 ghost use Rattle.sat_checker.specs.matching.Expected.{EachSpelt, SameSet, Spells};
@@ -45,7 +47,7 @@ impl LitScratch {
     }
 }
 
-/// Whether all of `literals` are among `others`.
+/// Returns `true` if all of `literals` are among `others`.
 fn are_among(literals: &[Lit], others: &[Lit], sets: &mut Sets) -> Result<bool, AllocError>
     ensures { IfOk result (λ yes. AnswersWhether yes (AllAmong literals.now others.now)) }
 {
@@ -87,7 +89,7 @@ fn are_same_short(xs: &[Lit], ys: &[Lit]) -> bool
     are_all_in(ys, xs)
 }
 
-/// Whether both lists contain the same literals.
+/// Returns `true` if both lists contain the same literals.
 fn are_same(xs: &[Lit], ys: &[Lit], sets: &mut Sets) -> Result<bool, AllocError>
     ensures { IfOk result (λ yes. AnswersWhether yes (AllAmong xs.now ys.now × AllAmong ys.now xs.now)) }
 {
@@ -102,7 +104,7 @@ fn are_same(xs: &[Lit], ys: &[Lit], sets: &mut Sets) -> Result<bool, AllocError>
     Ok(is_subset(&sets.second, &sets.first, false))
 }
 
-/// Whether `line` contains all of `literals`.
+/// Returns `true` if `line` contains all of `literals`.
 pub(crate) fn has_all(
     line: &[Lit],
     literals: &[Lit],
@@ -113,7 +115,7 @@ pub(crate) fn has_all(
     are_among(literals, line, &mut room.sets)
 }
 
-/// Writes `literals` to `spelt`, with every name replaced by its variable. Returns whether every name has a variable.
+/// Writes `literals` to `spelt`, with every name replaced by its variable. Returns `true` if every name has a variable.
 fn spell(variables: &NamedVars, literals: &[Lit], spelt: &mut Vec<Lit>) -> Result<bool, AllocError>
     ensures { IfOk result
         (λ yes. SpellsAll yes (variable_in variables.now) (named_literals literals.now) spelt.new.items) }
@@ -128,7 +130,7 @@ fn spell(variables: &NamedVars, literals: &[Lit], spelt: &mut Vec<Lit>) -> Resul
     Ok(true)
 }
 
-/// Whether `code` is `literal` with its name replaced by the variable of that name.
+/// Returns `true` if `code` is `literal` with its name replaced by the variable of that name.
 fn is_spelt(variables: &NamedVars, literal: Lit, code: Lit) -> bool
     ensures { result ≡ true → Spells (variable_in variables.now) (named_literal literal) code }
 {
@@ -138,7 +140,7 @@ fn is_spelt(variables: &NamedVars, literal: Lit, code: Lit) -> bool
     }
 }
 
-/// Whether `codes` are, in order, the literals in `literals` with every name replaced by its variable.
+/// Returns `true` if `codes` are, in order, the literals in `literals` with every name replaced by its variable.
 fn are_spelt(variables: &NamedVars, literals: &[Lit], codes: &[Lit]) -> bool
     ensures { result ≡ true → AreSpelt (variable_in variables.now) (named_literals literals.now) codes.now }
 {
@@ -153,7 +155,7 @@ fn are_spelt(variables: &NamedVars, literals: &[Lit], codes: &[Lit]) -> bool
     true
 }
 
-/// Whether all of `literals`, with every name replaced by its variable, are among `codes`.
+/// Returns `true` if all of `literals`, with every name replaced by its variable, are among `codes`.
 pub(crate) fn are_spelt_in(
     variables: &NamedVars,
     literals: &[Lit],
@@ -173,7 +175,7 @@ pub(crate) fn are_spelt_in(
     }
 }
 
-/// Whether `literals`, with every name replaced by its variable, and `codes` are equal as sets.
+/// Returns `true` if `literals`, with every name replaced by its variable, and `codes` are equal as sets.
 pub(crate) fn are_spelt_by(
     variables: &NamedVars,
     literals: &[Lit],

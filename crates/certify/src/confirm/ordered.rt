@@ -50,7 +50,8 @@ fn advance<R: CountedRead>(
     Ok(None)
 }
 
-/// Feeds the steps before the next ordered step to the checker.
+/// Feeds the steps before the next ordered step to the checker. Returns `Step` if that step was read, or `Cut` if
+/// `unsat` is recorded before it.
 fn find_ordered<R: CountedRead>(
     checker: &mut Checker,
     steps: &mut StepReader<'_, R>,
@@ -70,7 +71,8 @@ fn find_ordered<R: CountedRead>(
     }
 }
 
-/// Feeds the steps before the next ordered step to the checker, and then settles a pending unit conflict.
+/// Feeds the steps before the next ordered step to the checker, and then settles a pending unit conflict. Returns
+/// `Step` if the ordered step was read, or `Cut` if `unsat` is recorded before it.
 pub(crate) fn await_ordered<R: CountedRead>(
     checker: &mut Checker,
     steps: &mut StepReader<'_, R>,

@@ -9,22 +9,30 @@ use crate::verdict::Why;
 use sat_base::{ReadError, StepError};
 use sat_checker::{CheckerError, StepRefusal};
 use std::alloc::{AllocError, AllocFailed};
+use thiserror::Error;
 
 /// Why a confirmation ends before the end of the texts.
-#[derive(Clone, Copy, Drop)]
+#[derive(Clone, Copy, Debug, Drop, Error)]
 pub(crate) enum Stop {
     /// The first mismatch.
+    #[error("the texts do not match")]
     No(Why),
     /// The script's reader failed, or was read 2^48 times.
+    #[error("the script cannot be read")]
     ScriptRead,
     /// The answers' reader failed, or was read 2^48 times.
+    #[error("the answers cannot be read")]
     AnswersRead,
     /// The certificate's reader failed, or was read 2^48 times.
+    #[error("the certificate cannot be read")]
     CertificateRead,
+    #[error("out of memory")]
     OutOfMemory,
     /// A count of the checker would exceed 64 bits.
+    #[error("a count of the checker is at its end")]
     CounterEnd,
     /// A command's number would exceed 64 bits.
+    #[error("a command's number is past 64 bits")]
     TooMany,
 }
 

@@ -35,7 +35,7 @@ pub struct NewNames {
     pub count: usize,
 }
 
-/// Returns the refusal for a name past the limit, if `past_limit` is true.
+/// Returns the refusal for a name past the limit if `past_limit` is true, and otherwise `None`.
 fn limit_refusal(past_limit: bool) -> Option<Refusal>
     ensures { result ≡ limit_refusal past_limit }
 {
@@ -46,7 +46,7 @@ fn limit_refusal(past_limit: bool) -> Option<Refusal>
     }
 }
 
-/// Whether the command is a clause or an ask. These commands only introduce names.
+/// Returns `true` if the command is a clause or an ask. These commands only introduce names.
 fn is_of_literals(kind: CommandKind) -> bool
     ensures { result ≡ is_of_literals (kind_of kind) }
 {
@@ -81,7 +81,7 @@ impl Names {
         NameState::Hidden
     }
 
-    /// Whether the name is in use and its mode is witness.
+    /// Returns `true` if the name is in use and its mode is witness.
     fn is_witness(&self, var: Var) -> bool
         ensures witness { result ≡ is_witnessed (state_in (states_of self.now) (var + 1)) }
         ensures bound { var < var_limit }
@@ -93,7 +93,7 @@ impl Names {
         }
     }
 
-    /// Whether the name is in use.
+    /// Returns `true` if the name is in use.
     fn is_in_use(&self, var: Var) -> bool
         ensures { result ≡ true → IsInUse self.now (var + 1) }
     {
@@ -103,7 +103,8 @@ impl Names {
         true
     }
 
-    /// Whether the command is a clause or an ask all of whose names are in use. Such a command changes no names.
+    /// Returns `true` if the command is a clause or an ask all of whose names are in use. Such a command changes no
+    /// names.
     pub(crate) fn are_known(&self, kind: CommandKind, literals: &[Lit]) -> bool
         ensures { result ≡ true → IntroducesNothing (kind_of kind) (names_of (named_literals literals.now)) self.now }
     {
@@ -178,7 +179,7 @@ impl Names {
         }
     }
 
-    /// Whether `line` contains exactly one literal for each name in use, in increasing order of names.
+    /// Returns `true` if `line` contains exactly one literal for each name in use, in increasing order of names.
     pub fn are_listed(&self, line: &[Lit]) -> bool
         ensures { MatchBool result (ListsUsed self.now line.now) (ListsUsed self.now line.now → ⊥) }
     {

@@ -86,7 +86,8 @@ impl<R: CountedRead> Keeping<R> {
         reader
     }
 
-    /// Reserves memory for a copy of `count` more bytes. Returns `true` if there is enough, now and at all earlier calls.
+    /// Reserves memory for a copy of `count` more bytes. Returns `true` if there is enough, now and at all earlier
+    /// calls.
     fn make_room(&mut self, count: usize) -> bool
         ensures reader { self.new.reader ≡ self.old.reader }
         ensures kept { self.new.kept.items ≡ self.old.kept.items }

@@ -10,6 +10,7 @@ use crate::program::overlap::{is_one_file, overlaps};
 use crate::verdict::ConfirmFault;
 use sat_base::Counted;
 use std::fs::{File, Files};
+use std::io;
 
 /// A file that was opened or created, and the path that led to it.
 #[derive(Drop)]
@@ -57,12 +58,21 @@ pub enum OpenCall<'a, F, G> {
     Check(OpenFile<'a, F>),
 }
 
-/// Opens a file for reading. Returns `fault` if that fails.
+/// Why a call was not opened: the fault, the path of the file that couldn't be opened or created, and the system's
+/// error.
+#[derive(Clone, Copy)]
+pub(super) struct OpenFault<'a> {
+    pub(super) fault: ProgramFault,
+    pub(super) path: &'a str,
+    pub(super) error: io::Error,
+}
+
+/// Opens a file for reading. The error has `fault` if that fails.
 fn open<'a, R: Files>(
     rt: &R,
     path: &'a str,
     fault: ProgramFault,
-) -> Result<OpenFile<'a, R::File>, ProgramFault>
+) -> Result<OpenFile<'a, R::File>, OpenFault<'a>>
     ensures { IfOk result (IsUnread R.File.remaining path.now) }
 {
     match File::open(rt, path) {
@@ -70,16 +80,16 @@ fn open<'a, R: Files>(
             path,
             device: Counted::new(file),
         }),
-        Err(_) => Err(fault),
+        Err(error) => Err(OpenFault { fault, path, error }),
     }
 }
 
-/// Creates an empty file for writing. Returns `fault` if that fails.
+/// Creates an empty file for writing. The error has `fault` if that fails.
 fn make<'a, R: Files>(
     rt: &R,
     path: &'a str,
     fault: ProgramFault,
-) -> Result<OpenFile<'a, R::File>, ProgramFault>
+) -> Result<OpenFile<'a, R::File>, OpenFault<'a>>
     ensures { IfOk result (IsUnwritten R.File.contents path.now) }
 {
     match File::create(rt, path) {
@@ -87,7 +97,7 @@ fn make<'a, R: Files>(
             path,
             device: Counted::new(file),
         }),
-        Err(_) => Err(fault),
+        Err(error) => Err(OpenFault { fault, path, error }),
     }
 }
 
@@ -97,7 +107,7 @@ fn open_run<'a, R: Files>(
     rt: &R,
     files: RunFiles<'a>,
     budget: u64,
-) -> Result<Option<OpenCall<'a, R::File, R::File>>, ProgramFault>
+) -> Result<Option<OpenCall<'a, R::File, R::File>>, OpenFault<'a>>
     ensures { IfOk result (λ made. MatchOption made (WritesFiles (running files.entry budget))
         (IsOpenedFor R.File.remaining R.File.contents (running files.entry budget))) }
 {
@@ -126,7 +136,7 @@ fn open_run<'a, R: Files>(
 fn open_confirm<'a, R: Files>(
     rt: &R,
     files: RunFiles<'a>,
-) -> Result<OpenCall<'a, R::File, R::File>, ProgramFault>
+) -> Result<OpenCall<'a, R::File, R::File>, OpenFault<'a>>
     ensures { IfOk result (IsOpenedFor R.File.remaining R.File.contents (confirming files.entry)) }
 {
     let script = open(
@@ -156,7 +166,7 @@ fn open_hints<'a, R: Files>(
     rt: &R,
     certificate: &'a str,
     hints: &'a str,
-) -> Result<Option<OpenCall<'a, R::File, R::File>>, ProgramFault>
+) -> Result<Option<OpenCall<'a, R::File, R::File>>, OpenFault<'a>>
     ensures { IfOk result (λ made. MatchOption made (WritesFiles (Hints certificate.now hints.now))
         (IsOpenedFor R.File.remaining R.File.contents (Hints certificate.now hints.now))) }
 {
@@ -172,7 +182,7 @@ fn open_hints<'a, R: Files>(
 fn open_check<'a, R: Files>(
     rt: &R,
     hints: &'a str,
-) -> Result<OpenCall<'a, R::File, R::File>, ProgramFault>
+) -> Result<OpenCall<'a, R::File, R::File>, OpenFault<'a>>
     ensures { IfOk result (IsOpenedFor R.File.remaining R.File.contents (Check hints.now)) }
 {
     let hints = open(rt, hints, ProgramFault::Hints(HintCallFault::Read))?;
@@ -184,7 +194,7 @@ fn open_check<'a, R: Files>(
 pub(super) fn open_call<'a, R: Files>(
     rt: &R,
     call: &Call<'a>,
-) -> Result<Option<OpenCall<'a, R::File, R::File>>, ProgramFault>
+) -> Result<Option<OpenCall<'a, R::File, R::File>>, OpenFault<'a>>
     ensures { MatchResult result (λ made. MatchOption made (WritesFiles (request_of call.now))
         (IsOpenedFor R.File.remaining R.File.contents (request_of call.now))) (λ _. NamesFiles (request_of call.now)) }
 {

@@ -15,8 +15,11 @@ const MISUSED: u8 = 2;
 /// A fault occurred. Its name is written to standard error.
 const FAILED: u8 = 3;
 
-/// The line that is written if the arguments are not a valid call.
-const USAGE: &str = "usage: certify [run S A C [STEPS] | confirm S A C | hints C H | check H]\n";
+/// What is written if the arguments are not a valid call: the usage, and a line that explains its words.
+const USAGE: &str = "\
+    usage: certify [run S A C [STEPS] | confirm S A C | hints C H | check H]\n\
+    S: script, A: its answers, C: their certificate, H: hint text, STEPS: limit on search rounds per ask; \
+    an output must not be an input or the other output; without arguments, standard input is the script\n";
 
 /// Writes a line with the name of a fault or rejection to standard error. If that fails, the error is ignored.
 pub(super) fn report<E: CountedWrite>(errors: &mut E, name: &str) {
@@ -26,7 +29,7 @@ pub(super) fn report<E: CountedWrite>(errors: &mut E, name: &str) {
     let _ = errors.flush_counted();
 }
 
-/// Writes the usage to standard error. If that fails, the error is ignored. Returns the status.
+/// Writes the usage and its explanation to standard error. If that fails, the error is ignored. Returns the status.
 pub(super) fn misused<E: CountedWrite>(errors: &mut E) -> u8
     ensures { result ≡ 2 }
 {

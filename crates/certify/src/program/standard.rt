@@ -92,7 +92,7 @@ fn answer_kept<R: CountedRead, O: CountedWrite, E: CountedWrite>(
     ensures stops { StopsReading (R.seen script.old.reader) (R.seen script.new.reader) }
 {
     let written = run_kept(alloc, script)?;
-    report_progress(errors, &written.summary.progress);
+    report_progress(errors, &written.summary);
     print_confirmed(alloc, &script.kept, &written, output)
 }
 

@@ -57,7 +57,7 @@ pub(super) fn run_text<S: CountedRead, A: CountedWrite, C: CountedWrite, E: Coun
 {
     match run(alloc, script, answers, certificate, budget) {
         Ok(summary) => {
-            report_progress(errors, &summary.progress);
+            report_progress(errors, &summary);
             Ok(run_status(&summary))
         }
         Err(fault) => Err(ProgramFault::Run(fault)),

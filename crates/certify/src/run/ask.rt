@@ -2,7 +2,7 @@
 ghost use Rattle.std.specs.Prelude.{◌≡◌, [], IfErr, IfOk, OnOk};
 ghost use Rattle.sat_base.specs.script.Language.{Reading};
 ghost use Rattle.sat_base.specs.script.Script.{Ask};
-ghost use Rattle.sat_solver.specs.solver.Whole.{HasFullStore};
+ghost use Rattle.sat_solver.specs.facade.Calls.{HasFullStore};
 ghost use Rattle.certify.specs.answers.AnswerForms.{named_literals};
 ghost use Rattle.certify.specs.run.Asking.{AskEffect};
 ghost use Rattle.certify.specs.run.SolverCalls.{FailsIf, IsAllowed, IsCaused, IsReadySolver, LacksFor};
@@ -17,7 +17,7 @@ use crate::summary::AskReport;
 use sat_base::{CountedWrite, Lit};
 use sat_solver::Solver;
 
-/// Searches for the answer to an ask, and writes the text of the answer to `page`.
+/// Searches for the answer to an ask, and writes the text of the answer to `page`. Returns the report on the ask.
 fn ask<C: CountedWrite + Drop>(
     solver: &mut Solver<C>,
     literals: &[Lit],
@@ -26,12 +26,12 @@ fn ask<C: CountedWrite + Drop>(
 ) -> Result<AskReport, RunFault>
     requires ready { IsReadySolver solver.old }
     requires allowed { IsAllowed solver.old literals.now }
-    ensures effect { IfOk result (λ report. AskEffect C.seen budget report literals.now page.new.text.items solver.old
+    ensures effect { IfOk result (λ report. AskEffect budget report literals.now page.new.text.items solver.old
         solver.new) }
     ensures ready { OnOk result (IsReadySolver solver.new) }
     // Afterwards, an ask without literals is allowed, since it contains no name to refuse.
     ensures allowed { OnOk result (IsAllowed solver.new []) }
-    ensures fails { FailsIf result C.seen solver.old solver.new }
+    ensures fails { FailsIf result solver.old solver.new }
     ensures cause { IfErr result (λ e. IsCaused e (HasFullStore solver.new)
         (LacksFor solver.old solver.new (Ask (named_literals literals.now)))) }
 {
@@ -49,14 +49,14 @@ pub fn answer_ask<A: CountedWrite, C: CountedWrite + Drop>(
 ) -> Result<(), RunFault>
     requires ready { IsReadySolver session.old.solver }
     requires allowed { IsAllowed session.old.solver literals.now }
-    ensures carried { OnOk result (CarriedOut C.seen session.old session.new (Ask (named_literals literals.now))
+    ensures carried { OnOk result (CarriedOut session.old session.new (Ask (named_literals literals.now))
         (A.seen answers.old) (A.seen answers.new)) }
     ensures stops { (left : Reading)
         → StopsCarrying result session.old session.new (Ask (named_literals literals.now)) left (A.seen answers.old)
         (A.seen answers.new) }
     ensures cause { CausedBy result session.old session.new (Ask (named_literals literals.now)) }
     ensures names { session.new.names ≡ session.old.names }
-    ensures written { WritesBoth result C.seen (A.seen answers.old) (A.seen answers.new) session.old.solver
+    ensures written { WritesBoth result (A.seen answers.old) (A.seen answers.new) session.old.solver
         session.new.solver }
 {
     let report = ask(

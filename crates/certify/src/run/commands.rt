@@ -27,14 +27,14 @@ fn carry_out<A: CountedWrite, C: CountedWrite + Drop>(
 ) -> Result<(), RunFault>
     requires goes_on { RunGoesOn session.old }
     requires allowed { NamesAllow session.old.names (represented_by command) }
-    ensures carried { OnOk result (CarriedOut C.seen session.old session.new (represented_by command.entry)
+    ensures carried { OnOk result (CarriedOut session.old session.new (represented_by command.entry)
         (A.seen answers.old) (A.seen answers.new)) }
     ensures stops { (left : Reading)
         → StopsCarrying result session.old session.new (represented_by command.entry) left (A.seen answers.old)
         (A.seen answers.new) }
     ensures cause { CausedBy result session.old session.new (represented_by command.entry) }
     ensures names { session.new.names ≡ session.old.names }
-    ensures written { WritesBoth result C.seen (A.seen answers.old) (A.seen answers.new) session.old.solver
+    ensures written { WritesBoth result (A.seen answers.old) (A.seen answers.new) session.old.solver
         session.new.solver }
 {
     match command.kind {
@@ -57,7 +57,7 @@ fn take_allowed<A: CountedWrite, C: CountedWrite + Drop>(
     requires goes_on { RunGoesOn session.old }
     requires allowed { NamesAllow session.old.names (represented_by command) }
     requires within { command.past_limit ≡ false }
-    ensures carried { OnOk result (CarriedOut C.seen session.old session.new (represented_by command.entry)
+    ensures carried { OnOk result (CarriedOut session.old session.new (represented_by command.entry)
         (A.seen answers.old) (A.seen answers.new)) }
     ensures stops { (left : Reading)
         → StopsCarrying result session.old session.new (represented_by command.entry) left (A.seen answers.old)
@@ -65,7 +65,7 @@ fn take_allowed<A: CountedWrite, C: CountedWrite + Drop>(
     ensures cause { CausedBy result session.old session.new (represented_by command.entry) }
     ensures names { OnOk result ((j : ScriptState) (c : Spelled) → NamesHaveState session.old.names j → RepresentsCommand command.entry c
         → NamesHaveState session.new.names (state_after_accepted c j)) }
-    ensures written { WritesBoth result C.seen (A.seen answers.old) (A.seen answers.new) session.old.solver
+    ensures written { WritesBoth result (A.seen answers.old) (A.seen answers.new) session.old.solver
         session.new.solver }
 {
     carry_out(session, answers, command)?;
@@ -83,13 +83,13 @@ pub fn take_command<A: CountedWrite, C: CountedWrite + Drop>(
     requires few { session.old.commands < 2 ^ 64 - 1 }
     requires whole { RepresentsSomeCommand command }
     ensures served { (c : Spelled) → RepresentsCommand command.entry c
-        → OnOk result (ServedNext C.seen session.old session.new c (A.seen answers.old) (A.seen answers.new)) }
+        → OnOk result (ServedNext session.old session.new c (A.seen answers.old) (A.seen answers.new)) }
     ensures stops { (c : Spelled) → RepresentsCommand command.entry c → (left : Reading)
         → StopsOver result session.old session.new (prepend_commands (c ∷ []) left) (A.seen answers.old)
         (A.seen answers.new) }
     ensures cause { (c : Spelled) → RepresentsCommand command.entry c → (left : Reading)
         → CausedOver result session.old session.new (prepend_commands (c ∷ []) left) }
-    ensures written { WritesBoth result C.seen (A.seen answers.old) (A.seen answers.new) session.old.solver
+    ensures written { WritesBoth result (A.seen answers.old) (A.seen answers.new) session.old.solver
         session.new.solver }
 {
     session.commands += 1;

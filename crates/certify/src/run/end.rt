@@ -1,10 +1,10 @@
 //! Ends a run.
 ghost use Rattle.std.specs.Prelude.{◌≡◌, [], true, Err, OnErr, OnOk, Some};
 ghost use Rattle.sat_base.specs.device.Device.{WriterAccepts};
-ghost use Rattle.sat_solver.specs.proof.ProofView.{GivesWriter, target_of};
+ghost use Rattle.sat_solver.specs.proof.ProofView.{GivesWriter};
+ghost use Rattle.sat_solver.specs.session.Session.{AreAllowedSteps};
 ghost use Rattle.certify.specs.Devices.{OneFailed};
 ghost use Rattle.certify.specs.run.Unfinished.{TookBytes};
-ghost use Rattle.sat_solver.specs.solver.View.{proof_in};
 ghost use Rattle.certify.specs.run.SolverCalls.{IsReadySolver};
 ghost use Rattle.certify.specs.run.Ending.{EndsCertificate, EndsRun, FinishesRun, GivesPrefix, HasTarget};
 ghost use Rattle.certify.specs.run.Ending.{HasOpenTarget};
@@ -15,13 +15,16 @@ use crate::fault::RunFault;
 use crate::summary::Summary;
 use sat_base::CountedWrite;
 use sat_solver::Solver;
+use sat_solver::facade::laws::steps_record_answers;
 
 /// Returns the certificate's writer after a fault. Steps that have not been written yet are lost.
 fn give_back<C: CountedWrite + Drop>(solver: Solver<C>) -> C
-    requires { HasTarget C.seen solver }
-    ensures gives { GivesWriter (target_of C.seen (proof_in solver)) (Some (C.seen result)) }
-    ensures front { GivesPrefix C.seen solver result }
+    requires { HasTarget solver }
+    ensures gives { GivesWriter solver.target (Some (C.seen result)) }
+    ensures front { GivesPrefix solver (C.seen result) }
+    ensures may { ∥ AreAllowedSteps solver.steps ∥₁ }
 {
+    steps_record_answers(&solver);
     match solver.into_target() {
         Some(certificate) => certificate,
         None => unreachable!(),
@@ -32,9 +35,9 @@ fn give_back<C: CountedWrite + Drop>(solver: Solver<C>) -> C
 /// the writer.
 fn close_certificate<C: CountedWrite + Drop>(solver: Solver<C>) -> (C, Result<(), RunFault>)
     requires ready { IsReadySolver solver }
-    requires target { HasOpenTarget C.seen solver }
-    ensures closes { EndsCertificate C.seen result.1 solver result.0 }
-    ensures front { GivesPrefix C.seen solver result.0 }
+    requires target { HasOpenTarget solver }
+    ensures closes { EndsCertificate result.1 solver (C.seen result.0) }
+    ensures front { GivesPrefix solver (C.seen result.0) }
 {
     let mut solver = solver;
     match solver.close_proof() {
@@ -61,15 +64,15 @@ fn flush_answers<A: CountedWrite>(answers: &mut A) -> Result<(), RunFault>
     }
 }
 
-/// Ends the certificate, and then flushes the answers' writer.
+/// Ends the certificate, and then flushes the answers' writer. Returns the certificate's writer.
 fn finish<A: CountedWrite, C: CountedWrite + Drop>(
     solver: Solver<C>,
     answers: &mut A,
 ) -> (C, Result<(), RunFault>)
     requires ready { IsReadySolver solver }
-    requires target { HasOpenTarget C.seen solver }
-    ensures finishes { FinishesRun C.seen result.1 solver result.0 (A.seen answers.old) (A.seen answers.new) }
-    ensures front { GivesPrefix C.seen solver result.0 }
+    requires target { HasOpenTarget solver }
+    ensures finishes { FinishesRun result.1 solver (C.seen result.0) (A.seen answers.old) (A.seen answers.new) }
+    ensures front { GivesPrefix solver (C.seen result.0) }
 {
     let (certificate, closed) = close_certificate(solver);
     match closed {
@@ -86,10 +89,10 @@ pub(crate) fn end_run<A: CountedWrite, C: CountedWrite + Drop>(
     served: Result<Option<u64>, RunFault>,
 ) -> (C, Result<Summary, RunFault>)
     requires ready { OnOk served (IsReadySolver session.solver) }
-    requires target { OnOk served (HasOpenTarget C.seen session.solver) }
-    requires some { HasTarget C.seen session.solver }
-    ensures ends { EndsRun C.seen served result.1 session result.0 (A.seen answers.old) (A.seen answers.new) }
-    ensures front { GivesPrefix C.seen session.solver result.0 }
+    requires target { OnOk served (HasOpenTarget session.solver) }
+    requires some { HasTarget session.solver }
+    ensures ends { EndsRun served result.1 session (C.seen result.0) (A.seen answers.old) (A.seen answers.new) }
+    ensures front { GivesPrefix session.solver (C.seen result.0) }
 {
     let RunState {
         names: _names,

@@ -19,7 +19,7 @@ pub fn fault_of(error: SolverError) -> RunFault
     }
 }
 
-/// Whether the error says that the rounds were exhausted.
+/// Returns `true` if the error says that the rounds were exhausted.
 pub fn is_interrupted(error: &SolverError) -> bool
     ensures { result ≡ is_interrupted error.now }
 {

@@ -1,15 +1,17 @@
 //! Hides names, and sets their modes.
 ghost use Rattle.std.specs.Prelude.{◌≡◌, ◌+◌, [], ◌∷◌, IfErr, OnOk};
+ghost use Rattle.sat_solver.specs.facade.Calls.{Writes};
+ghost use Rattle.sat_solver.specs.facade.Naming.{OnlyMakes};
 ghost use Rattle.sat_solver.specs.variables.Refusing.{names_in};
-ghost use Rattle.sat_solver.specs.solver.Whole.{IsSolver};
-ghost use Rattle.certify.specs.run.SolverCalls.{FailsIf, IsCaused, IsReadySolver, LacksFor, RefusedForRoom};
-ghost use Rattle.certify.specs.run.Obeying.{ChangesName, Obeyed, command_to};
+ghost use Rattle.certify.specs.run.SolverCalls.{AgreesWithChecker, FailsIf, IsCaused, IsReadySolver, LacksFor, RefusedForRoom};
+ghost use Rattle.certify.specs.run.Obeying.{ChangesName, Obeyed, command_to, may_to};
 
 use super::faults::fault_of;
 use crate::fault::RunFault;
 use crate::judge::NameState;
 use sat_base::{CountedWrite, Lit, Var};
 use sat_solver::{Solver, SolverError};
+use sat_solver::facade::laws::steps_record_answers;
 
 /// Introduces the name `user`, and sets its state.
 fn change_name<C: CountedWrite + Drop>(
@@ -17,8 +19,10 @@ fn change_name<C: CountedWrite + Drop>(
     user: Var,
     state: NameState,
 ) -> Result<(), SolverError>
-    requires { IsSolver solver.old }
-    ensures { ChangesName C.seen result solver.old solver.new user state }
+    ensures changes { ChangesName result solver.old solver.new user state }
+    ensures steps { OnOk result (OnlyMakes (may_to state (user + 1)) solver.old solver.new) }
+    ensures text { Writes result solver.old solver.new }
+    ensures checker { AgreesWithChecker result solver.old solver.new }
 {
     match state {
         NameState::Hidden => solver.hide_var(user),
@@ -34,14 +38,17 @@ fn set_name<C: CountedWrite + Drop>(
     state: NameState,
 ) -> Result<(), RunFault>
     requires ready { IsReadySolver solver.old }
-    requires free { solver.old.assumed.items ≡ [] }
-    ensures obeyed { OnOk result (Obeyed C.seen (command_to state ((user + 1) ∷ [])) solver.old solver.new) }
-    ensures fails { FailsIf result C.seen solver.old solver.new }
+    requires free { solver.old.assumptions ≡ [] }
+    ensures obeyed { OnOk result (Obeyed (command_to state ((user + 1) ∷ [])) solver.old solver.new) }
+    ensures fails { FailsIf result solver.old solver.new }
     // Setting states stores no clause.
     ensures cause { IfErr result (λ e. IsCaused e ⊥ (RefusedForRoom solver.old solver.new (user ∷ []))) }
 {
     match change_name(solver, user, state) {
-        Ok(()) => Ok(()),
+        Ok(()) => {
+            steps_record_answers(solver);
+            Ok(())
+        }
         Err(error) => Err(fault_of(error)),
     }
 }
@@ -53,9 +60,9 @@ pub(crate) fn set_names<C: CountedWrite + Drop>(
     state: NameState,
 ) -> Result<(), RunFault>
     requires ready { IsReadySolver solver.old }
-    requires free { solver.old.assumed.items ≡ [] }
-    ensures obeyed { OnOk result (Obeyed C.seen (command_to state (names_in literals.now)) solver.old solver.new) }
-    ensures fails { FailsIf result C.seen solver.old solver.new }
+    requires free { solver.old.assumptions ≡ [] }
+    ensures obeyed { OnOk result (Obeyed (command_to state (names_in literals.now)) solver.old solver.new) }
+    ensures fails { FailsIf result solver.old solver.new }
     // Setting states stores no clause.
     ensures cause { IfErr result (λ e. IsCaused e ⊥ (LacksFor solver.old solver.new
         (command_to state (names_in literals.now)))) }

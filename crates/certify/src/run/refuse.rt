@@ -3,7 +3,6 @@ ghost use Rattle.std.specs.Prelude.{◌+◌, ◌<◌, ◌≡◌, ◌∷◌, [], 
 ghost use Rattle.sat_base.specs.script.ScriptState.{ScriptState, refusal_of};
 ghost use Rattle.sat_base.specs.script.Language.{Reading, prepend_commands};
 ghost use Rattle.sat_base.specs.script.Script.{Command as Spelled};
-ghost use Rattle.sat_solver.specs.solver.Whole.{steps_in};
 ghost use Rattle.certify.specs.run.Stopping.{StopsServing};
 ghost use Rattle.certify.specs.judge.Names.{refusal_in};
 ghost use Rattle.certify.specs.run.SolverCalls.{IsCaused};
@@ -16,7 +15,7 @@ use crate::fault::RunFault;
 use crate::judge::Refusal;
 use sat_base::CountedWrite;
 
-/// Counts a refusal of the last command, and writes the line that reports it. Doesn't call the solver.
+/// Counts a refusal of the last command, and writes the line that reports it. Does not call the solver.
 pub fn refuse<A: CountedWrite, C: CountedWrite + Drop>(
     session: &mut RunState<C>,
     answers: &mut A,
@@ -27,10 +26,10 @@ pub fn refuse<A: CountedWrite, C: CountedWrite + Drop>(
         (A.seen answers.new)) }
     ensures stops { (j : ScriptState) (c : Spelled) (left : Reading) → refusal_of j c ≡ Some (refusal_in refusal)
         → OnErr result (StopsServing session.old.budget (last_place session.old j) (prepend_commands (c ∷ []) left)
-        (steps_in session.new.solver) (A.seen answers.old) (A.seen answers.new)) }
+        session.new.solver.steps (A.seen answers.old) (A.seen answers.new)) }
     // A refusal stores no clause, and introduces no name.
     ensures cause { IfErr result (λ e. IsCaused e ⊥ ⊥) }
-    ensures written { WritesBoth result C.seen (A.seen answers.old) (A.seen answers.new) session.old.solver
+    ensures written { WritesBoth result (A.seen answers.old) (A.seen answers.new) session.old.solver
         session.new.solver }
 {
     session.refused += 1;

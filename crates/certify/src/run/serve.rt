@@ -10,7 +10,6 @@ ghost use Rattle.certify.specs.script.LastPiece.{IsNotAtEnd, source_in};
 ghost use Rattle.certify.specs.script.Commands.{RepresentsCommand, RepresentsSomeCommand, ReaderMeans, MeansIf};
 ghost use Rattle.certify.specs.script.Commands.{end_reading};
 ghost use Rattle.sat_base.specs.script.Language.{Reading, prepend_commands, reading, plain_reading};
-ghost use Rattle.sat_solver.specs.solver.Whole.{steps_in};
 ghost use Rattle.certify.specs.run.Stopping.{StopsServing};
 ghost use Rattle.certify.specs.run.SolverCalls.{IsCaused, IsReadySolver};
 ghost use Rattle.certify.specs.run.BetweenCommands.{CausedOver, RunGoesOn, HasStateBetweenCommands, ServedNext};
@@ -46,13 +45,13 @@ fn serve_next<A: CountedWrite, C: CountedWrite + Drop>(
     requires goes_on { RunGoesOn session.old }
     requires whole { RepresentsSomeCommand command }
     ensures served { (c : Spelled) → RepresentsCommand command.entry c
-        → OnOk result (ServedNext C.seen session.old session.new c (A.seen answers.old) (A.seen answers.new)) }
+        → OnOk result (ServedNext session.old session.new c (A.seen answers.old) (A.seen answers.new)) }
     ensures stops { (c : Spelled) → RepresentsCommand command.entry c → (left : Reading)
         → StopsOver result session.old session.new (prepend_commands (c ∷ []) left) (A.seen answers.old)
         (A.seen answers.new) }
     ensures cause { (c : Spelled) → RepresentsCommand command.entry c → (left : Reading)
         → CausedOver result session.old session.new (prepend_commands (c ∷ []) left) }
-    ensures written { WritesBoth result C.seen (A.seen answers.old) (A.seen answers.new) session.old.solver
+    ensures written { WritesBoth result (A.seen answers.old) (A.seen answers.new) session.old.solver
         session.new.solver }
 {
     if session.commands == u64::MAX {
@@ -61,7 +60,7 @@ fn serve_next<A: CountedWrite, C: CountedWrite + Drop>(
     take_command(session, answers, command)
 }
 
-/// Writes the line that says that the text is malformed at command number `number`.
+/// Writes the line that says that the text is malformed at command `number`.
 fn report_malformed<A: CountedWrite, C: CountedWrite + Drop>(
     session: &mut RunState<C>,
     answers: &mut A,
@@ -71,9 +70,9 @@ fn report_malformed<A: CountedWrite, C: CountedWrite + Drop>(
     ensures same { session.new ≡ record session.old { page = session.new.page } }
     ensures stops { (j : ScriptState) → OnErr result
         (StopsServing session.old.budget (record (place_in session.old j) { number = number }) ([], Malformed)
-        (steps_in session.new.solver) (A.seen answers.old) (A.seen answers.new)) }
+        session.new.solver.steps (A.seen answers.old) (A.seen answers.new)) }
     ensures cause { IfErr result (λ e. IsCaused e ⊥ ⊥) }
-    ensures written { WritesBoth result C.seen (A.seen answers.old) (A.seen answers.new) session.old.solver
+    ensures written { WritesBoth result (A.seen answers.old) (A.seen answers.new) session.old.solver
         session.new.solver }
 {
     session.page.text.clear();
@@ -89,12 +88,12 @@ fn serve_end<A: CountedWrite, C: CountedWrite + Drop>(
 ) -> Result<Option<u64>, RunFault>
     requires { RunGoesOn session.old }
     ensures serves { (j : ScriptState) → HasStateBetweenCommands session.old j
-        → IfOk result (λ at. ServesWhole C.seen j (end_reading end) 0 at session.old session.new (A.seen answers.old)
+        → IfOk result (λ at. ServesWhole j (end_reading end) 0 at session.old session.new (A.seen answers.old)
         (A.seen answers.new)) }
     ensures stops { StopsOver result session.old session.new (end_reading end) (A.seen answers.old) (A.seen answers.new) }
     ensures cause { CausedOver result session.old session.new (end_reading end) }
     ensures ready { OnOk result (IsReadySolver session.new.solver) }
-    ensures written { WritesBoth result C.seen (A.seen answers.old) (A.seen answers.new) session.old.solver
+    ensures written { WritesBoth result (A.seen answers.old) (A.seen answers.new) session.old.solver
         session.new.solver }
 {
     match end {
@@ -124,7 +123,7 @@ fn serve_last<A: CountedWrite, C: CountedWrite + Drop>(
     requires goes_on { RunGoesOn session.old }
     requires whole { RepresentsSomeCommand command }
     ensures serves { (c : Spelled) → RepresentsCommand command.entry c → (j : ScriptState) → HasStateBetweenCommands session.old j
-        → IfOk result (λ at. ServesWhole C.seen j (prepend_commands (c ∷ []) (end_reading end)) 1 at session.old
+        → IfOk result (λ at. ServesWhole j (prepend_commands (c ∷ []) (end_reading end)) 1 at session.old
         session.new (A.seen answers.old) (A.seen answers.new)) }
     ensures stops { (c : Spelled) → RepresentsCommand command.entry c
         → StopsOver result session.old session.new (prepend_commands (c ∷ []) (end_reading end)) (A.seen answers.old)
@@ -132,7 +131,7 @@ fn serve_last<A: CountedWrite, C: CountedWrite + Drop>(
     ensures cause { (c : Spelled) → RepresentsCommand command.entry c
         → CausedOver result session.old session.new (prepend_commands (c ∷ []) (end_reading end)) }
     ensures ready { OnOk result (IsReadySolver session.new.solver) }
-    ensures written { WritesBoth result C.seen (A.seen answers.old) (A.seen answers.new) session.old.solver
+    ensures written { WritesBoth result (A.seen answers.old) (A.seen answers.new) session.old.solver
         session.new.solver }
 {
     serve_next(session, answers, command)?;
@@ -152,7 +151,7 @@ pub(crate) fn serve_all<S: CountedRead, A: CountedWrite, C: CountedWrite + Drop>
     requires open_yet { IsNotAtEnd (source_in S.seen script.old stream.old.ahead) }
     requires means { ReaderMeans stream.old.reader reading }
     requires counts { MeansIf false stream.old.reader plain_reading }
-    ensures serves { ServesScript C.seen initial_state reading plain_reading result
+    ensures serves { ServesScript initial_state reading plain_reading result
         (source_in S.seen script.old stream.old.ahead) (source_in S.seen script.new stream.new.ahead) session.old
         session.new (A.seen answers.old) (A.seen answers.new) }
     ensures stops { (start : Reader) → ReadsOn start (source_in S.seen script.old stream.old.ahead) stream.old.reader

@@ -2,11 +2,9 @@
 ghost use Rattle.std.specs.Prelude.{◌≡◌, [], ◌+◌};
 ghost use Rattle.sat_base.specs.device.Sink.{empty_sink};
 ghost use Rattle.sat_base.specs.script.ScriptState.{initial_state};
-ghost use Rattle.sat_solver.specs.variables.Calls.{NamesAgree};
+ghost use Rattle.sat_solver.specs.facade.View.{IsInState};
 ghost use Rattle.sat_solver.specs.proof.Counting.{nothing_counted as uncounted};
-ghost use Rattle.sat_solver.specs.proof.ProofView.{Open, target_of};
-ghost use Rattle.sat_solver.specs.solver.Whole.{steps_in};
-ghost use Rattle.sat_solver.specs.solver.View.{proof_in};
+ghost use Rattle.sat_solver.specs.proof.ProofView.{Open};
 ghost use Rattle.certify.specs.run.SolverCalls.{IsReadySolver};
 ghost use Rattle.certify.specs.run.BetweenCommands.{RunGoesOn, HasStateBetweenCommands};
 
@@ -14,6 +12,7 @@ use super::page::Page;
 use crate::judge::Names;
 use crate::summary::AskReport;
 use sat_base::CountedWrite;
+use sat_solver::facade::laws::steps_record_answers;
 use sat_solver::{ProofFormat, Solver, SolverConfigUpdate};
 use std::alloc::Global;
 
@@ -40,12 +39,11 @@ pub struct RunState<C: CountedWrite + Drop> {
 /// Returns a solver that writes its proof steps to `certificate`.
 fn solver_into<C: CountedWrite + Drop>(alloc: Global, certificate: C) -> Solver<C>
     ensures ready { IsReadySolver result }
-    ensures agree { NamesAgree result.names [] initial_state [] }
-    ensures steps { steps_in result ≡ [] }
-    ensures target { target_of C.seen (proof_in result)
-        ≡ Open ProofFormat.Varisat uncounted (empty_sink (C.seen certificate)) }
+    ensures agree { IsInState result initial_state [] }
+    ensures steps { result.steps ≡ [] }
+    ensures target { result.target ≡ Open ProofFormat.Varisat uncounted (empty_sink (C.seen certificate)) }
     ensures rounds { result.clock.rounds ≡ 0 }
-    ensures free { result.assumed.items ≡ [] }
+    ensures free { result.assumptions ≡ [] }
 {
     let mut solver = Solver::new(alloc);
     let mut update = SolverConfigUpdate::new();
@@ -55,6 +53,7 @@ fn solver_into<C: CountedWrite + Drop>(alloc: Global, certificate: C) -> Solver<
     solver
         .write_proof(certificate, ProofFormat::Varisat)
         .unwrap();
+    steps_record_answers(&solver);
     solver
 }
 
@@ -63,8 +62,8 @@ impl<C: CountedWrite + Drop> RunState<C> {
     pub fn new(alloc: Global, certificate: C, budget: u64) -> RunState<C>
         ensures goes_on { RunGoesOn result }
         ensures at { HasStateBetweenCommands result initial_state }
-        ensures steps { steps_in result.solver ≡ [] }
-        ensures target { target_of C.seen (proof_in result.solver)
+        ensures steps { result.solver.steps ≡ [] }
+        ensures target { result.solver.target
             ≡ Open ProofFormat.Varisat uncounted (empty_sink (C.seen certificate)) }
         ensures rounds { result.solver.clock.rounds ≡ 0 }
         ensures budget { result.budget ≡ budget }

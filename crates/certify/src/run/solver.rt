@@ -1,16 +1,18 @@
 //! Calls to the solver of a run.
+//!
+//! `steps_record_answers` is a law: it does nothing at run time, and its contract says what the solver's steps record.
 ghost use Rattle.std.specs.Prelude.{IfOk, IfErr, OnOk};
 ghost use Rattle.sat_solver.specs.variables.VariableRoom.{user_vars_in};
-ghost use Rattle.sat_solver.specs.solver.Adding.{Added, ReplacesAssumptions};
-ghost use Rattle.sat_solver.specs.solver.Whole.{HasFullStore};
-ghost use Rattle.certify.specs.run.SolverCalls.{FailsIf, IsAllowed, IsCaused, IsReadySolver, Limited, RefusedForRoom, Searched};
-ghost use Rattle.certify.specs.run.SolverCalls.{Solved};
+ghost use Rattle.sat_solver.specs.facade.Calls.{HasFullStore};
+ghost use Rattle.certify.specs.run.SolverCalls.{AssumptionsAccepted, ClauseAccepted, FailsIf, IsAllowed, IsCaused, IsReadySolver};
+ghost use Rattle.certify.specs.run.SolverCalls.{Limited, RefusedForRoom, Searched, Solved};
 
 use super::faults::{fault_of, is_interrupted};
 use crate::fault::RunFault;
 use crate::summary::{Answer, AskReport};
 use sat_base::{CountedWrite, Lit};
 use sat_solver::{Solver, SolverConfigUpdate};
+use sat_solver::facade::laws::steps_record_answers;
 
 /// Adds a clause to the solver. None of the clause's names may be refused.
 pub fn add_clause<C: CountedWrite + Drop>(
@@ -19,13 +21,16 @@ pub fn add_clause<C: CountedWrite + Drop>(
 ) -> Result<(), RunFault>
     requires ready { IsReadySolver solver.old }
     requires allowed { IsAllowed solver.old literals.now }
-    ensures added { OnOk result (Added C.seen solver.old solver.new literals.now) }
-    ensures fails { FailsIf result C.seen solver.old solver.new }
+    ensures added { OnOk result (ClauseAccepted solver.old solver.new literals.now) }
+    ensures fails { FailsIf result solver.old solver.new }
     ensures cause { IfErr result (λ e. IsCaused e (HasFullStore solver.new)
         (RefusedForRoom solver.old solver.new (user_vars_in literals.now))) }
 {
     match solver.add_clause(literals) {
-        Ok(()) => Ok(()),
+        Ok(()) => {
+            steps_record_answers(solver);
+            Ok(())
+        }
         Err(error) => Err(fault_of(error)),
     }
 }
@@ -37,13 +42,16 @@ pub fn assume<C: CountedWrite + Drop>(
 ) -> Result<(), RunFault>
     requires ready { IsReadySolver solver.old }
     requires allowed { IsAllowed solver.old literals.now }
-    ensures assumed { OnOk result (ReplacesAssumptions C.seen solver.old solver.new literals.now) }
-    ensures fails { FailsIf result C.seen solver.old solver.new }
+    ensures assumed { OnOk result (AssumptionsAccepted solver.old solver.new literals.now) }
+    ensures fails { FailsIf result solver.old solver.new }
     // Assuming literals stores no clause.
     ensures cause { IfErr result (λ e. IsCaused e ⊥ (RefusedForRoom solver.old solver.new (user_vars_in literals.now))) }
 {
     match solver.assume(literals) {
-        Ok(()) => Ok(()),
+        Ok(()) => {
+            steps_record_answers(solver);
+            Ok(())
+        }
         Err(error) => Err(fault_of(error)),
     }
 }
@@ -58,14 +66,16 @@ fn limit_rounds<C: CountedWrite + Drop>(solver: &mut Solver<C>, budget: u64)
     solver.config(&update).unwrap();
 }
 
-/// Searches for an answer. The answer is unknown if the rounds are exhausted.
+/// Searches for an answer, and returns it. The answer is unknown if the rounds are exhausted.
 fn solve<C: CountedWrite + Drop>(solver: &mut Solver<C>) -> Result<Answer, RunFault>
     requires { IsReadySolver solver.old }
-    ensures solved { IfOk result (λ answer. Solved C.seen answer solver.old solver.new) }
-    ensures fails { FailsIf result C.seen solver.old solver.new }
+    ensures solved { IfOk result (λ answer. Solved answer solver.old solver.new) }
+    ensures fails { FailsIf result solver.old solver.new }
     ensures cause { IfErr result (λ e. IsCaused e (HasFullStore solver.new) ⊥) }
 {
-    match solver.solve() {
+    let solved = solver.solve();
+    steps_record_answers(solver);
+    match solved {
         Ok(true) => Ok(Answer::Sat),
         Ok(false) => Ok(Answer::Unsat),
         Err(error) => {
@@ -83,8 +93,8 @@ pub fn search<C: CountedWrite + Drop>(
     budget: u64,
 ) -> Result<AskReport, RunFault>
     requires { IsReadySolver solver.old }
-    ensures searched { IfOk result (λ report. Searched C.seen budget report solver.old solver.new) }
-    ensures fails { FailsIf result C.seen solver.old solver.new }
+    ensures searched { IfOk result (λ report. Searched budget report solver.old solver.new) }
+    ensures fails { FailsIf result solver.old solver.new }
     ensures cause { IfErr result (λ e. IsCaused e (HasFullStore solver.new) ⊥) }
 {
     limit_rounds(solver, budget);

@@ -35,7 +35,8 @@ fn kind_of_letter(letter: u8) -> Option<CommandKind>
     }
 }
 
-/// Whether a command of this kind can have a literal with this sign. Commands that list names have only positive ones.
+/// Returns `true` if a command of this kind can have a literal with this sign. Commands that list names have only
+/// positive ones.
 #[inline(always)]
 fn allows_sign(kind: CommandKind, positive: bool) -> bool
     ensures { result ≡ allows_sign (kind_of kind) positive }
@@ -49,7 +50,7 @@ fn allows_sign(kind: CommandKind, positive: bool) -> bool
     }
 }
 
-/// Whether commands of this kind are asks.
+/// Returns `true` if commands of this kind are asks.
 fn is_ask(kind: CommandKind) -> bool
     ensures { result ≡ is_ask_kind (kind_of kind) }
 {
@@ -70,7 +71,7 @@ impl Commands {
         }
     }
 
-    /// Whether an ask has been read, or the current command is one.
+    /// Returns `true` if an ask has been read, or the current command is one.
     fn has_asked(&self) -> bool
         ensures { result ≡ (self.now.asked || is_ask_kind (kind_of self.now.draft.kind)) }
     {
@@ -86,7 +87,8 @@ impl Commands {
         self.asked = self.has_asked();
     }
 
-    /// Adds a literal. `name` must not be 0.
+    /// Adds a literal, whose `name` must not be 0. Returns `Malformed` if the command cannot have a literal with this
+    /// sign, and otherwise `More`.
     #[inline(always)]
     fn add_literal(&mut self, name: u64, negative: bool) -> Result<Reached, AllocError>
         requires { 0 < name }
@@ -101,8 +103,8 @@ impl Commands {
         Ok(Reached::More)
     }
 
-    /// Begins the command that `letter` stands for. The text is malformed if there is none, or if a command is
-    /// being read.
+    /// Begins the command that `letter` stands for, and returns `More`. Returns `Malformed` if there is no such
+    /// command, or if a command is being read.
     fn begin(&mut self, letter: u8) -> Reached
         ensures { TakesToken result self.old (Letter letter) self.new }
     {
@@ -116,7 +118,7 @@ impl Commands {
         Reached::More
     }
 
-    /// Consumes the next token.
+    /// Consumes the next token. Returns what it led to.
     #[inline(always)]
     pub fn take(&mut self, token: Token) -> Result<Reached, AllocError>
         ensures { IfOk result (λ reached. (t : Spelled) → token ≡ capped_token t
@@ -139,7 +141,7 @@ impl Commands {
         }
     }
 
-    /// Whether a header has been read, but no ask.
+    /// Returns `true` if a header has been read, but no ask.
     fn is_unasked(&self) -> bool
         ensures { result ≡ (self.now.headed && not self.now.asked) }
     {

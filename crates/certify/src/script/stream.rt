@@ -75,8 +75,8 @@ impl CommandStream {
         Next::End(end)
     }
 
-    /// Reads more bytes. Returns `None` if there are any, and otherwise handles the end of the text. All bytes read so
-    /// far must have been consumed, and no line may have begun with `%`.
+    /// Reads more bytes. Returns `None` if there are any, and otherwise how the text ends. All bytes read so far must
+    /// have been consumed, and no line may have begun with `%`.
     fn refill<S: CountedRead>(&mut self, script: &mut S) -> Result<Option<Next>, ReadError>
         requires waiting { waiting_bytes self.old.ahead ≡ [] }
         requires looks_on { RestMatters self.old.reader }
@@ -129,7 +129,7 @@ impl CommandStream {
         }
     }
 
-    /// Reads up to the end of the next command, or to the end of the text.
+    /// Reads up to the end of the next command, or to the end of the text. Returns which of the two it is.
     pub fn next<S: CountedRead>(&mut self, script: &mut S) -> Result<Next, ReadError>
         requires { IsNotAtEnd (source_in S.seen script.old self.old.ahead) }
         ensures arrives { NextCommandResult result (source_in S.seen script.old self.old.ahead)

@@ -3,6 +3,7 @@ pub mod KeptErrors
 pub mod Known
 pub mod Makers
 pub mod ReadLemmas
+pub mod RoomLemmas
 pub mod Sending
 pub mod WholeAnswers
 pub mod Writes

@@ -13,7 +13,7 @@ no_calls = record { calls = 0; failures = 0; given = []; taken = []; ended = fal
 abbrev pub after_call : Tally → Tally
 after_call t = record t { calls = t.calls + 1; ended = false; flushed = false; failed = false }
 
--- the tally after a read that gave these bytes
+-- the tally after a read that gave `bytes`
 abbrev pub after_read : List ℕ → Tally → Tally
 after_read bytes t = record (after_call t) { given = t.given ++ bytes }
 
@@ -21,7 +21,7 @@ after_read bytes t = record (after_call t) { given = t.given ++ bytes }
 abbrev pub after_end : Tally → Tally
 after_end t = record (after_call t) { ended = true }
 
--- the tally after a write that accepted these bytes
+-- the tally after a write that accepted `bytes`
 abbrev pub after_write : List ℕ → Tally → Tally
 after_write bytes t = record (after_call t) { taken = t.taken ++ bytes }
 

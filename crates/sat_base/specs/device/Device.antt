@@ -8,20 +8,20 @@ pub record Reader : Type 0 where
   pub given : List ℕ  -- all bytes that the reader has given, to any caller
   pub ended : Bool  -- whether the last read gave nothing although there was room
   pub failed : Bool  -- whether the last call failed
-  pub failures : ℕ
-  pub calls : ℕ
+  pub failures : ℕ  -- the number of reads that failed
+  pub calls : ℕ  -- the number of reads
   pub loans : List ℕ  -- the chain of borrows through which the reader was passed, latest first
 
 -- the state of a writer, as contracts describe it
 pub record Writer : Type 0 where
   pub contents : Option (List ℕ)  -- what it holds, if that is known
   pub taken : List ℕ  -- all bytes that it has accepted, from any caller
-  pub flushed : Bool  -- the last call was a flush that did not fail
-  pub failed : Bool  -- the last call failed
-  pub failures : ℕ
-  pub calls : ℕ  -- a flush is also a call
+  pub flushed : Bool  -- whether the last call was a flush that did not fail
+  pub failed : Bool  -- whether the last call failed
+  pub failures : ℕ  -- the number of calls that failed
+  pub calls : ℕ  -- the number of writes and flushes
   pub flushes : ℕ  -- the number of flushes that did not fail
-  pub loans : List ℕ  -- the borrows through which it is lent, the latest first
+  pub loans : List ℕ  -- the chain of borrows through which the writer was passed, latest first
 
 -- the reader, lent once more
 abbrev pub lent_reader : ℕ → Reader → Reader
@@ -38,7 +38,7 @@ lent_writer name w = record w { loans = name ∷ w.loans }
 abbrev pub CountsErr : {T E : Type 0} → Result T E → ℕ → ℕ → Bool → Type 0
 CountsErr r old new failed = MatchResult r (λ _. (new ≡ old) × (failed ≡ false)) (λ _. (new ≡ old + 1) × (failed ≡ true))
 
--- whether a write accepts no byte of a nonempty piece
+-- Returns `true` if a write accepts no byte of a nonempty piece.
 abbrev pub takes_none : ℕ → List ℕ → Bool
 takes_none n piece = nat_eq n 0 && nat_lt 0 (length piece)
 
@@ -113,8 +113,8 @@ pub record IsOver (r : Reader) : Type 0 where
   pub ends : r.ended ≡ true
   pub over : IsAtEnd r.to_come
 
--- `GaveAll old new text` holds if the reader gave `text` between `old` and `new`, in at least one read, and the last
--- read found the end.
+-- `GaveAll old new text` holds if the reader gave `text` between `old` and `new`, in at least one read and in few
+-- (`FewReads`), and the last read found the end. If its bytes to come were known, they were `text`.
 pub record GaveAll (old new : Reader) (text : List ℕ) : Type 0 where
   pub gave : new.given ≡ old.given ++ text
   pub ends : new.ended ≡ true
@@ -124,13 +124,14 @@ pub record GaveAll (old new : Reader) (text : List ℕ) : Type 0 where
   pub few : FewReads old new
   pub loans : new.loans ≡ old.loans
 
--- `CanFollow old new rest` holds if the reader could still give the bytes `rest`. If a read was made since `old`, and
--- the last read found the end, `rest` is empty. Otherwise `rest` can be any bytes.
+-- `CanFollow old new rest` holds if, by its reads alone, the reader could still give the bytes `rest`. If a read was made
+-- since `old`, and the last read found the end, `rest` is empty. Otherwise `rest` can be any bytes.
 abbrev pub CanFollow : Reader → Reader → List ℕ → Type 0
 CanFollow old new rest = old.calls < new.calls → new.ended ≡ true → rest ≡ []
 
 -- `GaveEnough old new P` holds if, between `old` and `new`, the reader gave a text such that P holds of it, followed by
--- any bytes that the reader could still give (`CanFollow`). So the bytes that were read are enough to establish P.
+-- any bytes that the reader could still give (`CanFollow`). So the bytes that were read are enough to establish P. Reads
+-- were few, and no bytes are known to follow the end.
 pub record GaveEnough (old new : Reader) (P : List ℕ → Type 0) : Type 0 where
   pub text : List ℕ
   pub front : GavePrefix old new text
@@ -138,7 +139,8 @@ pub record GaveEnough (old new : Reader) (P : List ℕ → Type 0) : Type 0 wher
   pub few : FewReads old new
   pub holds : (rest : List ℕ) → CanFollow old new rest → P (text ++ rest)
 
--- the reader gave more bytes, possibly none, in few reads
+-- `GaveMore old new` holds if the reader gave a text, possibly empty, between `old` and `new`, with at most one more
+-- read than bytes given.
 abbrev pub GaveMore : Reader → Reader → Type 0
 GaveMore old new = (text : List ℕ) × GavePrefix old new text × FewReads old new
 
@@ -166,7 +168,7 @@ ReadFails old new = (LastCallFails old new ⊎ ReadsAreExhausted old new) × Few
 -- WHAT A WRITER ACCEPTED
 
 -- `WriterAccepts old new text` holds if the writer accepted `text` between `old` and `new`, and no call failed. Apart
--- from flushes, there were at most as many calls as bytes.
+-- from flushes, there were at most as many calls as bytes. If its contents were known, they grew by `text`.
 pub record WriterAccepts (old new : Writer) (text : List ℕ) : Type 0 where
   pub taken : new.taken ≡ old.taken ++ text
   pub known_bytes : Appends old.contents new.contents text
@@ -175,8 +177,8 @@ pub record WriterAccepts (old new : Writer) (text : List ℕ) : Type 0 where
   pub few : new.calls + old.flushes ≤ old.calls + new.flushes + length text
   pub loans : new.loans ≡ old.loans
 
--- That the writer accepted a prefix of `text` between `old` and `new`, and the last call is the only one that failed.
--- Apart from successful flushes, there was at most one more call than bytes accepted.
+-- `WriterFails old new text` holds if the writer accepted a prefix of `text` between `old` and `new`, and the last call
+-- is the only one that failed. Apart from successful flushes, there was at most one more call than bytes accepted.
 pub record WriterFails (old new : Writer) (text : List ℕ) : Type 0 where
   pub front : List ℕ
   pub following : List ℕ
@@ -189,6 +191,7 @@ pub record WriterFails (old new : Writer) (text : List ℕ) : Type 0 where
   pub few : new.calls + old.flushes ≤ old.calls + new.flushes + length front + 1
   pub loans : new.loans ≡ old.loans
 
--- that the text was written, or only the last call failed and a prefix was written
+-- `WritesText text r old new` holds if the writer accepted `text`, or the call failed after a prefix of `text`
+-- (`WriterFails`); `r` says which.
 abbrev pub WritesText : {E : Type 0} → List ℕ → Result (Unit {0}) E → Writer → Writer → Type 0
 WritesText text r old new = MatchResult r (λ _. WriterAccepts old new text) (λ _. WriterFails old new text)

@@ -2,7 +2,8 @@
 use Rattle.std.specs.Prelude.{◌≡◌, ℕ, ◌+◌, ◌≤◌, List, length}
 use Rattle.sat_base.specs.device.Device.{Reader, GavePrefix}
 
--- that this number of reads was made and none failed, they gave at least as many bytes, and all these bytes were fed
+-- `FeedsReads old new times WasFed` holds if exactly `times` reads were made and none failed, they gave at least
+-- `times` bytes, and `WasFed` holds for these bytes.
 pub record FeedsReads (old new : Reader) (times : ℕ) (WasFed : List ℕ → Type 0) : Type 0 where
   pub text : List ℕ
   pub front : GavePrefix old new text

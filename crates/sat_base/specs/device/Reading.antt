@@ -30,7 +30,7 @@ new_source r = record { reader = r; waiting = []; reads = 0; names = [] }
 abbrev pub source : {R : Type 0} → (R → Reader) → R → Ahead → Source
 source seen r a = record { reader = seen r; waiting = waiting a; reads = a.reads; names = [] }
 
--- the source, held by these borrows
+-- the source, held by the borrows `names`
 abbrev pub with_borrows : List ℕ → Source → Source
 with_borrows names s = record s { names = names }
 
@@ -38,13 +38,14 @@ with_borrows names s = record s { names = names }
 abbrev pub source_of : {R : Type 0} → (R → Reader) → Input R → Source
 source_of seen i = with_borrows (i.reader.ghost_name ∷ i.ahead.ghost_name ∷ []) (source seen i.reader.now i.ahead.now)
 
--- that a read was made for the source, and the reader's last read found the end
+-- `AtEnd s` holds if a read was made for the source, and the reader's last read found the end.
 abbrev pub AtEnd : Source → Type 0
 AtEnd s = (0 < s.reads) × (s.reader.ended ≡ true)
 
--- That these bytes were consumed, and no read failed. The bytes that were pending and those given since are the bytes
--- consumed and those pending now. The reads gave at most 4,096 bytes each, on average. There were at most `more`
--- more reads than bytes given. If `more` is 0, the source is at its end only if it was before.
+-- `ConsumesWithReads more old new text` holds if the bytes `text` were consumed, and no read failed. The bytes that
+-- were pending and those given since are the bytes consumed and those pending now. The reads gave at most 4,096 bytes
+-- each, on average. There were at most `more` more reads than bytes given. If `more` is 0, the source is at its end
+-- only if it was before.
 pub record ConsumesWithReads (more : ℕ) (old new : Source) (text : List ℕ) : Type 0 where
   pub fresh : List ℕ
   pub gave : new.reader.given ≡ old.reader.given ++ fresh
@@ -58,31 +59,37 @@ pub record ConsumesWithReads (more : ℕ) (old new : Source) (text : List ℕ) :
   pub names : new.names ≡ old.names
   pub going : more ≡ 0 → AtEnd new → AtEnd old
 
--- that these bytes were consumed, with at most one read for every byte given
+-- `ConsumesBytes old new text` holds if the bytes `text` were consumed, with at most one read for every byte given.
 abbrev pub ConsumesBytes : Source → Source → List ℕ → Type 0
 ConsumesBytes old new text = ConsumesWithReads 0 old new text
 
--- that all bytes are consumed: the last read found the end of the reader, and no bytes are pending
+-- `AllTaken s` holds if all bytes are consumed: the last read found the end of the reader, and no bytes are pending.
 pub record AllTaken (s : Source) : Type 0 where
   pub read : 0 < s.reads
   pub ended : s.reader.ended ≡ true
   pub waiting : s.waiting ≡ []
   pub over : IsAtEnd (to_come s)
 
--- that these bytes were consumed, none remain, and there was at most one more read than bytes given
+-- `ConsumesAllGiven old new text` holds if the bytes `text` were consumed, and no others are pending or were given
+-- since.
+abbrev pub ConsumesAllGiven : Source → Source → List ℕ → Type 0
+ConsumesAllGiven old new text = ConsumesBytes old new text × (new.waiting ≡ [])
+
+-- `ConsumesToEnd old new text` holds if the bytes `text` were consumed, none remain, and there was at most one more
+-- read than bytes given.
 abbrev pub ConsumesToEnd : Source → Source → List ℕ → Type 0
 ConsumesToEnd old new text = ConsumesWithReads 1 old new text × AllTaken new
 
--- one call failed, and it was the last
+-- `LastReadFails old new` holds if exactly one call failed, and it was the last.
 abbrev pub LastReadFails : Source → Source → Type 0
 LastReadFails old new = (new.reader.failures ≡ old.reader.failures + 1) × (new.reader.failed ≡ true)
 
--- that no read failed, and at least 2^48 reads were made for the source
+-- `SourceReadsAreExhausted old new` holds if no read failed, and at least 2^48 reads were made for the source.
 abbrev pub SourceReadsAreExhausted : Source → Source → Type 0
 SourceReadsAreExhausted old new = (new.reader.failures ≡ old.reader.failures) × (most_reads ≤ new.reads)
 
--- That these bytes were consumed: all that were pending, and all that were given since. Only the last read failed, or
--- none failed and at least 2^48 were made.
+-- `ConsumesAndFails old new text` holds if the bytes `text` were consumed: all that were pending, and all that were
+-- given since. Only the last read failed, or none failed and at least 2^48 were made.
 pub record ConsumesAndFails (old new : Source) (text : List ℕ) : Type 0 where
   pub fresh : List ℕ
   pub gave : new.reader.given ≡ old.reader.given ++ fresh
@@ -100,63 +107,70 @@ pub record ConsumesAndFails (old new : Source) (text : List ℕ) : Type 0 where
 abbrev pub none_given : ℕ → ℕ
 none_given n = if nat_eq n 0 then 1 else 0
 
--- the result of reading the next n bytes, without consuming any; n is 0 only at the end
+-- `Refills result n old new` holds if `result` is that of reading the next `n` bytes, without consuming any. It is
+-- `Read` if a read failed or the reads are exhausted; `n` is 0 only at the end.
 abbrev pub Refills : Result (Unit {0}) StepError → ℕ → Source → Source → Type 0
 Refills (Ok u) n old new = ConsumesWithReads (none_given n) old new [] × (n ≡ 0 → AllTaken new)
 Refills (Err errors.Read) n old new = ConsumesAndFails old new []
 Refills (Err e) n old new = ⊥
 
--- the same for a reader and its buffered bytes, whatever borrows lend them
+-- `RefillsAlone seen result r a s b` holds if `Refills` holds for a reader and its buffered bytes, whatever borrows
+-- lend them; `b.end` is the number of bytes that were read.
 abbrev pub RefillsAlone : {R : Type 0} → (R → Reader) → Result (Unit {0}) StepError → R → Ahead → R → Ahead → Type 0
 RefillsAlone seen result r a s b =
     (names : List ℕ) → Refills result b.end (with_borrows names (source seen r a)) (with_borrows names (source seen s b))
 
--- the result of reading the next byte: the byte, `None` at the end, or a failed read
+-- `NextByte result old new` holds if `result` is that of consuming the next byte: the byte, `None` at the end, or
+-- `Read` if no byte could be read.
 abbrev pub NextByte : Result (Option ℕ) StepError → Source → Source → Type 0
 NextByte (Ok (Some byte)) old new = ConsumesBytes old new (byte ∷ [])
 NextByte (Ok None) old new = ConsumesToEnd old new []
 NextByte (Err errors.Read) old new = ConsumesAndFails old new []
 NextByte (Err e) old new = ⊥
 
--- the result of reading the next byte within a text: the byte, `Cut` at the end, or a failed read
+-- `ByteWithin result old new` holds if `result` is that of consuming the next byte within a text: the byte, `Cut` at
+-- the end, or `Read` if no byte could be read.
 abbrev pub ByteWithin : Result ℕ StepError → Source → Source → Type 0
 ByteWithin (Ok byte) old new = ConsumesBytes old new (byte ∷ [])
 ByteWithin (Err errors.Cut) old new = ConsumesToEnd old new []
 ByteWithin (Err errors.Read) old new = ConsumesAndFails old new []
 ByteWithin (Err e) old new = ⊥
 
--- What was consumed: on `Ok` the text of the value; on `Cut` and `Read` a prefix of a text, and then the bytes ended or could not be read;
--- on `BadByte` such a prefix, and a byte with which no text continues; on `OutOfMemory` a prefix of a text, or all of it.
+-- `ReadsValue F result old new` holds if `result` says what was consumed. With `Ok`, it is the text of the value. With
+-- `Cut`, `Read` and `OutOfMemory`, it is a proper prefix of a text, and then the bytes ended, could not be read, or
+-- could not be stored, so that no more were read. With `BadByte`, it is such a prefix, and a byte with which no text
+-- continues.
 abbrev pub ReadsValue : {A : Type 0} → Format A → Result A StepError → Source → Source → Type 0
 ReadsValue F (Ok x) old new = (text : List ℕ) × ConsumesBytes old new text × F x text
 ReadsValue F (Err errors.Cut) old new = (text : List ℕ) × ConsumesToEnd old new text × IsProperPrefix F text
 ReadsValue F (Err errors.BadByte) old new =
     (front : List ℕ) × (byte : ℕ) × ConsumesBytes old new (front ++ byte ∷ []) × IsProperPrefix F front × (IsPrefixOfText F (front ++ byte ∷ []) → ⊥)
 ReadsValue F (Err errors.Read) old new = (text : List ℕ) × ConsumesAndFails old new text × IsProperPrefix F text
-ReadsValue F (Err errors.OutOfMemory) old new = (text : List ℕ) × ConsumesBytes old new text × IsPrefixOfText F text
+ReadsValue F (Err errors.OutOfMemory) old new = (text : List ℕ) × ConsumesAllGiven old new text × IsProperPrefix F text
 ReadsValue F (Err errors.Ends) old new = ⊥
 ReadsValue F (Err errors.HasFailed) old new = ⊥
 
--- the result of reading a value through an input
+-- `ReadsFromInput F r seen old new` holds if `ReadsValue` holds for a value that was read through an input.
 abbrev pub ReadsFromInput : {A R : Type 0} → Format A → Result A StepError → (R → Reader) → Input R → Input R → Type 0
 ReadsFromInput F r seen old new = ReadsValue F r (source_of seen old) (source_of seen new)
 
--- the result with this value, for a read that stores the value elsewhere
+-- the result with the value `x`, for a read that stores the value elsewhere
 abbrev pub giving : {A : Type 0} → A → Result (Unit {0}) StepError → Result A StepError
 giving x (Ok u) = Ok x
 giving x (Err e) = Err e
 
--- the same result, with `f` applied to the value
+-- the result, with `f` applied to the value
 abbrev pub valued : {A B : Type 0} → (A → B) → Result A StepError → Result B StepError
 valued f (Ok x) = Ok (f x)
 valued f (Err e) = Err e
 
--- the format of the fields after this tag
+-- `FieldsAfter tag step bytes` holds if `tag` is that of the step, and the bytes spell its fields.
 abbrev pub FieldsAfter : ℕ → Format Step
 FieldsAfter tag step bytes = (tag_of step ≡ tag) × SpellsFields step bytes
 
--- The results of reading a step are those of any format, and `Ends` if the bytes end between steps. So `Cut` is an end
--- within a step. On `OutOfMemory`, at least one byte of a step was consumed, and possibly all.
+-- `AnswersStepRead result old new` holds if `result` is that of reading a step, as in `ReadsValue`, or `Ends` if the
+-- bytes end between steps, so `Cut` is an end within a step. With `OutOfMemory`, the bytes given after the steps before
+-- it are a proper prefix of a step, of at least one byte.
 abbrev pub AnswersStepRead : Result Step StepError → Source → Source → Type 0
 AnswersStepRead (Ok step) old new = (text : List ℕ) × ConsumesBytes old new text × SpellsStep step text
 AnswersStepRead (Err errors.Ends) old new = ConsumesToEnd old new []
@@ -166,5 +180,5 @@ AnswersStepRead (Err errors.BadByte) old new =
     × (IsPrefixOfText SpellsStep (front ++ byte ∷ []) → ⊥)
 AnswersStepRead (Err errors.Read) old new = (text : List ℕ) × ConsumesAndFails old new text × IsProperPrefix SpellsStep text
 AnswersStepRead (Err errors.OutOfMemory) old new =
-    (tag : ℕ) × (more : List ℕ) × ConsumesBytes old new (tag ∷ more) × IsPrefixOfText SpellsStep (tag ∷ more)
+    (tag : ℕ) × (more : List ℕ) × ConsumesAllGiven old new (tag ∷ more) × IsProperPrefix SpellsStep (tag ∷ more)
 AnswersStepRead (Err errors.HasFailed) old new = ⊥

@@ -17,31 +17,34 @@ empty_sink w = record { writer = w; waiting = [] }
 abbrev pub sink_of : {W P : Type 0} → (W → Writer) → (P → List ℕ) → Output W P → Sink
 sink_of seen waiting o = record { writer = seen o.writer; waiting = waiting o.pending }
 
--- A text was put after the pending bytes. The writer accepted a prefix of the two together, and the rest is pending.
+-- `AddsToSink old new text` holds if `text` was put after the pending bytes. The writer accepted a prefix of the two
+-- together, and the rest is pending.
 pub record AddsToSink (old new : Sink) (text : List ℕ) : Type 0 where
   pub fresh : List ℕ
   pub flows : old.waiting ++ text ≡ fresh ++ new.waiting
   pub takes : WriterAccepts old.writer new.writer fresh
 
--- Only the last call failed. The writer accepted a prefix of the two together, and the rest is lost.
+-- `SinkFails old new text` holds if only the last call failed. The writer accepted a prefix of the pending bytes and
+-- `text`, and the rest is lost.
 pub record SinkFails (old new : Sink) (text : List ℕ) : Type 0 where
   pub breaks : WriterFails old.writer new.writer (old.waiting ++ text)
   pub none : new.waiting ≡ []
 
--- a text was sent, or one call failed
+-- `SendsText text r old new` holds if `text` was sent, or one call failed; `r` says which.
 abbrev pub SendsText : {E : Type 0} → List ℕ → Result (Unit {0}) E → Sink → Sink → Type 0
 SendsText text r old new = MatchResult r (λ _. AddsToSink old new text) (λ _. SinkFails old new text)
 
--- the text of a value was sent, or one call failed
+-- `Writes F x text r old new` holds if `text`, which spells the value `x`, was sent, or one call failed; `r` says
+-- which.
 abbrev pub Writes : {A E : Type 0} → Format A → A → List ℕ → Result (Unit {0}) E → Sink → Sink → Type 0
 Writes F x text r old new = MatchResult r (λ _. AddsToSink old new text × F x text) (λ _. SinkFails old new text)
 
--- nothing is pending any more, and the last call was a flush
+-- `SinkIsFlushed old new` holds if the pending bytes were written, nothing is pending, and the last call was a flush.
 pub record SinkIsFlushed (old new : Sink) : Type 0 where
   pub sent : AddsToSink old new []
   pub none : new.waiting ≡ []
   pub flushed : new.writer.flushed ≡ true
 
--- the pending bytes were written and flushed, or one call failed
+-- `Flushes r old new` holds if the pending bytes were written and flushed, or one call failed; `r` says which.
 abbrev pub Flushes : {E : Type 0} → Result (Unit {0}) E → Sink → Sink → Type 0
 Flushes r old new = MatchResult r (λ _. SinkIsFlushed old new) (λ _. SinkFails old new [])

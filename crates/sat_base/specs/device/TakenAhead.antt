@@ -1,13 +1,12 @@
 -- Values consumed from the pending bytes.
-use Rattle.std.specs.Prelude.{◌≡◌, ◌≤◌, ℕ, List, ◌++◌, length, drop, take, Result, Ok, Err}
+use Rattle.std.specs.Prelude.{◌≡◌, ◌≤◌, ℕ, List, ◌++◌, length, drop, take}
 use Rattle.sat_base.specs.declared.device.ahead.Ahead.{Ahead}
-use Rattle.sat_base.specs.declared.steps.error.StepError.{StepError}
-use Rattle.sat_base.specs.declared.steps.error.StepError.TheVariants as errors
 use Rattle.sat_base.specs.device.Waiting.{waiting}
 use Rattle.sat_base.specs.steps.Formats.{Format, Items}
 use Rattle.sat_base.specs.steps.Numbers.{IsBelow}
 
--- the text of a number below the limit was consumed, without a read
+-- `TakesNumber limit n old new` holds if the text of the number `n`, which is below `limit`, was consumed, without a
+-- read.
 abbrev pub TakesNumber : ℕ → ℕ → Ahead → Ahead → Type 0
 TakesNumber limit n old new = (text : List ℕ) × IsBelow limit n text × (waiting old ≡ text ++ waiting new) × (new.reads ≡ old.reads)
 
@@ -15,12 +14,13 @@ TakesNumber limit n old new = (text : List ℕ) × IsBelow limit n text × (wait
 abbrev pub buffered_from : ℕ → Ahead → List ℕ
 buffered_from at a = drop at (take a.end a.piece)
 
--- the text of a number below the limit is between two positions
+-- `IsEncodedBetween limit n at following a` holds if the text of the number `n`, which is below `limit`, is between the
+-- positions `at` and `following` of the buffered bytes.
 abbrev pub IsEncodedBetween : ℕ → ℕ → ℕ → ℕ → Ahead → Type 0
 IsEncodedBetween limit n at following a = (text : List ℕ) × IsBelow limit n text × (buffered_from at a ≡ text ++ buffered_from following a)
 
--- At most `most` items were consumed, without a read; or memory ran out, and nothing changed.
-abbrev pub TakesItems : Format ℕ → ℕ → Result ℕ StepError → List ℕ → List ℕ → Ahead → Ahead → Type 0
-TakesItems F most (Ok n) before now old new =
+-- `TakesItems F most n before now old new` holds if `n` items, at most `most`, were consumed and appended to the list
+-- `before`, without a read.
+abbrev pub TakesItems : Format ℕ → ℕ → ℕ → List ℕ → List ℕ → Ahead → Ahead → Type 0
+TakesItems F most n before now old new =
     (n ≤ most) × (xs : List ℕ) × (text : List ℕ) × (length xs ≡ n) × (now ≡ before ++ xs) × Items F xs text × (waiting old ≡ text ++ waiting new) × (new.reads ≡ old.reads)
-TakesItems F most (Err e) before now old new = (e ≡ errors.OutOfMemory) × (new ≡ old)

@@ -34,39 +34,41 @@ header_after (Letter b) header = header
 header_after (Header v c) header = Some (v, c)
 header_after Wrong header = header
 
--- that the clauses and their count did not change
+-- `SameClausesAndCount old new` holds if the clauses and their count did not change.
 abbrev pub SameClausesAndCount : Clauses → Clauses → Type 0
 SameClausesAndCount old new = (new.formula ≡ old.formula) × (new.count ≡ old.count)
 
--- that neither the clauses nor their count nor the header changed
+-- `SameClausesAndHeader old new` holds if neither the clauses nor their count nor the header changed.
 abbrev pub SameClausesAndHeader : Clauses → Clauses → Type 0
 SameClausesAndHeader old new = SameClausesAndCount old new × (new.header ≡ old.header)
 
--- the change of the clauses for the effect of a token, which is not a fault
+-- `AppliesTokenEffect effect old new` holds if the clauses changed from `old` to `new` by `effect`, which is not a
+-- fault.
 abbrev pub AppliesTokenEffect : TokenEffect → Clauses → Clauses → Type 0
 AppliesTokenEffect (GoesOn hand) old new = SameClausesAndCount old new × (partial_clause_in new ≡ hand)
 AppliesTokenEffect (Ends clause) old new = (new.formula ≡ with_formula_clause clause old.formula) × (new.count ≡ capped (old.count + 1)) × (partial_clause_in new ≡ None)
 AppliesTokenEffect (Fails ending) old new = ⊥
 
--- whether the token is a literal: a number from 1 up to the limit, of either sign
+-- `is_literal token` is true if `token` is a literal: a number from 1 up to the limit, of either sign.
 abbrev pub is_literal : Token → Bool
 is_literal (Number negative value) = not (nat_eq value 0) && not (nat_lt var_limit value)
 is_literal (Letter b) = false
 is_literal (Header v c) = false
 is_literal Wrong = false
 
--- that the token may need memory: it is a literal, or it ends a clause
+-- `NeedsRoom t` holds if the token `t` may need memory: it is a literal, or it ends a clause.
 abbrev pub NeedsRoom : Token → Type 0
 NeedsRoom t = (is_literal t ≡ true) ⊎ ((hand : PartialClause) (n : ℕ) → token_effect hand n t ≡ Ends (literals_in hand))
 
--- the result of collecting a token, regardless of its line
+-- `CollectsToken result old t new` holds if collecting the token `t`, on whatever line, with `result` has led from
+-- `old` to `new`. With an error, nothing has changed: `t` is a fault, or it may need memory.
 abbrev pub CollectsToken : Result (Unit {0}) Refusal → Clauses → Token → Clauses → Type 0
 CollectsToken (Ok u) old t new = ((n : ℕ) → AppliesTokenEffect (token_effect (partial_clause_in old) n t) old new) × (new.header ≡ header_after t old.header)
 CollectsToken (Err refusal.Malformed) old t new = SameClausesAndHeader old new × ((n : ℕ) → token_effect (partial_clause_in old) n t ≡ Fails (Malformed n))
 CollectsToken (Err refusal.Limit) old t new = SameClausesAndHeader old new × ((n : ℕ) → token_effect (partial_clause_in old) n t ≡ Fails (Limit n))
 CollectsToken (Err refusal.OutOfMemory) old t new = SameClausesAndHeader old new × NeedsRoom t
 
--- that the flag is true exactly when a clause is unfinished
+-- `IsInside flag hand` holds if `flag` is true exactly when a clause is unfinished.
 abbrev pub IsInside : Bool → PartialClause → Type 0
 IsInside false hand = hand ≡ None
 IsInside true hand = (ls : List ℕ) × (hand ≡ Some ls)

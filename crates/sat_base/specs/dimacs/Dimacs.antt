@@ -65,7 +65,7 @@ dimacs_of hand s = clauses_of hand s.last s.tokens
 unfoldable pub dimacs : List ℕ → Dimacs
 dimacs text = dimacs_of None (scan text)
 
--- whether a blank is among these bytes
+-- `has_blank bytes` is true if one of the bytes is a blank.
 abbrev pub has_blank : List ℕ → Bool
 has_blank [] = false
 has_blank (b ∷ bs) = is_blank b || has_blank bs
@@ -75,6 +75,6 @@ abbrev pub up_to_last_blank : List ℕ → List ℕ
 up_to_last_blank [] = []
 up_to_last_blank (b ∷ bs) = if has_blank (b ∷ bs) then b ∷ up_to_last_blank bs else []
 
--- that the text has these clauses and this ending
+-- `IsDimacs text clauses end` holds if the text has these clauses and this ending.
 abbrev pub IsDimacs : List ℕ → List (List ℕ) → Ending → Type 0
 IsDimacs text clauses end = dimacs text ≡ record { clauses = clauses; ending = end }

@@ -13,11 +13,11 @@ positive_lits n = mk_lit (n - 1) true
 abbrev pub negative_lit : ℕ → ℕ
 negative_lit n = mk_lit (n - 1) false
 
--- that the header of the text gives these numbers of variables and clauses
+-- `HasHeader text v c` holds if the header of the text gives `v` variables and `c` clauses.
 abbrev pub HasHeader : List ℕ → ℕ → ℕ → Type 0
 HasHeader text v c = dimacs_header text ≡ Some (v, c)
 
--- texts that end cleanly, with their clauses
+-- `CleanRows` holds if the texts of its fields end cleanly, with the clauses stated there.
 pub record CleanRows : Type 0 where
   pub empty : IsDimacs [] [] Clean
   pub header_alone : IsDimacs (codes "p cnf 0 0") [] Clean
@@ -28,7 +28,7 @@ pub record CleanRows : Type 0 where
   pub percent : IsDimacs (codes "1 0\n%\n0\n") ((positive_lits 1 ∷ []) ∷ []) Clean
   pub largest : IsDimacs (codes "-268435456 0") ((negative_lit 268435456 ∷ []) ∷ []) Clean
 
--- texts with a fault, each with the clauses before the fault and the line of the fault
+-- `FaultRows` holds if the texts of its fields have the faults stated there, each on its line and after its clauses.
 pub record FaultRows : Type 0 where
   pub minus_zero : IsDimacs (codes "1 2\n-0 0\n") [] (Malformed 2)
   pub past_the_limit : IsDimacs (codes "1 0\n268435457 0\n") ((positive_lits 1 ∷ []) ∷ []) (Limit 2)
@@ -41,13 +41,13 @@ pub record FaultRows : Type 0 where
   pub late_header : IsDimacs (codes "1 0\np cnf 1 1\n") ((positive_lits 1 ∷ []) ∷ []) (Malformed 2)
   pub first_fault : IsDimacs (codes "268435457 x\n") [] (Limit 1)
 
--- headers of texts, and a text without one
+-- `HeaderRows` holds if the texts of its fields have the headers stated there, or none.
 pub record HeaderRows : Type 0 where
   pub numbers : HasHeader (codes "c x\np cnf 2 1\n1 -2 0\n") 2 1
   pub no_LF : HasHeader (codes "p cnf 07 99999999999999999999") 7 99999999999999999999
   pub none : dimacs_header (codes "1 0\n") ≡ None
 
--- prefixes of texts: up to the last blank, and up to the last LF
+-- `PartRows` holds if the texts of its fields have the prefixes stated there, up to the last blank or LF.
 pub record PartRows : Type 0 where
   pub to_the_blank : up_to_last_blank (codes "1 0\n23") ≡ codes "1 0\n"
   pub to_a_blank_alone : up_to_last_blank (codes "1 0 2") ≡ codes "1 0 "

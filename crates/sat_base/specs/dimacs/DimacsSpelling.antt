@@ -11,31 +11,32 @@ use Rattle.sat_base.specs.script.ScriptSpelling.{IsZero}
 abbrev pub signed_number : ℕ → Token
 signed_number l = Number (not (is_positive l)) (variable l + 1)
 
--- that the numbers of all literals are at most 2^28
+-- `AreWithinLimit ls` holds if the numbers of all literals are at most 2^28.
 abbrev pub AreWithinLimit : List ℕ → Type 0
 AreWithinLimit ls = AllByRecursion (λ l. variable l < var_limit) ls
 
--- that the tokens spell the clause: the numbers of its literals, then a zero
+-- `SpellsClause ls ts` holds if the tokens spell the clause `ls`: the numbers of its literals, then a zero.
 abbrev pub SpellsClause : List ℕ → List Token → Type 0
 SpellsClause ls ts = (last : Token) × IsZero last × AreWithinLimit ls × (ts ≡ map signed_number ls ++ last ∷ [])
 
--- that the tokens spell the clauses, one after another
+-- `SpellsClauses cs ts` holds if the tokens spell the clauses, one after another.
 abbrev pub SpellsClauses : List (List ℕ) → List Token → Type 0
 SpellsClauses [] ts = ts ≡ []
 SpellsClauses (ls ∷ cs) ts = (front : List Token) × (rest : List Token) × SpellsClause ls front × SpellsClauses cs rest
     × (ts ≡ front ++ rest)
 
--- that the tokens spell the clauses, possibly after a header
+-- `SpellsFormula cs ts` holds if the tokens spell the clauses, possibly after a header.
 abbrev pub SpellsFormula : List (List ℕ) → List Token → Type 0
 SpellsFormula cs ts = SpellsClauses cs ts
     ⊎ ((vars : ℕ) × (clauses : ℕ) × (rest : List Token) × (ts ≡ Header vars clauses ∷ rest) × SpellsClauses cs rest)
 
--- that every text has exactly one list of clauses and one ending
+-- `OneFormula` holds if every text has exactly one list of clauses and one ending.
 pub record OneFormula : Type 0 where
   pub some : (text : List ℕ) → (cs : List (List ℕ)) × (end : Ending) × IsDimacs text cs end
   pub one : (text : List ℕ) (cs ds : List (List ℕ)) (d e : Ending)
       → IsDimacs text cs d → IsDimacs text ds e → (cs ≡ ds) × (d ≡ e)
 
--- that a text has these clauses and ends cleanly exactly when its tokens spell a formula of these clauses
+-- `CleanIfSpelled` holds if every text has a list of clauses and ends cleanly exactly when its tokens spell a formula
+-- of these clauses.
 abbrev pub CleanIfSpelled : Type 0
 CleanIfSpelled = (text : List ℕ) (cs : List (List ℕ)) → IsDimacs text cs Clean ↔ SpellsFormula cs (without_lines (tokens text))

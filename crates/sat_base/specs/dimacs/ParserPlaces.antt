@@ -29,12 +29,14 @@ all_in p = p.history.taken ++ p.clauses.formula.clauses
 abbrev pub prepend_clauses : List (List ℕ) → Dimacs → Dimacs
 prepend_clauses cs d = record { clauses = cs ++ d.clauses; ending = d.ending }
 
--- That the tokens `before` complete the clauses `all` and leave `hand` unfinished. So the clauses of any continuation come after `all`.
+-- `HaveTakenTokens before all hand` holds if the tokens `before` complete the clauses `all` and leave `hand`
+-- unfinished, so that the clauses of any continuation come after `all`.
 pub record HaveTakenTokens (before : List (ℕ × Token)) (all : List (List ℕ)) (hand : PartialClause) : Type 0 where
   pub says : (last : ℕ) (ts : List (ℕ × Token)) → clauses_of None last (before ++ ts) ≡ prepend_clauses all (clauses_of hand last ts)
   pub sound : (ts : List (ℕ × Token)) → NoFault hand ts → NoFault None (before ++ ts)
 
--- the invariant of a parser that has not stopped
+-- `IsGoingParser p` holds if the tokenizer, the clauses and the header of a parser that has not stopped agree with the
+-- bytes that it has accepted, which have no fault so far.
 pub record IsGoingParser (p : Parser) : Type 0 where
   pub ended : p.ended ≡ false
   pub before : List (ℕ × Token)  -- the tokens so far
@@ -47,7 +49,7 @@ pub record IsGoingParser (p : Parser) : Type 0 where
   pub quiet : is_blank (last_byte p.history.fed) ≡ true → HasNoNumberOrLetter (left_of [])
   pub right : HasValidContinuation left_of
 
--- the invariant of every parser
+-- `IsParser p` holds if the clauses, the counts and the header of a parser agree with the bytes that it has accepted.
 pub record IsParser (p : Parser) : Type 0 where
   pub clauses : clauses_read (progress_of p) ≡ all_in p
   pub count : p.clauses.count ≡ capped (length (all_in p))
@@ -55,7 +57,8 @@ pub record IsParser (p : Parser) : Type 0 where
   pub header : p.clauses.header ≡ capped_numbers (dimacs_header (lines_read (progress_of p)))
   pub goes : p.stopped ≡ false → IsGoingParser p
 
--- the effect of the end of the text after its last word: within a clause, the text is malformed
+-- `EndsClean result p` holds if `result` is that of the end of the text after its last word: `Ok` between clauses,
+-- otherwise malformed on the last line.
 abbrev pub EndsClean : Result (Unit {0}) DimacsError → Parser → Type 0
 EndsClean (Ok u) p = partial_clause_in p.clauses ≡ None
 EndsClean (Err (errors.Malformed line)) p =

@@ -49,7 +49,7 @@ clauses_read p = (dimacs (words_read p)).clauses
 abbrev pub all_taken : Progress → Progress
 all_taken p = record p { taken = clauses_read p }
 
--- whether any of these bytes is LF
+-- `has_LF bytes` is true if one of the bytes is LF.
 abbrev pub has_LF : List ℕ → Bool
 has_LF [] = false
 has_LF (b ∷ bs) = nat_eq b 10 || has_LF bs
@@ -68,44 +68,49 @@ abbrev pub capped_numbers : Option (ℕ × ℕ) → Option (ℕ × ℕ)
 capped_numbers None = None
 capped_numbers (Some h) = Some (capped h.0, capped h.1)
 
--- that, however the text continues, its clauses are those already read, and it has this ending
+-- `EndsAt ending p` holds if however the text continues, its clauses are those already read, and `ending` is its
+-- ending.
 abbrev pub EndsAt : Ending → Progress → Type 0
 EndsAt ending p = (rest : List ℕ) → dimacs (p.fed ++ rest) ≡ record { clauses = clauses_read p; ending = ending }
 
--- that the effect of a token is not a fault, and `more` holds for the unfinished clause after the token
+-- `unless_fault effect more` holds if `effect` is not a fault, and `more` holds for the unfinished clause after the
+-- token.
 abbrev pub unless_fault : TokenEffect → (PartialClause → Type 0) → Type 0
 unless_fault (GoesOn hand) more = more hand
 unless_fault (Ends clause) more = more None
 unless_fault (Fails ending) more = ⊥
 
--- that none of the tokens is a fault, starting from this unfinished clause or none
+-- `NoFault hand ts` holds if none of the tokens is a fault, starting from the unfinished clause `hand` or none.
 abbrev pub NoFault : PartialClause → List (ℕ × Token) → Type 0
 NoFault hand [] = Unit {0}
 NoFault hand (t ∷ ts) = unless_fault (token_effect hand t.0 t.1) (λ h. NoFault h ts)
 
--- that no complete line of a text has a fault, and the text can continue without a wrong word
+-- `IsSoundText text` holds if no complete line of the text has a fault, and the text can continue without a wrong word.
 pub record IsSoundText (text : List ℕ) : Type 0 where
   pub lines : NoFault None (tokens (whole_lines text))
   pub words : HasValidContinuation (λ rest. scan (text ++ rest))
 
--- that `IsSoundText` holds for the bytes that a parser has accepted
+-- `IsSoundSoFar p` holds if `IsSoundText` holds for the bytes that the parser has accepted.
 abbrev pub IsSoundSoFar : Progress → Type 0
 IsSoundSoFar p = IsSoundText p.fed
 
--- that `IsSoundText` holds for what a reader gave, and the text ends cleanly if the reader found its end
+-- `GaveSound old new` holds if `IsSoundText` holds for what the reader gave, and the text ends cleanly if the reader
+-- found its end.
 abbrev pub GaveSound : Reader → Reader → Type 0
 GaveSound old new = (text : List ℕ) × GavePrefix old new text × IsSoundText text
     × (old.calls < new.calls → new.ended ≡ true → (dimacs text).ending ≡ Clean)
 
--- that after a line that ends the text, there are fewer bytes than one read can give
+-- `EndsInLastPiece text` holds if fewer bytes than one read can give come after a prefix of the text that ends it.
 abbrev pub EndsInLastPiece : List ℕ → Type 0
 EndsInLastPiece text = (front rest : List ℕ) → text ≡ front ++ rest → HasEnded front → length rest < piece_size
 
--- that `EndsInLastPiece` holds for what a reader gave: nothing was read after the line that ends the text
+-- `StopsReading old new` holds if `EndsInLastPiece` holds for what the reader gave: nothing was read after the line
+-- that ends the text.
 abbrev pub StopsReading : Reader → Reader → Type 0
 StopsReading old new = (text : List ℕ) × GavePrefix old new text × EndsInLastPiece text
 
--- that a prefix of the piece was accepted, up to and including a fault
+-- `EndsAtFault ending piece old new` holds if a prefix of the piece was accepted, up to and including a fault with this
+-- ending.
 pub record EndsAtFault (ending : Ending) (piece : List ℕ) (old new : Progress) : Type 0 where
   pub front : List ℕ
   pub following : List ℕ
@@ -117,7 +122,8 @@ pub record EndsAtFault (ending : Ending) (piece : List ℕ) (old new : Progress)
 abbrev pub last_byte : List ℕ → ℕ
 last_byte text = get_or text (length text - 1) 10
 
--- that the last word of the complete text `whole` is a number, and `text` ends with the last byte of that number
+-- `EndsNumber text whole` holds if the last word of the complete text `whole` is a number, and `text` ends with the
+-- last byte of that number.
 pub record EndsNumber (text whole : List ℕ) : Type 0 where
   pub in_word : is_blank (last_byte text) ≡ false
   pub before : List (ℕ × Token)
@@ -125,19 +131,20 @@ pub record EndsNumber (text whole : List ℕ) : Type 0 where
   pub value : ℕ
   pub number : tokens whole ≡ before ++ ((scan whole).last, Number negative value) ∷ []
 
--- that `byte` is a blank that ends a number after this text, and no word so far is a fault
+-- `GoesWell text byte` holds if `byte` is a blank that ends a number after this text, and no word so far is a fault.
 pub record GoesWell (text : List ℕ) (byte : ℕ) : Type 0 where
   pub blank : is_blank byte ≡ true
   pub number : EndsNumber text (text ++ byte ∷ [])
   pub sound : NoFault None (tokens (text ++ byte ∷ []))
 
--- that the text ends cleanly with a number, which is then a zero, and no line that begins with `%` has ended it earlier
+-- `EndsWell text` holds if the text ends cleanly with a number, which is then a zero, and no line that begins with `%`
+-- has ended it earlier.
 pub record EndsWell (text : List ℕ) : Type 0 where
   pub number : EndsNumber text text
   pub clean : (dimacs text).ending ≡ Clean
   pub goes_on : HasEnded text → ⊥
 
--- that a prefix of the piece was accepted, and memory ran out at the next byte
+-- `RunsOutWithinPiece piece old new` holds if a prefix of the piece was accepted, and memory ran out at the next byte.
 pub record RunsOutWithinPiece (piece : List ℕ) (old new : Progress) : Type 0 where
   pub front : List ℕ
   pub byte : ℕ
@@ -146,16 +153,19 @@ pub record RunsOutWithinPiece (piece : List ℕ) (old new : Progress) : Type 0 w
   pub progress : new ≡ cut_short (with_fed front old)
   pub well : GoesWell (old.fed ++ front) byte
 
--- that a text has a fault on this line, however the text continues
+-- `HasFaultOn line ending text` holds if the text has a fault on `line`, however it continues; `ending` gives the
+-- ending for a line.
 abbrev pub HasFaultOn : ℕ → (ℕ → Ending) → List ℕ → Type 0
 HasFaultOn line ending text = (n : ℕ) × (line ≡ capped n) × ((rest : List ℕ) → (dimacs (text ++ rest)).ending ≡ ending n)
 
--- that the flag says whether the parser has not stopped and a line that begins with `%` has ended its text
+-- `ReportsEnded flag p` holds if `flag` says whether the parser has not stopped and a line that begins with `%` has
+-- ended its text.
 abbrev pub ReportsEnded : Bool → Progress → Type 0
 ReportsEnded true p = (p.stopped ≡ false) × HasEnded p.fed
 ReportsEnded false p = (p.stopped ≡ true) ⊎ (HasEnded p.fed → ⊥)
 
--- the effect of `feed` for a piece
+-- `FeedsPiece result piece old new` holds if `feed` with `result` has led from `old` to `new`: the piece was accepted,
+-- a prefix of it up to a fault or until memory ran out, or nothing because the parser had stopped.
 abbrev pub FeedsPiece : Result (Unit {0}) DimacsError → List ℕ → Progress → Progress → Type 0
 FeedsPiece (Ok u) piece old new = (old.stopped ≡ false) × (new ≡ with_fed piece old)
 FeedsPiece (Err (errors.Malformed line)) piece old new =
@@ -165,7 +175,8 @@ FeedsPiece (Err errors.OutOfMemory) piece old new = (old.stopped ≡ false) × R
 FeedsPiece (Err errors.HasFailed) piece old new = (old.stopped ≡ true) × (new ≡ old)
 FeedsPiece (Err errors.Read) piece old new = ⊥
 
--- the effect of `finish`
+-- `Finishes result old new` holds if `finish` with `result` has led from `old` to `new`: the text has ended, cleanly or
+-- with a fault, memory ran out, or the parser had stopped.
 abbrev pub Finishes : Result (Unit {0}) DimacsError → Progress → Progress → Type 0
 Finishes (Ok u) old new = (old.stopped ≡ false) × (new ≡ at_its_end old) × ((dimacs old.fed).ending ≡ Clean)
 Finishes (Err (errors.Malformed line)) old new = (old.stopped ≡ false) × (new ≡ at_its_end old) × (n : ℕ) × (line ≡ capped n)
@@ -176,7 +187,8 @@ Finishes (Err errors.OutOfMemory) old new = (old.stopped ≡ false) × (new ≡ 
 Finishes (Err errors.HasFailed) old new = (old.stopped ≡ true) × (new ≡ old)
 Finishes (Err errors.Read) old new = ⊥
 
--- Why a piece is refused: it has a fault, however the text continues; memory ran out within it, and it has no fault; or the parser has stopped.
+-- `RefusesPiece e piece old` holds if `e` is why the piece is refused: it has a fault, however the text continues;
+-- memory ran out within it, and it has no fault; or the parser has stopped.
 abbrev pub RefusesPiece : DimacsError → List ℕ → Progress → Type 0
 RefusesPiece (errors.Malformed line) piece old = HasFaultOn line Malformed (old.fed ++ piece)
 RefusesPiece (errors.Limit line) piece old = HasFaultOn line Limit (old.fed ++ piece)
@@ -184,12 +196,14 @@ RefusesPiece errors.OutOfMemory piece old = ((new : Progress) × RunsOutWithinPi
 RefusesPiece errors.HasFailed piece old = old.stopped ≡ true
 RefusesPiece errors.Read piece old = ⊥
 
--- that memory ran out where a number of the text ends, and no word up to that number is a fault
+-- `RunsOutWhileParsing text` holds if memory ran out where a number of the text ends, and no word up to that number is
+-- a fault.
 abbrev pub RunsOutWhileParsing : List ℕ → Type 0
 RunsOutWhileParsing text = ((front : List ℕ) × (byte : ℕ) × (following : List ℕ) × (text ≡ front ++ byte ∷ following) × GoesWell front byte)
     ⊎ EndsWell text
 
--- the result of parsing a complete text
+-- `Parses result text` holds if `result` is that of parsing the complete text: the formula, a fault with its line,
+-- `OutOfMemory`, or `Read`, of which nothing more is said.
 abbrev pub Parses : Result Formula DimacsError → List ℕ → Type 0
 Parses (Ok f) text = IsDimacs text f.clauses Clean × (f.var_count ≡ vars_of f.clauses)
 Parses (Err (errors.Malformed line)) text = (n : ℕ) × (line ≡ capped n) × ((dimacs text).ending ≡ Malformed n)
@@ -202,47 +216,53 @@ Parses (Err errors.HasFailed) text = ⊥
 abbrev pub Calls : Type 0 → Type 0 → Type 1
 Calls F E = F → MutBor Progress → Result (Unit {0}) E → MutBor Progress → F → Type 0
 
--- that successive calls with these parsers change only which clauses were taken
+-- `EachOnlyTakesClauses calls f ps` holds if successive calls with these parsers change only which clauses were taken.
 abbrev pub EachOnlyTakesClauses : {F E : Type 0} → Calls F E → F → List (MutBor Progress) → Type 0
 EachOnlyTakesClauses calls f [] = Unit {0}
 EachOnlyTakesClauses {F} {E} calls f (p ∷ ps) =
     (answer : Result (Unit {0}) E) (q : MutBor Progress) (g : F) → calls f p answer q g
     → (q.now ≡ record p.now { taken = q.now.taken }) × EachOnlyTakesClauses calls g ps
 
--- that every call of the closure, now and later, changes only which clauses were taken, as `take_formula` does
+-- `OnlyTakesClauses calls f` holds if every call of the closure, now and later, changes only which clauses were taken,
+-- as `take_formula` does.
 abbrev pub OnlyTakesClauses : {F E : Type 0} → Calls F E → F → Type 0
 OnlyTakesClauses calls f = (ps : List (MutBor Progress)) → EachOnlyTakesClauses calls f ps
 
--- that the parser has read a text that ends cleanly
+-- `HasReadCleanly p text` holds if the parser has read the complete text, which ends cleanly.
 abbrev pub HasReadCleanly : Progress → List ℕ → Type 0
 HasReadCleanly p text = (p.fed ≡ text) × (p.stopped ≡ true) × (p.ended ≡ true) × ((dimacs text).ending ≡ Clean)
 
--- That no bytes that could follow this text change its clauses, its ending or its header.
+-- `FormulaIsDetermined old new text` holds if no bytes that could follow the text change its clauses, its ending or its
+-- header.
 abbrev pub FormulaIsDetermined : Reader → Reader → List ℕ → Type 0
 FormulaIsDetermined old new text = (rest : List ℕ) → CanFollow old new rest
     → (dimacs (text ++ rest) ≡ dimacs text) × (dimacs_header (text ++ rest) ≡ dimacs_header text)
 
--- the result of `parse_incremental` for what the reader gave
+-- `ParsesInParts old new result` holds if `result` is that of `parse_incremental` for what the reader gave. Nothing is
+-- said of an error of the caller.
 abbrev pub ParsesInParts : {E : Type 0} → Reader → Reader → Result Progress (IncrementalError E) → Type 0
 ParsesInParts old new (Ok p) = (text : List ℕ) × GavePrefix old new text × HasReadCleanly p text × FormulaIsDetermined old new text
 ParsesInParts old new (Err (parts.Dimacs e)) = GaveEnough old new (Parses (Err e))
 ParsesInParts old new (Err (parts.Caller e)) = Unit {0}
 
--- that the closure is called with the parser and returns this result; closure and parser may change
+-- `Visits calls s answer t` holds if the closure is called with the parser and returns `answer`; closure and parser may
+-- change.
 abbrev pub Visits : {F E : Type 0} → Calls F E → F × Progress → Result (Unit {0}) E → F × Progress → Type 0
 Visits calls s answer t = (p : MutBor Progress) × (q : MutBor Progress) × (p.now ≡ s.1) × (q.now ≡ t.1) × calls s.0 p answer q t.0
 
--- that a piece is accepted, and then the closure is called
+-- `FeedsAndVisits calls s piece t` holds if the piece is accepted, and then the closure is called and returns `Ok`.
 abbrev pub FeedsAndVisits : {F E : Type 0} → Calls F E → F × Progress → List ℕ → F × Progress → Type 0
 FeedsAndVisits calls s piece t = (0 < length piece) × (fed : Progress) × FeedsPiece (Ok tt) piece s.1 fed × IsSoundSoFar fed
     × Visits calls (s.0, fed) (Ok tt) t
 
--- the result for the last piece, or for the end of the text
+-- `AnswersLastPiece answer piece reader old new` holds if `answer` is that of feeding the last piece or, if the piece
+-- is empty, of the end of the text.
 abbrev pub AnswersLastPiece : Result (Unit {0}) DimacsError → List ℕ → Reader × Reader → Progress → Progress → Type 0
 AnswersLastPiece answer piece reader old new =
     ((0 < length piece) × FeedsPiece answer piece old new) ⊎ ((piece ≡ []) × FormulaIsDetermined reader.0 reader.1 old.fed × Finishes answer old new)
 
--- What follows the pieces after which the closure returned `Ok`. The closure is called once more, unless a read failed.
+-- `LastVisit calls piece reader result s` holds if after the pieces for which the closure returned `Ok`, the last piece
+-- or the end of the text has led to `result`. The closure is called once more, unless a read failed.
 abbrev pub LastVisit : {F E : Type 0} → Calls F E → List ℕ → Reader × Reader → Result Progress (IncrementalError E) → F × Progress
     → Type 0
 LastVisit {F} calls piece reader (Ok p) s = (piece ≡ []) × FormulaIsDetermined reader.0 reader.1 s.1.fed × (mid : Progress) × (f : F)
@@ -252,8 +272,8 @@ LastVisit {F} calls piece reader (Err (parts.Dimacs e)) s = ((e ≡ errors.Read)
 LastVisit {F} calls piece reader (Err (parts.Caller e)) s = (answer : Result (Unit {0}) DimacsError) × (mid : Progress)
     × (t : F × Progress) × AnswersLastPiece answer piece reader s.1 mid × Visits calls (s.0, mid) (Err e) t
 
--- That the closure was called after every piece that the reader gave, and after the end of the text. Every read, except at most one, gave one
--- of `pieces`.
+-- `VisitsAll calls f old new result` holds if the closure was called after every piece that the reader gave, and after
+-- the end of the text. Every read, except at most one, gave one of `pieces`.
 pub record VisitsAll {F E : Type 0} (calls : Calls F E) (f : F) (old new : Reader) (result : Result Progress (IncrementalError E)) : Type 0 where
   pub pieces : List (List ℕ)
   pub last : List ℕ

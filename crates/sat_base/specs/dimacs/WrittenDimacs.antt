@@ -6,8 +6,8 @@ use Rattle.sat_base.specs.text.Text.{dimacs_header}
 use Rattle.sat_base.specs.dimacs.Dimacs.{IsDimacs, Clean}
 use Rattle.sat_base.specs.dimacs.DimacsText.{dimacs_text}
 
--- That the text of a formula has its clauses, ends cleanly, and has a header with its two counts. The variables must be within the limit, and
--- the formula must have fewer than 2^64 clauses.
+-- `WrittenIsRead` holds if the text of every formula has its clauses, ends cleanly, and has a header with its two
+-- counts, provided that variables are within the limit and there are fewer than 2^64 clauses.
 abbrev pub WrittenIsRead : Type 0
 WrittenIsRead = (f : Formula) → vars_of f.clauses ≤ var_limit → f.var_count ≤ var_limit → length f.clauses < 2 ^ 64
     → IsDimacs (dimacs_text f) f.clauses Clean × (dimacs_header (dimacs_text f) ≡ Some (f.var_count, length f.clauses))

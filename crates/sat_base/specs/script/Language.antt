@@ -35,7 +35,8 @@ abbrev pub command_in : PartialCommand → Command
 command_in Nothing = Clause []
 command_in (Within kind ls) = command_of kind ls
 
--- whether a literal of this sign is allowed in a command of this kind: a name has no minus sign
+-- `allows_sign kind positive` is true if a literal of this sign is allowed in a command of this kind: a name has no
+-- minus sign.
 abbrev pub allows_sign : Kind → Bool → Bool
 allows_sign OfClause positive = true
 allows_sign OfAsk positive = true
@@ -115,6 +116,6 @@ with_ask due r = if due && (is_clean r.1 && not (has_ask r.0)) then (r.0 ++ Ask 
 unfoldable pub reading : List ℕ → Reading
 reading text = with_ask (is_some (dimacs_header text)) (plain_reading text)
 
--- that the text has these commands and this ending
+-- `IsScript text commands end` holds if the text has these commands and this ending.
 abbrev pub IsScript : List ℕ → List Command → ScriptEnding → Type 0
 IsScript text commands end = reading text ≡ (commands, end)

@@ -9,11 +9,12 @@ use Rattle.sat_base.specs.script.Language.{Kind, OfClause, OfAsk, OfHide, OfWitn
 abbrev pub number_of : Literal → Token
 number_of l = Number (not l.positive) l.name
 
--- that all names are at least 1, and all literals are positive unless `kind` is a clause or an ask
+-- `AreNamesOfKind kind ls` holds if all names are at least 1, and all literals are positive unless `kind` is a clause
+-- or an ask.
 abbrev pub AreNamesOfKind : Kind → List Literal → Type 0
 AreNamesOfKind kind ls = AllByRecursion (λ l. (0 < l.name) × (allows_sign kind l.positive ≡ true)) ls
 
--- that the token is a zero, which ends a clause or command (no text has the token of a negative zero)
+-- `IsZero token` holds if `token` is a zero, which ends a clause or command (no text has the token of a negative zero).
 abbrev pub IsZero : Token → Type 0
 IsZero (Number negative value) = value ≡ 0
 IsZero (Letter b) = ⊥
@@ -28,7 +29,7 @@ letter_of OfHide = Letter 104 ∷ []
 letter_of OfWitness = Letter 119 ∷ []
 letter_of OfSample = Letter 115 ∷ []
 
--- that the tokens spell the command: its letter, its literals or names, and a zero
+-- `SpellsCommand c ts` holds if the tokens spell the command: its letter, its literals or names, and a zero.
 pub record SpellsCommand (c : Command) (ts : List Token) : Type 0 where
   pub kind : Kind
   pub literals : List Literal
@@ -38,18 +39,19 @@ pub record SpellsCommand (c : Command) (ts : List Token) : Type 0 where
   pub is : c ≡ command_of kind literals
   pub whole : ts ≡ letter_of kind ++ (map number_of literals ++ last ∷ [])
 
--- that the tokens spell the commands, one after another
+-- `SpellsCommands cs ts` holds if the tokens spell the commands, one after another.
 abbrev pub SpellsCommands : List Command → List Token → Type 0
 SpellsCommands [] ts = ts ≡ []
 SpellsCommands (c ∷ cs) ts = (front : List Token) × (rest : List Token) × SpellsCommand c front × SpellsCommands cs rest
     × (ts ≡ front ++ rest)
 
--- that there are tokens, and no prefix of them spells a command
+-- `BeginsNone ts` holds if there are tokens, and no prefix of them spells a command.
 pub record BeginsNone (ts : List Token) : Type 0 where
   pub some : ts ≡ [] → ⊥
   pub none : (c : Command) (front rest : List Token) → SpellsCommand c front → ts ≡ front ++ rest → ⊥
 
--- that the tokens spell the commands and then end, or, if malformed, continue with tokens of which no prefix spells a command
+-- `SpellsTo cs end ts` holds if the tokens spell the commands and then end, or, if malformed, continue with tokens of
+-- which no prefix spells a command.
 abbrev pub SpellsTo : List Command → ScriptEnding → List Token → Type 0
 SpellsTo cs Clean ts = SpellsCommands cs ts
 SpellsTo cs Malformed ts = (front : List Token) × (rest : List Token) × SpellsCommands cs front × BeginsNone rest × (ts ≡ front ++ rest)
@@ -59,19 +61,19 @@ abbrev pub with_final_ask : List Command → ScriptEnding → List Command
 with_final_ask cs Clean = if has_ask cs then cs else cs ++ Ask [] ∷ []
 with_final_ask cs Malformed = cs
 
--- That the tokens spell these commands and this ending. A header may precede the commands. It counts as an ask at the end if the ending is
--- clean and no command is an ask.
+-- `SpellsScript cs end ts` holds if the tokens spell these commands and this ending. A header may precede the commands.
+-- It counts as an ask at the end if the ending is clean and no command is an ask.
 abbrev pub SpellsScript : List Command → ScriptEnding → List Token → Type 0
 SpellsScript cs end ts = (((vars : ℕ) (clauses : ℕ) (rest : List Token) → ts ≡ Header vars clauses ∷ rest → ⊥) × SpellsTo cs end ts)
     ⊎ ((vars : ℕ) × (clauses : ℕ) × (rest : List Token) × (spelled : List Command)
     × (ts ≡ Header vars clauses ∷ rest) × SpellsTo spelled end rest × (cs ≡ with_final_ask spelled end))
 
--- that every text has exactly one list of commands and one ending
+-- `OneReading` holds if every text has exactly one list of commands and one ending.
 pub record OneReading : Type 0 where
   pub some : (text : List ℕ) → (cs : List Command) × (end : ScriptEnding) × IsScript text cs end
   pub one : (text : List ℕ) (cs ds : List Command) (d e : ScriptEnding)
       → IsScript text cs d → IsScript text ds e → (cs ≡ ds) × (d ≡ e)
 
--- that a text means these commands and this ending exactly when its tokens spell them
+-- `ReadIfSpelled` holds if every text means a list of commands and an ending exactly when its tokens spell them.
 abbrev pub ReadIfSpelled : Type 0
 ReadIfSpelled = (text : List ℕ) (cs : List Command) (end : ScriptEnding) → IsScript text cs end ↔ SpellsScript cs end (without_lines (tokens text))

@@ -107,12 +107,12 @@ pub data Refusal : Type 0 where
   PastLimit : Refusal
   WitnessName : ℕ → Refusal
 
--- whether the mode is witness, so that a clause or an ask with a variable of this mode is refused
+-- `is_witness mode` is true if the mode is witness, so that a clause or an ask with a variable of this mode is refused.
 abbrev pub is_witness : NameMode → Bool
 is_witness Sampled = false
 is_witness Witnessed = true
 
--- whether there is an identity, and the mode of its variable is witness
+-- `has_witness j identity` is true if there is an identity, and the mode of its variable is witness.
 abbrev pub has_witness : ScriptState → Option ℕ → Bool
 has_witness j None = false
 has_witness j (Some identity) = is_witness (get_or j.modes identity Sampled)
@@ -148,7 +148,8 @@ accepted_commands j [] = []
 accepted_commands j (command ∷ commands) =
     if is_some (refusal_of j command) then accepted_commands j commands else command ∷ accepted_commands (state_after_accepted command j) commands
 
--- That `line` is a correct model of `ask`. `j` is the state after the names of `ask` were introduced.
+-- `IsRightModel j ask line` holds if `line` is a correct model of `ask`. `j` is the state after the names of `ask` were
+-- introduced.
 pub record IsRightModel (j : ScriptState) (ask line : List Literal) : Type 0 where
   -- `line` has one literal for every name in use, in increasing order
   pub names : names_of line ≡ map (λ n. n.name) j.in_use
@@ -158,8 +159,9 @@ pub record IsRightModel (j : ScriptState) (ask line : List Literal) : Type 0 whe
   pub clauses : EachHolds valuation j.clauses
   pub asked : EachTrue valuation (map (identity_lit j) ask)
 
--- That `core` is a correct core of `ask`. It contains some of the literals of `ask`, sorted and without repeats, that cannot all be true if the
--- accepted clauses hold. It need not be minimal. `j` is the state after the names of `ask` were introduced.
+-- `IsRightCore j ask core` holds if `core` is a correct core of `ask`. It contains some of the literals of `ask`,
+-- sorted and without repeats, that cannot all be true if the accepted clauses hold. It need not be minimal. `j` is the
+-- state after the names of `ask` were introduced.
 pub record IsRightCore (j : ScriptState) (ask core : List Literal) : Type 0 where
   pub order : InOrder core
   pub among : AllByRecursion (λ l. Among l ask) core

@@ -6,13 +6,13 @@ use Rattle.sat_base.specs.values.Clauses.{Valuation, literal_true, EachHolds}
 use Rattle.sat_base.specs.script.Script.{Literal, Command, Among, names_of}
 use Rattle.sat_base.specs.script.ScriptState.{ScriptState, Named, identity_of, identity_lit, for_each, introduce, after_script, initial_state, IsRightModel, IsRightCore}
 
--- that the names strictly increase
+-- `NamesIncrease names` holds if the names strictly increase.
 abbrev pub NamesIncrease : List Named → Type 0
 NamesIncrease [] = Unit {0}
 NamesIncrease (n ∷ ns) = AllByRecursion (λ m. n.name < m.name) ns × NamesIncrease ns
 
--- The invariant of script states. Names in use increase and are below `first_unused`, which is at most one past the limit. Every identity below
--- `identity_count` has a mode, and no other identity occurs.
+-- `ScriptStateInvariant j` holds if names in use increase and are below `first_unused`, which is at most one past the
+-- limit, every identity below `identity_count` has a mode, and no other identity occurs.
 pub record ScriptStateInvariant (j : ScriptState) : Type 0 where
   pub limit : j.first_unused ≤ var_limit + 1
   pub order : NamesIncrease j.in_use
@@ -21,7 +21,7 @@ pub record ScriptStateInvariant (j : ScriptState) : Type 0 where
   pub modes : length j.modes ≡ j.identity_count
   pub clauses : AllByRecursion (AllByRecursion (λ l. variable l < j.identity_count)) j.clauses
 
--- that the invariant holds after every script
+-- `ScriptStateInvariantHolds` holds if `ScriptStateInvariant` holds for the state after every script.
 abbrev pub ScriptStateInvariantHolds : Type 0
 ScriptStateInvariantHolds = (commands : List Command) → ScriptStateInvariant (after_script commands initial_state)
 
@@ -29,7 +29,8 @@ ScriptStateInvariantHolds = (commands : List Command) → ScriptStateInvariant (
 abbrev pub only_below : ℕ → Valuation → Valuation
 only_below n a = λ v. if nat_lt v n then a v else false
 
--- That the values of unused identities do not matter: making all of them false changes neither the clauses nor the literals of names in use.
+-- `GivenIdentitiesSuffice` holds if the values of unused identities do not matter: making all of them false changes
+-- neither the clauses nor the literals of names in use.
 abbrev pub GivenIdentitiesSuffice : Type 0
 GivenIdentitiesSuffice =
     (commands : List Command) (a : Valuation)
@@ -37,23 +38,23 @@ GivenIdentitiesSuffice =
     (EachHolds a j.clauses ↔ EachHolds (only_below j.identity_count a) j.clauses)
     × ((l : Literal) (i : ℕ) → identity_of j l.name ≡ Some i → literal_true (only_below j.identity_count a) (identity_lit j l) ≡ literal_true a (identity_lit j l))
 
--- that every number is less than all numbers after it
+-- `Increase xs` holds if every number is less than all numbers after it.
 abbrev pub Increase : List ℕ → Type 0
 Increase [] = Unit {0}
 Increase (x ∷ xs) = AllByRecursion (λ y. x < y) xs × Increase xs
 
--- that all of these names are in use
+-- `AreInUse j names` holds if all of these names are in use.
 abbrev pub AreInUse : ScriptState → List ℕ → Type 0
 AreInUse j names = AllByRecursion (λ name. (i : ℕ) × (identity_of j name ≡ Some i)) names
 
--- that an increasing list of exactly the names in use is the list that the state has
+-- `NamesAreListed` holds if an increasing list of exactly the names in use is the list that the state has.
 abbrev pub NamesAreListed : Type 0
 NamesAreListed = (j : ScriptState) (names : List ℕ) → NamesIncrease j.in_use → Increase names
     → ((name i : ℕ) → identity_of j name ≡ Some i → Among name names)
     → AreInUse j names → names ≡ map (λ n. n.name) j.in_use
 
--- Why the default identity 0 in `identity_lit` and `with_mode` is never needed: both are only used for names in use. This holds in every state, even in
--- one that no script reaches.
+-- `NamesAreInUse` says why the default identity 0 in `identity_lit` and `with_mode` is never needed: both are only used
+-- for names in use. This holds in every state, even in one that no script reaches.
 pub record NamesAreInUse : Type 0 where
   -- Names are in use once they are introduced. `accepted` introduces the names of a clause or an ask before it uses `identity_lit`, and every other
   -- name before it sets the mode.

@@ -1,19 +1,20 @@
 -- Formats: which bytes spell which value.
 use Rattle.std.specs.Prelude.{◌≡◌, ℕ, List, [], ◌∷◌, ◌++◌, length}
 
--- the bytes that spell a value
+-- a relation on values and the bytes that spell them
 abbrev pub Format : Type 0 → Type 1
 Format A = A → List ℕ → Type 0
 
--- the bytes are a prefix of a text, or all of it
+-- `IsPrefixOfText F bytes` holds if the bytes are a prefix of a text of the format, or all of it.
 abbrev pub IsPrefixOfText : {A : Type 0} → Format A → List ℕ → Type 0
 IsPrefixOfText {A} F bytes = (x : A) × (more : List ℕ) × F x (bytes ++ more)
 
--- the bytes are a prefix of a text, but not all of it
+-- `IsProperPrefix F bytes` holds if the bytes are a prefix of a text of the format, but not all of it.
 abbrev pub IsProperPrefix : {A : Type 0} → Format A → List ℕ → Type 0
 IsProperPrefix {A} F bytes = (x : A) × (b : ℕ) × (more : List ℕ) × F x (bytes ++ b ∷ more)
 
--- that some prefix of the bytes is a proper prefix of a text, but no text begins with this prefix and the next byte
+-- `IsFirstBadByte F bytes` holds if some prefix of the bytes is a proper prefix of a text, but no text begins with this
+-- prefix and the next byte.
 pub record IsFirstBadByte {A : Type 0} (F : Format A) (bytes : List ℕ) : Type 0 where
   pub front : List ℕ
   pub byte : ℕ
@@ -43,6 +44,6 @@ Times {A} F n xs bytes = (length xs ≡ n) × Items F xs bytes
 abbrev pub ListOf : {A : Type 0} → Format ℕ → Format A → Format (List A)
 ListOf {A} C F xs bytes = (a : List ℕ) × (b : List ℕ) × C (length xs) a × Items F xs b × (bytes ≡ a ++ b)
 
--- no text is a prefix of another, and every text has one value
+-- `IsUniquelyDecodable F` holds if any bytes begin with at most one text of a value, and every text has one value.
 abbrev pub IsUniquelyDecodable : {A : Type 0} → Format A → Type 0
 IsUniquelyDecodable {A} F = (x y : A) (a b s t : List ℕ) → F x a → F y b → a ++ s ≡ b ++ t → (a ≡ b) × (x ≡ y)

@@ -30,10 +30,10 @@ step_held l k = step_with k l.literals.items l.hashes.items l.units.items
 abbrev pub both_held : Lists → List ℕ × List ℕ
 both_held l = (l.literals.items, l.hashes.items)
 
--- whether the number is a tag of a step, from 1 to 13
+-- `is_tag tag` is true if the number is a tag of a step, from 1 to 13.
 abbrev pub is_tag : ℕ → Bool
 is_tag tag = nat_lt 0 tag && nat_lt tag 14
 
--- whether steps with this tag have lists
+-- `has_lists tag` is true if steps with this tag have lists.
 abbrev pub has_lists : ℕ → Bool
 has_lists tag = tag == 5 || tag == 6 || tag == 7 || tag == 8 || tag == 10 || tag == 11 || tag == 12

@@ -21,7 +21,7 @@ a_variable = record { format = IsVariable; bytes = number_bytes }
 abbrev pub an_optional_variable : Spelling (Option ℕ)
 an_optional_variable = record { format = IsOptionalVariable; bytes = optional_bytes }
 
--- whether a derived clause is redundant, or a variable sampled
+-- a flag: of a derived clause that it is redundant, or of a variable that it is sampled
 abbrev pub a_flag : Spelling Bool
 a_flag = record { format = IsFlag; bytes = flag_bytes }
 
@@ -85,11 +85,13 @@ fields = record { format = SpellsFields; bytes = fields_bytes }
 abbrev pub a_step : Spelling Step
 a_step = record { format = SpellsStep; bytes = step_bytes }
 
--- a value's spelling was sent through an output, or one call failed
+-- `SendsSpelling s x r seen waiting old new` holds if the spelling of the value `x` was sent through an output, or one
+-- call failed; `r` says which.
 abbrev pub SendsSpelling : {A E W P : Type 0} → Spelling A → A → Result (Unit {0}) E → (W → Writer) → (P → List ℕ)
     → Output W P → Output W P → Type 0
 SendsSpelling s x r seen waiting old new = Writes s.format x (s.bytes x) r (sink_of seen waiting old) (sink_of seen waiting new)
 
--- a value's spelling was put after the pending bytes of an output, and no call failed
+-- `Pushes s x seen waiting old new` holds if the spelling of the value `x` was put after the pending bytes of an
+-- output, and no call failed.
 abbrev pub Pushes : {A W P : Type 0} → Spelling A → A → (W → Writer) → (P → List ℕ) → Output W P → Output W P → Type 0
 Pushes s x seen waiting old new = AddsToSink (sink_of seen waiting old) (sink_of seen waiting new) (s.bytes x) × s.format x (s.bytes x)

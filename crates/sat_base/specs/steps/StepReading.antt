@@ -11,9 +11,9 @@ use Rattle.sat_base.specs.steps.Kinds.{step_with}
 
 -- the source of a reader of steps: the reader of its bytes, and the bytes read ahead
 abbrev pub reader_source : {R : Type 0} → (R → Reader) → StepReader R Buffers → Source
-reader_source seen s = source seen s.reader.now s.buffers.ahead
+reader_source seen s = source seen s.reader.now s.buffers.state.ahead
 
--- whether the reader of steps returns only `HasFailed` from now on
+-- `has_reader_failed s` is true if the reader of steps returns only `HasFailed` from now on.
 abbrev pub has_reader_failed : {R : Type 0} → StepReader R Buffers → Bool
 has_reader_failed s = s.buffers.failed
 
@@ -23,9 +23,9 @@ reader_name s = s.reader.ghost_name
 
 -- the last step that was read
 abbrev pub step_in : {R : Type 0} → StepReader R Buffers → Step
-step_in s = step_with s.buffers.kind s.buffers.lists.literals.items s.buffers.lists.hashes.items s.buffers.lists.units.items
+step_in s = step_with s.buffers.kind s.buffers.state.lists.literals.items s.buffers.state.lists.hashes.items s.buffers.state.lists.units.items
 
--- whether the error stops a reader of steps; every error except `Ends` does
+-- `is_stop e` is true if the error stops a reader of steps; every error except `Ends` does.
 abbrev pub is_stop : StepError → Bool
 is_stop errors.Ends = false
 is_stop errors.Cut = true
@@ -34,7 +34,7 @@ is_stop errors.Read = true
 is_stop errors.OutOfMemory = true
 is_stop errors.HasFailed = true
 
--- whether the error says that an earlier error stopped the reader
+-- `is_repeat e` is true if the error says that an earlier error stopped the reader.
 abbrev pub is_repeat : StepError → Bool
 is_repeat errors.HasFailed = true
 is_repeat errors.Ends = false
@@ -43,17 +43,18 @@ is_repeat errors.BadByte = false
 is_repeat errors.Read = false
 is_repeat errors.OutOfMemory = false
 
--- whether the result stops the reader
+-- `stopped result` is true if the result stops the reader.
 abbrev pub stopped : Result Step StepError → Bool
 stopped (Ok step) = false
 stopped (Err e) = is_stop e
 
--- whether the result says that the reader was stopped before
+-- `repeated result` is true if the result says that the reader was stopped before.
 abbrev pub repeated : Result Step StepError → Bool
 repeated (Ok step) = false
 repeated (Err e) = is_repeat e
 
--- what the result of a call means; with `HasFailed`, nothing has changed
+-- `AnswersUnlessFailed result old new` holds if `result` is that of reading a step (`AnswersStepRead`), or it is
+-- `HasFailed` and nothing has changed.
 abbrev pub AnswersUnlessFailed : Result Step StepError → Source → Source → Type 0
 AnswersUnlessFailed (Ok step) old new = AnswersStepRead (Ok step) old new
 AnswersUnlessFailed (Err errors.Ends) old new = AnswersStepRead (Err errors.Ends) old new
@@ -63,7 +64,8 @@ AnswersUnlessFailed (Err errors.Read) old new = AnswersStepRead (Err errors.Read
 AnswersUnlessFailed (Err errors.OutOfMemory) old new = AnswersStepRead (Err errors.OutOfMemory) old new
 AnswersUnlessFailed (Err errors.HasFailed) old new = new ≡ old
 
--- A call of `advance`. It returns `HasFailed` exactly when an earlier error stopped the reader.
+-- `AdvanceEffect seen old new result` holds if a call of `advance` with `result` has led from `old` to `new`. It
+-- returns `HasFailed` exactly when an earlier error stopped the reader.
 pub record AdvanceEffect {R : Type 0} (seen : R → Reader) (old new : StepReader R Buffers) (result : Result Step StepError) : Type 0 where
   pub same : reader_name new ≡ reader_name old
   pub answer : AnswersUnlessFailed result (reader_source seen old) (reader_source seen new)

@@ -5,47 +5,49 @@ use Rattle.sat_base.specs.values.Literals.{var_limit}
 use Rattle.sat_base.specs.steps.Numbers.{IsBelow}
 use Rattle.sat_base.specs.steps.Steps.{Deletion, Redundant, Simplified, Satisfied, Step, SolverVarName, UserVarName, DeleteVar, ChangeSamplingMode, AddClause, AtClause, UnitClauses, DeleteClause, ChangeHashBits, Model, Assumptions, FailedAssumptions, End}
 
--- the index of a variable, within the limit
+-- `IsVariable v bytes` holds if the bytes spell the index of a variable within the limit.
 abbrev pub IsVariable : Format ℕ
 IsVariable = IsBelow var_limit
 
--- the index of a variable or of a name, within the limit, plus 1; 0 for `None`
+-- `IsOptionalVariable v bytes` holds if the bytes spell the index of a variable or of a name, within the limit, plus 1,
+-- or 0 for `None`.
 abbrev pub IsOptionalVariable : Format (Option ℕ)
 IsOptionalVariable None bytes = IsBelow (var_limit + 1) 0 bytes
 IsOptionalVariable (Some v) bytes = IsBelow (var_limit + 1) (v + 1) bytes
 
--- the code of a literal whose variable is within the limit
+-- `IsLiteral l bytes` holds if the bytes spell the code of a literal whose variable is within the limit.
 abbrev pub IsLiteral : Format ℕ
 IsLiteral = IsBelow (2 * var_limit)
 
--- a hash, of at most 64 bits
+-- `IsHash hash bytes` holds if the bytes spell a hash, of at most 64 bits.
 abbrev pub IsHash : Format ℕ
 IsHash = IsBelow (2 ^ 64)
 
--- 0 for false, and 1 for true
+-- `IsFlag flag bytes` holds if the bytes spell 0 for false, or 1 for true.
 abbrev pub IsFlag : Format Bool
 IsFlag false bytes = IsBelow 2 0 bytes
 IsFlag true bytes = IsBelow 2 1 bytes
 
--- a width, from 0 to 64
+-- `IsWidth width bytes` holds if the bytes spell a width, from 0 to 64.
 abbrev pub IsWidth : Format ℕ
 IsWidth = IsBelow 65
 
--- the number of the reason for which a clause is deleted
+-- `IsDeletion reason bytes` holds if the bytes spell the number of the reason for which a clause is deleted.
 abbrev pub IsDeletion : Format Deletion
 IsDeletion Redundant bytes = IsBelow 3 0 bytes
 IsDeletion Simplified bytes = IsBelow 3 1 bytes
 IsDeletion Satisfied bytes = IsBelow 3 2 bytes
 
--- a list of literals, whose count is below 2^64
+-- `AreLiterals ls bytes` holds if the bytes spell a list of literals, whose count is below 2^64.
 abbrev pub AreLiterals : Format (List ℕ)
 AreLiterals = ListOf (IsBelow (2 ^ 64)) IsLiteral
 
--- a list of hashes, whose count is below 2^64
+-- `AreHashes hashes bytes` holds if the bytes spell a list of hashes, whose count is below 2^64.
 abbrev pub AreHashes : Format (List ℕ)
 AreHashes = ListOf (IsBelow (2 ^ 64)) IsHash
 
--- a list of literals, each with a hash, whose count is below 2^64
+-- `AreHashedLiterals units bytes` holds if the bytes spell a list of literals, each with a hash, whose count is below
+-- 2^64.
 abbrev pub AreHashedLiterals : Format (List (ℕ × ℕ))
 AreHashedLiterals = ListOf (IsBelow (2 ^ 64)) (Both IsLiteral IsHash)
 
@@ -65,7 +67,7 @@ tag_of (Assumptions assumptions) = 11
 tag_of (FailedAssumptions core hashes) = 12
 tag_of End = 13
 
--- the bytes after the tag
+-- `SpellsFields step bytes` holds if the bytes spell the fields of a step, which come after its tag.
 abbrev pub SpellsFields : Format Step
 SpellsFields (SolverVarName global solver) bytes = Both IsVariable IsOptionalVariable (global, solver) bytes
 SpellsFields (UserVarName global user) bytes = Both IsVariable IsOptionalVariable (global, user) bytes
@@ -81,10 +83,10 @@ SpellsFields (Assumptions assumptions) bytes = AreLiterals assumptions bytes
 SpellsFields (FailedAssumptions core hashes) bytes = Both AreLiterals AreHashes (core, hashes) bytes
 SpellsFields End bytes = bytes ≡ []
 
--- a step's tag, and then the bytes of its fields
+-- `SpellsStep step bytes` holds if the bytes are the tag of a step, and then spell its fields.
 abbrev pub SpellsStep : Format Step
 SpellsStep step bytes = (fields : List ℕ) × (bytes ≡ tag_of step ∷ fields) × SpellsFields step fields
 
--- steps, one after another
+-- `SpellsSteps steps bytes` holds if the bytes spell the steps, one after another.
 abbrev pub SpellsSteps : Format (List Step)
 SpellsSteps = Items SpellsStep

@@ -1,7 +1,7 @@
 -- Numbers without leading zeros, with a space after them.
 use Rattle.std.specs.Prelude.{ℕ, zero, suc, ◌<◌, ◌≤◌, ◌≡◌, ◌⊎◌, List, [], ◌∷◌, ◌++◌, decimal}
 
--- that the number is between 1 and the limit
+-- `IsNumberUpTo limit n` holds if the number `n` is between 1 and the limit.
 abbrev pub IsNumberUpTo : ℕ → ℕ → Type 0
 IsNumberUpTo limit n = (1 ≤ n) × (n ≤ limit)
 
@@ -10,18 +10,19 @@ abbrev pub digits_so_far : ℕ → List ℕ
 digits_so_far zero = []
 digits_so_far (suc n) = decimal (suc n)
 
--- that no number up to the limit begins with the digits so far and this byte
+-- `NoDigit limit number byte` holds if no number up to the limit begins with the digits of `number` and this byte.
 abbrev pub NoDigit : ℕ → ℕ → ℕ → Type 0
 NoDigit limit number byte = (n : ℕ) (more : List ℕ) → IsNumberUpTo limit n → decimal n ≡ digits_so_far number ++ (byte ∷ more) → ⊥
 
--- that the byte is not a space, or the number before it is 0 or above the limit
+-- `EndsNone number byte limit` holds if the byte is not a space, or the number before it is 0 or above the limit.
 abbrev pub EndsNone : ℕ → ℕ → ℕ → Type 0
 EndsNone number byte limit = byte ≡ 32 → (number ≡ 0) ⊎ (limit < number)
 
--- that the bytes do not begin with a word and a space
+-- `NoWord word P bytes` holds if the bytes do not begin with the word of a value for which `P` holds, and a space.
 abbrev pub NoWord : (ℕ → List ℕ) → (ℕ → Type 0) → List ℕ → Type 0
 NoWord word P bytes = (x : ℕ) (tail : List ℕ) → P x → bytes ≡ word x ++ (32 ∷ tail) → ⊥
 
--- that the bytes begin with this word and a space
+-- `BeginsWithWord word P bytes x rest` holds if the bytes are the word of `x`, for which `P` holds, a space, and
+-- `rest`.
 abbrev pub BeginsWithWord : (ℕ → List ℕ) → (ℕ → Type 0) → List ℕ → ℕ → List ℕ → Type 0
 BeginsWithWord word P bytes x rest = P x × (bytes ≡ word x ++ (32 ∷ rest))

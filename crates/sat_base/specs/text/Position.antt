@@ -2,12 +2,12 @@
 use Rattle.std.specs.Prelude.{◌≡◌, ℕ, ◌+◌, List, [], ◌∷◌, ◌++◌, Bool, false, Option, None, Some, if◌then◌else◌, codes}
 use Rattle.sat_base.specs.text.Text.{is_blank, lines, words, on_line, last_line, digits, same_bytes, Token, Header, Wrong, token, tokens_of, Scan}
 
--- the first of these lines, empty if there is none
+-- the first line of a list of lines, or an empty line if there is none
 abbrev pub first_line : List (List ℕ) → List ℕ
 first_line [] = []
 first_line (l ∷ ls) = l
 
--- the lines after the first
+-- the lines of a list of lines after the first
 abbrev pub later_lines : List (List ℕ) → List (List ℕ)
 later_lines [] = []
 later_lines (l ∷ ls) = ls
@@ -33,7 +33,7 @@ stage_after Format w = with_value Vars (digits 0 w)
 stage_after (Vars v) w = with_value (Both v) (digits 0 w)
 stage_after (Both v c) w = None
 
--- the token of a header line that ends at this stage
+-- the token of a header line that ends at a stage
 abbrev pub stage_end : Stage → Token
 stage_end (Both v c) = Header v c
 stage_end stage = Wrong
@@ -62,12 +62,12 @@ pub data Position : Type 0 where
   Spoilt : Position
   Over : Position
 
--- that none of these bytes is a blank
+-- `HasNoBlank bytes` holds if none of the bytes is a blank.
 abbrev pub HasNoBlank : List ℕ → Type 0
 HasNoBlank [] = Unit {0}
 HasNoBlank (b ∷ bs) = (is_blank b ≡ false) × HasNoBlank bs
 
--- that the unfinished word, if there is one, contains no blank
+-- `IsPosition spot` holds if the unfinished word of the position, if there is one, contains no blank.
 abbrev pub IsPosition : Position → Type 0
 IsPosition (Within x w) = HasNoBlank (x ∷ w)
 IsPosition (HeaderWithin stage x w) = HasNoBlank (x ∷ w)
@@ -105,7 +105,7 @@ unfinished_token (HeaderWithin stage x w) n = (n + 1, after_word (stage_after st
 unfinished_token Spoilt n = (n + 1, Wrong) ∷ []
 unfinished_token spot n = []
 
--- whether a header is still allowed on the next lines
+-- `may_after spot` is true if a header is still allowed on the next lines.
 abbrev pub may_after : Position → Bool
 may_after (Fresh may) = may
 may_after (Leading may) = may

@@ -3,7 +3,7 @@ use Rattle.std.specs.Prelude.{ℕ, ◌≡◌, ◌+◌, ◌*◌, ◌^◌, ◌<◌
 use Rattle.std.specs.List.{AllByRecursion}
 use Rattle.sat_base.specs.text.Text.{is_digit, digits}
 
--- the number with these bytes, the lowest first
+-- the number whose bytes are those of a list, the lowest first
 abbrev pub from_bytes : List ℕ → ℕ
 from_bytes [] = 0
 from_bytes (b ∷ bs) = b + 256 * from_bytes bs
@@ -13,12 +13,13 @@ abbrev pub value_after : ℕ → List ℕ → ℕ
 value_after n [] = n
 value_after n (d ∷ ds) = value_after (10 * n + d) ds
 
--- that the list consists of eight decimal digits, which are numbers
+-- `AreEightDigits ds` holds if the list consists of eight decimal digits, which are numbers.
 pub record AreEightDigits (ds : List ℕ) : Type 0 where
   pub eight : length ds ≡ 8
   pub each : AllByRecursion (λ d. d ≤ 9) ds
 
--- that the bytes begin with this number of digits, from one to seven, which spell this value, and then another byte
+-- `BeginsWithDigits bytes value count` holds if the bytes begin with `count` digits, from one to seven, which spell
+-- `value`, and then a byte that is no digit.
 pub record BeginsWithDigits (bytes : List ℕ) (value count : ℕ) : Type 0 where
   pub some : 0 < count
   pub few : count ≤ 7

@@ -7,11 +7,11 @@ use Rattle.sat_base.specs.values.Literals.{is_positive, variable}
 abbrev pub Valuation : Type 0
 Valuation = ℕ → Bool
 
--- whether a literal is true in a valuation
+-- Returns `true` if a literal is true in a valuation.
 abbrev pub literal_true : Valuation → ℕ → Bool
 literal_true a l = if is_positive l then a (variable l) else not (a (variable l))
 
--- whether at least one literal of the clause is true in the valuation
+-- Returns `true` if at least one literal of the clause is true in the valuation.
 abbrev pub clause_true : Valuation → List ℕ → Bool
 clause_true a [] = false
 clause_true a (l ∷ ls) = literal_true a l || clause_true a ls

@@ -25,7 +25,7 @@ vars_of (c ∷ cs) = max (vars_in c) (vars_of cs)
 abbrev pub with_formula_clause : List ℕ → Formula → Formula
 with_formula_clause clause f = record { var_count = max f.var_count (vars_in clause); clauses = f.clauses ++ clause ∷ [] }
 
--- the formula with at least this number of variables
+-- the formula with at least `count` variables
 abbrev pub with_at_least_vars : ℕ → Formula → Formula
 with_at_least_vars count f = record f { var_count = max f.var_count count }
 

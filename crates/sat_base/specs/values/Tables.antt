@@ -18,18 +18,19 @@ value_or None y = y
 abbrev pub value_at : {T : Type 0} → T → Table T → ℕ → T
 value_at missing t v = if nat_lt v (near_count t) then slice_index_or t.near.items v missing else value_or (get nat_cmp t.far v) missing
 
--- that the value at this place can be set without allocating: it is in the list or in the tree
+-- `HasPlaceFor t v` holds if the value at the place `v` can be set without allocating: it is in the list or in the
+-- tree.
 abbrev pub HasPlaceFor : {T : Type 0} → Table T → ℕ → Type 0
 HasPlaceFor t v = (v < near_count t) ⊎ IsSome (get nat_cmp t.far v)
 
--- every place that had room still has it
+-- `KeepsRoom old new` holds if every place that had room still has it.
 abbrev pub KeepsRoom : {T : Type 0} → (old new : Table T) → Type 0
 KeepsRoom old new = (v : ℕ) → HasPlaceFor old v → HasPlaceFor new v
 
--- no value changed
+-- `KeepsValues missing old new` holds if no value changed.
 abbrev pub KeepsValues : {T : Type 0} → T → (old new : Table T) → Type 0
 KeepsValues missing old new = (v : ℕ) → value_at missing new v ≡ value_at missing old v
 
--- this place has this value, and no other value changed
+-- `SetsValue missing old new place value` holds if `place` has this value, and no other value changed.
 abbrev pub SetsValue : {T : Type 0} → T → (old new : Table T) → (place : ℕ) → T → Type 0
 SetsValue missing old new place value = (v : ℕ) → value_at missing new v ≡ (if v == place then value else value_at missing old v)

@@ -1,4 +1,4 @@
-//! Reads numbers and fixed texts at the start of byte slices. Numbers have no leading zeros, and a space after them.
+//! Reads fixed texts and numbers, which have no leading zeros and a space after them, at the start of byte slices.
 ghost use Rattle.std.specs.Prelude.{◌≡◌, ◌++◌, ◌∷◌, [], ◌<◌, ◌≤◌, decimal, List, ℕ, MatchBool, MatchOption};
 ghost use Rattle.sat_base.specs.text.NumberWords.{BeginsWithWord, EndsNone, IsNumberUpTo, NoDigit, NoWord, digits_so_far};
 
@@ -38,7 +38,7 @@ pub fn append_digit(number: u64, byte: u8, limit: u64) -> Option<u64>
     Some(more)
 }
 
-/// Whether `byte` is a space, and `number` is from 1 to `limit`.
+/// Returns `true` if `byte` is a space, and `number` is from 1 to `limit`.
 #[inline(always)]
 fn ends_number(number: u64, byte: u8, limit: u64) -> bool
     ensures { MatchBool result ((byte ≡ 32) × (0 < number) × (number ≤ limit)) (EndsNone number byte limit) }

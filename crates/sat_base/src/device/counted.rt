@@ -19,7 +19,7 @@ pub struct Counted<D> {
 }
 
 impl<D> Counted<D> {
-    /// Wraps a device. No calls have been counted yet.
+    /// Returns a wrapper of a device. No calls have been counted yet.
     pub fn new(device: D) -> Counted<D>
         ensures device { device_of result ≡ device }
         ensures reader { (remaining : D → Option (List ℕ))

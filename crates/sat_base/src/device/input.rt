@@ -1,5 +1,6 @@
 //! A buffered reader.
-ghost use Rattle.std.specs.Prelude.{◌≡◌, ◌≤◌};
+ghost use Rattle.std.specs.Prelude.{◌≡◌, ◌<◌, ◌≤◌};
+ghost use Rattle.sat_base.specs.device.ReadRoom.{HasReadRoom, ReadsWithinRoom};
 ghost use Rattle.sat_base.specs.device.Reading.{source_of, NextByte, ByteWithin};
 
 use crate::device::ahead::Ahead;
@@ -9,6 +10,8 @@ use crate::{CountedRead, StepError};
 pub(crate) struct Input<'r, R> {
     pub(crate) reader: &'r mut R,
     pub(crate) ahead: &'r mut Ahead,
+    /// The largest number of bytes that the next read may return.
+    pub(crate) room: usize,
 }
 
 impl<R> Drop for Input<'_, R> {
@@ -20,6 +23,7 @@ impl<R> Drop for Input<'_, R> {
         let Input {
             reader: _reader,
             ahead: _ahead,
+            room: _room,
         } = self;
     }
 }
@@ -27,20 +31,28 @@ impl<R> Drop for Input<'_, R> {
 // Many bytes are read by `next_byte` or `byte_within`, and functions that return a `Result` are inlined only with
 // the attribute.
 impl<'r, R: CountedRead> Input<'r, R> {
-    /// Returns an input that borrows both a reader and the bytes that were read ahead from it.
-    pub(crate) fn new(reader: &'r mut R, ahead: &'r mut Ahead) -> Input<'r, R>
+    /// Returns an input that borrows both a reader and the bytes that were read ahead from it. It reads at most `room`
+    /// bytes at a time.
+    pub(crate) fn new(reader: &'r mut R, ahead: &'r mut Ahead, room: usize) -> Input<'r, R>
         ensures reader { result.reader.ghost_name ≡ reader.entry.ghost_name }
         ensures ahead { result.ahead.ghost_name ≡ ahead.entry.ghost_name }
         ensures reads { result.reader.now ≡ reader.old }
         ensures waits { result.ahead.now ≡ ahead.old }
+        ensures room { result.room ≡ room }
     {
-        Input { reader, ahead }
+        Input {
+            reader,
+            ahead,
+            room,
+        }
     }
 
     /// Consumes the next byte and returns it, or returns `None` at the end of the text.
     #[inline(always)]
     pub(crate) fn next_byte(&mut self) -> Result<Option<u8>, StepError>
-        ensures { NextByte result (source_of R.seen self.old) (source_of R.seen self.new) }
+        requires { HasReadRoom self.old }
+        ensures reads { NextByte result (source_of R.seen self.old) (source_of R.seen self.new) }
+        ensures within { ReadsWithinRoom self.old self.new }
     {
         if self.ahead.at < self.ahead.end {
             return Ok(Some(self.ahead.take_byte()));
@@ -50,10 +62,12 @@ impl<'r, R: CountedRead> Input<'r, R> {
 
     /// Reads the next chunk. Consumes its first byte and returns it, or returns `None` at the end of the text.
     fn first_byte(&mut self) -> Result<Option<u8>, StepError>
-        requires { self.old.ahead.now.end ≤ self.old.ahead.now.at }
-        ensures { NextByte result (source_of R.seen self.old) (source_of R.seen self.new) }
+        requires over { self.old.ahead.now.end ≤ self.old.ahead.now.at }
+        requires some { 0 < self.old.room }
+        ensures reads { NextByte result (source_of R.seen self.old) (source_of R.seen self.new) }
+        ensures within { ReadsWithinRoom self.old self.new }
     {
-        self.ahead.refill(self.reader)?;
+        self.ahead.refill(self.reader, self.room)?;
         if self.ahead.end == 0 {
             return Ok(None);
         }
@@ -63,7 +77,9 @@ impl<'r, R: CountedRead> Input<'r, R> {
     /// Consumes the next byte and returns it. The end of the text is an error.
     #[inline(always)]
     pub(crate) fn byte_within(&mut self) -> Result<u8, StepError>
-        ensures { ByteWithin result (source_of R.seen self.old) (source_of R.seen self.new) }
+        requires { HasReadRoom self.old }
+        ensures reads { ByteWithin result (source_of R.seen self.old) (source_of R.seen self.new) }
+        ensures within { ReadsWithinRoom self.old self.new }
     {
         match self.next_byte()? {
             Some(byte) => Ok(byte),

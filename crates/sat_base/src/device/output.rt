@@ -111,8 +111,8 @@ impl<W: CountedWrite, P: Room> Output<W, P> {
         keep_error(&mut self.error, result)
     }
 
-    /// Replaces the marker `WriteFailed` in a result with the stored error. If no error was stored, which the contracts
-    /// don't rule out, the error is `ErrorKind::Other`.
+    /// Returns the result with the stored error instead of the marker `WriteFailed`. If no error was stored, which the
+    /// contracts don't rule out, the error is `ErrorKind::Other`.
     #[inline(never)] // callers reserve no space for the error on the path without one
     pub(crate) fn give_error(&mut self, answer: Result<(), WriteFailed>) -> io::Result<()>
         ensures alike { is_ok result ≡ is_ok answer }

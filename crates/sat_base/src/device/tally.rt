@@ -1,5 +1,5 @@
-//! The history of calls to a device, which only contracts see. It is zero-sized, and its functions do nothing at
-//! run time.
+//! The history of calls to a device: a zero-sized value that only contracts see, whose functions do nothing at run
+//! time.
 ghost use Rattle.std.specs.Prelude.{ℕ, Bool, List};
 ghost use Rattle.std.specs.Borrow.{ftrue};
 

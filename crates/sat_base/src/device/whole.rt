@@ -32,7 +32,7 @@ impl From<AllocError> for ReadError {
     }
 }
 
-/// Reads once.
+/// Reads once, and returns the number of bytes read.
 fn read_piece<R: CountedRead>(reader: &mut R, room: &mut [u8]) -> Result<usize, ReadError>
     ensures bound { ReadsAtMost result room.new }
     ensures once { ReadsOnce result room.new (R.seen reader.old) (R.seen reader.new) }

@@ -11,15 +11,19 @@ use crate::var::MAX_COUNT;
 use crate::{CnfFormula, ExtendFormula, FormulaError, Lit, Token};
 use std::alloc::{AllocFailed, Global};
 use std::mem;
+use thiserror::Error;
 
 /// The largest variable number in DIMACS.
 pub(crate) const LARGEST: u64 = MAX_COUNT as u64;
 
 /// Why a token was refused.
-#[derive(Clone, Copy, Drop)]
+#[derive(Clone, Copy, Debug, Drop, Error)]
 pub(crate) enum Refusal {
+    #[error("a word is malformed")]
     Malformed,
+    #[error("a number is past the limit")]
     Limit,
+    #[error("out of memory")]
     OutOfMemory,
 }
 
@@ -58,7 +62,7 @@ pub(crate) struct Clauses {
     pub(crate) header: Option<(u64, u64)>,
 }
 
-/// Whether a token is a literal: a number from 1 to 2^28, with either sign.
+/// Returns `true` if a token is a literal: a number from 1 to 2^28, with either sign.
 pub(crate) fn is_literal(token: Token) -> bool
     ensures { result ≡ is_literal (token_of token) }
 {
@@ -69,7 +73,7 @@ pub(crate) fn is_literal(token: Token) -> bool
 }
 
 impl Clauses {
-    /// Returns empty `Clauses`. Does not allocate.
+    /// Returns empty `Clauses`. Never allocates.
     pub(crate) fn new(alloc: Global) -> Clauses
         ensures formula { result.formula ≡ no_formula }
         ensures hand { partial_clause_in result ≡ None }
@@ -122,7 +126,7 @@ impl Clauses {
         }
     }
 
-    /// Whether a clause has begun.
+    /// Returns `true` if a clause has begun.
     pub(crate) fn is_inside(&self) -> bool
         ensures { IsInside result (partial_clause_in self.now) }
     {

@@ -1,4 +1,4 @@
-//! The history of a parser, which only contracts see. It is zero-sized, and its functions do nothing at run time.
+//! The history of a parser: a zero-sized value that only contracts see, whose functions do nothing at run time.
 ghost use Rattle.std.specs.Prelude.{◌≡◌, ◌++◌, ◌∷◌, [], ℕ, List};
 ghost use Rattle.std.specs.Borrow.{ftrue};
 

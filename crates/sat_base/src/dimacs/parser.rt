@@ -28,7 +28,7 @@ pub(crate) struct Parser {
 }
 
 impl Parser {
-    /// Returns a parser for a new text. Does not allocate.
+    /// Returns a parser for a new text. Never allocates.
     pub(crate) fn new(alloc: Global) -> Parser
         ensures parser { IsParser result }
         ensures progress { progress_of result ≡ no_progress }
@@ -122,7 +122,7 @@ impl Parser {
         }
     }
 
-    /// Whether a line that begins with `%` has ended the text, so that only `finish` needs to be called.
+    /// Returns `true` if a line that begins with `%` has ended the text, so that only `finish` needs to be called.
     pub(crate) fn has_ended(&self) -> bool
         requires { IsParser self.now }
         ensures { ReportsEnded result (progress_of self.now) }

@@ -1,7 +1,8 @@
 //! Reads and writes steps: a tag, and then the fields of the step.
 #![tactic(auto, using(crate::proofs::lemmas::device::Sending::sending))]
 
-ghost use Rattle.std.specs.Prelude.{◌≡◌, OnOk, [], ℕ, List, IsTrue, false};
+ghost use Rattle.std.specs.Prelude.{◌≡◌, ◌<◌, OnOk, [], ℕ, List, IsTrue, false};
+ghost use Rattle.sat_base.specs.device.ReadRoom.{unread_in, HasReadRoom, ReadsWithinRoom, HasItemRoom};
 ghost use Rattle.sat_base.specs.device.Reading.{ReadsFromInput, source_of, valued, AnswersStepRead, FieldsAfter};
 ghost use Rattle.sat_base.specs.steps.Kinds.{step_with, step_held, is_tag, has_lists};
 ghost use Rattle.sat_base.specs.steps.Spellings.{SendsSpelling, fields, a_step};
@@ -38,14 +39,14 @@ pub(super) fn tag(step: &ProofStep<'_>) -> u8
     }
 }
 
-/// Whether some kind of step has this tag.
+/// Returns `true` if some kind of step has this tag.
 fn is_tag(tag: u8) -> bool
     ensures { result ≡ is_tag tag }
 {
     0 < tag && tag < 14
 }
 
-/// Whether steps with this tag have lists.
+/// Returns `true` if steps with this tag have lists.
 fn has_lists(tag: u8) -> bool
     ensures { result ≡ has_lists tag }
 {
@@ -53,13 +54,15 @@ fn has_lists(tag: u8) -> bool
 }
 
 impl<R: CountedRead> Input<'_, R> {
-    /// Reads the fields of a step with this tag. Steps with this tag must have no lists.
+    /// Reads the fields of a step with this tag, and returns them as its kind. Steps with this tag must have no lists.
     fn plain_fields(&mut self, tag: u8) -> Result<StepKind, StepError>
         requires known { IsTrue (is_tag tag) }
         requires plain { has_lists tag ≡ false }
-        ensures { (literals hashes : List ℕ) (units : List (ℕ × ℕ))
+        requires room { unread_in self.old < self.old.room }
+        ensures reads { (literals hashes : List ℕ) (units : List (ℕ × ℕ))
             → ReadsFromInput (FieldsAfter tag) (valued (λ k. step_with k literals hashes units) result) R.seen self.old
             self.new }
+        ensures within { ReadsWithinRoom self.old self.new }
     {
         if tag < 5 {
             let var = self.variable()?;
@@ -90,10 +93,16 @@ impl<R: CountedRead> Input<'_, R> {
         }
     }
 
-    /// Reads the fields of a step with this tag, and its lists into `lists`. Steps with this tag must have lists.
+    /// Reads the fields of a step with this tag, and its lists into `lists`. Returns the kind of the step. Steps with
+    /// this tag must have lists.
     fn list_fields(&mut self, lists: &mut Lists, tag: u8) -> Result<StepKind, StepError>
-        requires { IsTrue (has_lists tag) }
-        ensures { ReadsFromInput (FieldsAfter tag) (valued (step_held lists.new) result) R.seen self.old self.new }
+        requires tag { IsTrue (has_lists tag) }
+        requires room { HasReadRoom self.old }
+        requires lists { HasItemRoom lists.old self.old.room }
+        ensures reads { ReadsFromInput (FieldsAfter tag) (valued (step_held lists.new) result) R.seen self.old
+            self.new }
+        ensures within { ReadsWithinRoom self.old self.new }
+        ensures lists { HasItemRoom lists.new self.old.room }
     {
         if tag == 6 {
             let redundant = self.flag_and_lists(lists)?;
@@ -119,10 +128,15 @@ impl<R: CountedRead> Input<'_, R> {
         }
     }
 
-    /// Reads the fields of a step with this tag, and its lists, if any, into `lists`.
+    /// Reads the fields of a step with this tag, and its lists, if any, into `lists`. Returns the kind of the step.
     fn fields(&mut self, lists: &mut Lists, tag: u8) -> Result<StepKind, StepError>
-        requires { IsTrue (is_tag tag) }
-        ensures { ReadsFromInput (FieldsAfter tag) (valued (step_held lists.new) result) R.seen self.old self.new }
+        requires tag { IsTrue (is_tag tag) }
+        requires room { unread_in self.old < self.old.room }
+        requires lists { HasItemRoom lists.old self.old.room }
+        ensures reads { ReadsFromInput (FieldsAfter tag) (valued (step_held lists.new) result) R.seen self.old
+            self.new }
+        ensures within { ReadsWithinRoom self.old self.new }
+        ensures lists { HasItemRoom lists.new self.old.room }
     {
         if has_lists(tag) {
             self.list_fields(lists, tag)
@@ -131,10 +145,14 @@ impl<R: CountedRead> Input<'_, R> {
         }
     }
 
-    /// Reads the next step, and its lists, if any, into `lists`.
+    /// Reads the next step, and its lists, if any, into `lists`. Returns the kind of the step.
     pub(super) fn read_step(&mut self, lists: &mut Lists) -> Result<StepKind, StepError>
-        ensures { AnswersStepRead (valued (step_held lists.new) result) (source_of R.seen self.old)
+        requires room { HasReadRoom self.old }
+        requires lists { HasItemRoom lists.old self.old.room }
+        ensures reads { AnswersStepRead (valued (step_held lists.new) result) (source_of R.seen self.old)
             (source_of R.seen self.new) }
+        ensures within { ReadsWithinRoom self.old self.new }
+        ensures lists { HasItemRoom lists.new self.old.room }
     {
         match self.next_byte()? {
             None => Err(StepError::Ends),

@@ -1,6 +1,7 @@
 //! Reads and writes the fields of those steps that have more than one.
 #![tactic(auto, using(crate::proofs::lemmas::device::Sending::sending))]
 
+ghost use Rattle.sat_base.specs.device.ReadRoom.{HasReadRoom, ReadsWithinRoom, HasItemRoom};
 ghost use Rattle.sat_base.specs.device.Reading.{ReadsFromInput, valued};
 ghost use Rattle.sat_base.specs.steps.Kinds.{both_held};
 ghost use Rattle.sat_base.specs.steps.Formats.{Both};
@@ -16,23 +17,31 @@ use crate::steps::step_lists::Lists;
 use crate::{ClauseHash, CountedRead, CountedWrite, DeleteClauseProof, Lit, StepError, Var};
 
 impl<R: CountedRead> Input<'_, R> {
-    /// Reads a flag, and then a list of literals and a list of hashes.
+    /// Reads a flag, and then a list of literals and a list of hashes. Returns the flag.
     pub(super) fn flag_and_lists(&mut self, lists: &mut Lists) -> Result<bool, StepError>
-        ensures { ReadsFromInput (Both IsFlag (Both AreLiterals AreHashes))
+        requires room { HasReadRoom self.old }
+        requires lists { HasItemRoom lists.old self.old.room }
+        ensures reads { ReadsFromInput (Both IsFlag (Both AreLiterals AreHashes))
             (valued (λ f. (f, both_held lists.new)) result) R.seen self.old self.new }
+        ensures within { ReadsWithinRoom self.old self.new }
+        ensures lists { HasItemRoom lists.new self.old.room }
     {
         let flag = self.flag()?;
         self.both_lists(lists)?;
         Ok(flag)
     }
 
-    /// Reads a clause, and then the reason for its deletion.
+    /// Reads a clause, and then the reason for its deletion. Returns the reason.
     pub(super) fn clause_and_deletion(
         &mut self,
         lists: &mut Lists,
     ) -> Result<DeleteClauseProof, StepError>
-        ensures { ReadsFromInput (Both AreLiterals IsDeletion)
+        requires room { HasReadRoom self.old }
+        requires lists { HasItemRoom lists.old self.old.room }
+        ensures reads { ReadsFromInput (Both AreLiterals IsDeletion)
             (valued (λ p. (lists.new.literals.items, deletion_of p)) result) R.seen self.old self.new }
+        ensures within { ReadsWithinRoom self.old self.new }
+        ensures lists { HasItemRoom lists.new self.old.room }
     {
         self.literals(&mut lists.literals)?;
         self.deletion()

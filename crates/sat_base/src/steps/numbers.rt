@@ -1,5 +1,6 @@
 //! Reads and writes numbers in LEB128.
 ghost use Rattle.std.specs.Prelude.{◌≡◌, ◌+◌, ◌++◌, ◌-◌, ◌*◌, ◌^◌, ◌<◌, ◌≤◌, ℕ, Some, None, OnOk, length};
+ghost use Rattle.sat_base.specs.device.ReadRoom.{unread, HasReadRoom, ReadsWithinRoom};
 ghost use Rattle.sat_base.specs.device.Reading.{ReadsFromInput};
 ghost use Rattle.sat_base.specs.device.TakenAhead.{TakesNumber, IsEncodedBetween};
 ghost use Rattle.sat_base.specs.device.Sink.{SendsText, sink_of};
@@ -138,6 +139,7 @@ impl Ahead {
     #[inline(always)] // each number outside a list goes through it
     pub(crate) fn take_number(&mut self, largest: u64) -> Option<u64>
         ensures some { (number : ℕ) → result ≡ Some number → TakesNumber (largest + 1) number self.old self.new }
+        ensures left { (number : ℕ) → result ≡ Some number → unread self.new < unread self.old }
         ensures none { result ≡ None → self.new ≡ self.old }
     {
         match self.number_at(self.at, largest) {
@@ -151,11 +153,13 @@ impl Ahead {
 }
 
 impl<R: CountedRead> Input<'_, R> {
-    /// Reads a number. A number above `largest` is an error.
+    /// Reads and returns a number. A number above `largest` is an error.
     #[inline(always)] // each literal and each hash goes through it
     pub(super) fn number(&mut self, largest: u64) -> Result<u64, StepError>
-        requires { 0 < largest }
-        ensures { ReadsFromInput (IsBelow (largest + 1)) result R.seen self.old self.new }
+        requires some { 0 < largest }
+        requires room { HasReadRoom self.old }
+        ensures reads { ReadsFromInput (IsBelow (largest + 1)) result R.seen self.old self.new }
+        ensures within { ReadsWithinRoom self.old self.new }
     {
         if let Some(number) = self.ahead.take_number(largest) {
             return Ok(number);
@@ -163,11 +167,14 @@ impl<R: CountedRead> Input<'_, R> {
         self.number_by_bytes(largest)
     }
 
-    /// Reads a number byte by byte. The number may be cut off by the end of a chunk or of the text, or be invalid.
+    /// Reads a number byte by byte, and returns it. The number may be cut off by the end of a chunk or of the text, or
+    /// be invalid.
     #[inline(never)] // so that numbers that are buffered completely pay nothing for it
     fn number_by_bytes(&mut self, largest: u64) -> Result<u64, StepError>
-        requires { 0 < largest }
-        ensures { ReadsFromInput (IsBelow (largest + 1)) result R.seen self.old self.new }
+        requires some { 0 < largest }
+        requires room { HasReadRoom self.old }
+        ensures reads { ReadsFromInput (IsBelow (largest + 1)) result R.seen self.old self.new }
+        ensures within { ReadsWithinRoom self.old self.new }
     {
         let mut value = 0;
         let mut place = 1;
@@ -248,8 +255,8 @@ fn push_three_or_four<P: Room>(pending: &mut P, number: u32)
     pending.push_some(bytes, (3 + more) as usize);
 }
 
-/// Appends the bytes of a literal's code to `pending`, which must have room for ten bytes. Does what `push_number` does,
-/// but is faster for numbers below 2^14.
+/// Appends the bytes of a literal's code to `pending`, which must have room for ten bytes. Does what `push_number`
+/// does, but is faster for numbers below 2^14.
 #[inline(always)] // each literal goes through it
 pub(super) fn push_code<P: Room>(pending: &mut P, number: u64)
     requires room { length (P.waiting pending.old) + 10 ≤ P.size pending.old }

@@ -1,4 +1,4 @@
-//! Writes steps whose bytes fit into the buffer. This calls no writer, and can't fail.
+//! Writes steps whose bytes fit into the buffer, which calls no writer and can't fail.
 ghost use Rattle.std.specs.Prelude.{◌≡◌, ◌+◌, ◌*◌, ◌≤◌, length, true, false};
 ghost use Rattle.sat_base.specs.device.Sink.{AddsToSink, sink_of};
 ghost use Rattle.sat_base.specs.device.Waiting.{HasByteRoom, UsesRoom};
@@ -264,8 +264,8 @@ impl<W: CountedWrite, P: Room> Output<W, P> {
         }
     }
 
-    /// Whether the bytes of a step certainly fit into the buffer. A number takes at most ten bytes, and besides the
-    /// items of its lists a step has at most three numbers and its tag.
+    /// Returns `true` if the bytes of a step certainly fit into the buffer. A number takes at most ten bytes, and
+    /// besides the items of its lists a step has at most three numbers and its tag.
     #[inline(always)]
     fn has_room(&self, step: &ProofStep<'_>) -> bool
         ensures { result ≡ true → HasByteRoom (10 * (items_in (step_of step.now) + 4)) P.waiting P.size

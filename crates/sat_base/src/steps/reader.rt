@@ -2,6 +2,7 @@
 ghost use Rattle.std.specs.Prelude.{◌≡◌, ℕ, List, false};
 ghost use Rattle.sat_base.specs.steps.StepText.{tag_of};
 ghost use Rattle.sat_base.specs.steps.StepViews.{step_of};
+ghost use Rattle.sat_base.specs.device.ReadRoom.{unread, HasCapacityFor};
 ghost use Rattle.sat_base.specs.device.Reading.{AnswersStepRead, giving, source, new_source, valued};
 ghost use Rattle.sat_base.specs.steps.Kinds.{step_held, step_with};
 ghost use Rattle.sat_base.specs.steps.StepReading.{reader_source, has_reader_failed, reader_name, step_in, is_stop};
@@ -10,6 +11,7 @@ ghost use Rattle.sat_base.specs.steps.StepReading.{AdvanceEffect};
 use crate::device::ahead::Ahead;
 use crate::device::input::Input;
 use crate::steps::kind::StepKind;
+use crate::steps::read_state::ReadState;
 use crate::steps::step_lists::Lists;
 use crate::{CountedRead, ProofStep, StepError};
 use std::alloc::Global;
@@ -17,8 +19,7 @@ use std::alloc::Global;
 /// The buffers of a step reader: the bytes that were read ahead, and the current step.
 #[derive(Drop)]
 pub struct Buffers {
-    ahead: Ahead,
-    lists: Lists,
+    state: ReadState,
     /// The current step, except for its lists.
     kind: StepKind,
     failed: bool,
@@ -42,7 +43,7 @@ impl<R, B: Drop> Drop for StepReader<'_, R, B> {
     }
 }
 
-/// Whether no more steps can be read after this error.
+/// Returns `true` if no more steps can be read after this error.
 fn stops(error: StepError) -> bool
     ensures { result ≡ is_stop error }
 {
@@ -79,29 +80,36 @@ fn tag(kind: StepKind) -> u8
     }
 }
 
-/// Reads the next step, from the bytes in `ahead` and then from `reader`.
+/// Reads the next step, from the bytes in `ahead` and then from `reader`, and returns its kind. Memory for the items in
+/// a chunk is reserved before the chunk is read, so storing them never allocates.
 fn read_from<R: CountedRead>(
     reader: &mut R,
     ahead: &mut Ahead,
     lists: &mut Lists,
 ) -> Result<StepKind, StepError>
-    ensures { AnswersStepRead (valued (step_held lists.new) result) (source R.seen reader.old ahead.old)
+    requires { HasCapacityFor lists.old (unread ahead.old) }
+    ensures reads { AnswersStepRead (valued (step_held lists.new) result) (source R.seen reader.old ahead.old)
         (source R.seen reader.new ahead.new) }
+    ensures room { HasCapacityFor lists.new (unread ahead.new) }
 {
-    let mut input = Input::new(reader, ahead);
+    let unread = ahead.unread();
+    lists.make_room(unread);
+    let mut input = Input::new(reader, ahead, lists.room(unread));
     input.read_step(lists)
 }
 
 impl<'r, R: CountedRead> StepReader<'r, R, Buffers> {
-    /// Returns a step reader that reads its bytes from `reader`. Reads nothing yet, and does not allocate.
+    /// Returns a step reader that reads its bytes from `reader`. Reads nothing yet, and never allocates.
     pub fn new(alloc: Global, reader: &'r mut R) -> StepReader<'r, R, Buffers>
         ensures same { reader_name result ≡ reader.entry.ghost_name }
         ensures source { reader_source R.seen result ≡ new_source (R.seen reader.old) }
         ensures fresh { has_reader_failed result ≡ false }
     {
         let buffers = Buffers {
-            ahead: Ahead::new(),
-            lists: Lists::new(alloc),
+            state: ReadState {
+                ahead: Ahead::new(),
+                lists: Lists::new(alloc),
+            },
             kind: StepKind::End,
             failed: false,
         };
@@ -109,7 +117,8 @@ impl<'r, R: CountedRead> StepReader<'r, R, Buffers> {
     }
 
     /// Reads the next step, which `step` then returns. After any error other than `Ends`, all later calls
-    /// return `HasFailed`.
+    /// return `HasFailed`. Memory for the lists of a step is requested before its bytes are read: after `OutOfMemory`,
+    /// the bytes given after the steps before are a proper prefix of a step.
     pub fn advance(&mut self) -> Result<(), StepError>
         ensures { AdvanceEffect R.seen self.old self.new (giving (step_in self.new) result) }
     {
@@ -118,8 +127,8 @@ impl<'r, R: CountedRead> StepReader<'r, R, Buffers> {
         }
         match read_from(
             self.reader,
-            &mut self.buffers.ahead,
-            &mut self.buffers.lists,
+            &mut self.buffers.state.ahead,
+            &mut self.buffers.state.lists,
         ) {
             Ok(kind) => {
                 self.buffers.kind = kind;
@@ -143,6 +152,6 @@ impl<'r, R: CountedRead> StepReader<'r, R, Buffers> {
     pub fn step(&self) -> ProofStep<'_>
         ensures { step_of result ≡ step_in self.now }
     {
-        self.buffers.lists.step(self.buffers.kind)
+        self.buffers.state.lists.step(self.buffers.kind)
     }
 }

@@ -1,8 +1,11 @@
-//! The lists of the current step. Their memory is reused.
-ghost use Rattle.std.specs.Prelude.{◌≡◌, []};
+//! The lists of the current step, whose memory is reused.
+ghost use Rattle.std.specs.Prelude.{◌≡◌, ◌<◌, ◌≤◌, []};
+ghost use Rattle.sat_base.specs.device.Device.{piece_size};
+ghost use Rattle.sat_base.specs.device.ReadRoom.{HasCapacityFor, HasItemRoom};
 ghost use Rattle.sat_base.specs.steps.StepViews.{step_of};
 ghost use Rattle.sat_base.specs.steps.Kinds.{step_with};
 
+use crate::device::ahead::PIECE;
 use crate::steps::kind::StepKind;
 use crate::{ClauseHash, Lit, ProofStep};
 use std::alloc::Global;
@@ -16,7 +19,7 @@ pub(crate) struct Lists {
 }
 
 impl Lists {
-    /// Returns empty lists. Does not allocate.
+    /// Returns empty lists. Never allocates.
     pub(crate) fn new(alloc: Global) -> Lists
         ensures literals { result.literals.items ≡ [] }
         ensures hashes { result.hashes.items ≡ [] }
@@ -27,6 +30,35 @@ impl Lists {
             hashes: Vec::new(alloc),
             units: Vec::new(alloc),
         }
+    }
+
+    /// If no bytes are unread, empties the lists, and requests memory for the items of a chunk, of which every byte may
+    /// be one.
+    pub(crate) fn make_room(&mut self, unread: usize)
+        requires { HasCapacityFor self.old unread }
+        ensures { HasCapacityFor self.new unread }
+    {
+        if unread > 0 {
+            return;
+        }
+        self.literals.clear();
+        self.hashes.clear();
+        self.units.clear();
+        let _ = self.literals.reserve(PIECE);
+        let _ = self.hashes.reserve(PIECE);
+        let _ = self.units.reserve(PIECE);
+    }
+
+    /// Returns how many bytes of a step may be read at once: at most one more than each of the lists has capacity for,
+    /// since the first byte of a chunk that is not read for an item completes none.
+    pub(crate) fn room(&self, unread: usize) -> usize
+        requires few { unread ≤ piece_size }
+        requires capacity { HasCapacityFor self.now unread }
+        ensures lists { HasItemRoom self.now result }
+        ensures unread { unread < result }
+    {
+        let least = self.literals.capacity().min(self.hashes.capacity());
+        least.min(self.units.capacity()).min(PIECE) + 1
     }
 
     /// Returns the step that has this kind and these lists.

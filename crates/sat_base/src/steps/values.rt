@@ -1,4 +1,5 @@
 //! Reads and writes fields of steps that consist of a single number.
+ghost use Rattle.sat_base.specs.device.ReadRoom.{HasReadRoom, ReadsWithinRoom};
 ghost use Rattle.sat_base.specs.device.Reading.{ReadsFromInput, valued};
 ghost use Rattle.sat_base.specs.steps.Spellings.{SendsSpelling, a_variable, an_optional_variable, a_flag, a_width};
 ghost use Rattle.sat_base.specs.steps.Spellings.{a_deletion};
@@ -16,17 +17,21 @@ use crate::{CountedRead, CountedWrite, DeleteClauseProof, HashBits, StepError, V
 const LARGEST_INDEX: u64 = MAX_COUNT as u64 - 1;
 
 impl<R: CountedRead> Input<'_, R> {
-    /// Reads a variable.
+    /// Reads and returns a variable.
     pub(super) fn variable(&mut self) -> Result<Var, StepError>
-        ensures { ReadsFromInput IsVariable result R.seen self.old self.new }
+        requires { HasReadRoom self.old }
+        ensures reads { ReadsFromInput IsVariable result R.seen self.old self.new }
+        ensures within { ReadsWithinRoom self.old self.new }
     {
         let index = self.number(LARGEST_INDEX)?;
         Ok(Var::from_index(index as usize))
     }
 
-    /// Reads an optional variable.
+    /// Reads and returns an optional variable.
     pub(super) fn optional(&mut self) -> Result<Option<Var>, StepError>
-        ensures { ReadsFromInput IsOptionalVariable result R.seen self.old self.new }
+        requires { HasReadRoom self.old }
+        ensures reads { ReadsFromInput IsOptionalVariable result R.seen self.old self.new }
+        ensures within { ReadsWithinRoom self.old self.new }
     {
         let above = self.number(LARGEST_INDEX + 1)?;
         if above == 0 {
@@ -35,9 +40,11 @@ impl<R: CountedRead> Input<'_, R> {
         Ok(Some(Var::from_index((above - 1) as usize)))
     }
 
-    /// Reads a flag.
+    /// Reads and returns a flag.
     pub(super) fn flag(&mut self) -> Result<bool, StepError>
-        ensures { ReadsFromInput IsFlag result R.seen self.old self.new }
+        requires { HasReadRoom self.old }
+        ensures reads { ReadsFromInput IsFlag result R.seen self.old self.new }
+        ensures within { ReadsWithinRoom self.old self.new }
     {
         let bit = self.number(1)?;
         if bit == 0 {
@@ -46,17 +53,21 @@ impl<R: CountedRead> Input<'_, R> {
         Ok(true)
     }
 
-    /// Reads a width, which is a number of hash bits.
+    /// Reads and returns a width, which is a number of hash bits.
     pub(super) fn width(&mut self) -> Result<HashBits, StepError>
-        ensures { ReadsFromInput IsWidth result R.seen self.old self.new }
+        requires { HasReadRoom self.old }
+        ensures reads { ReadsFromInput IsWidth result R.seen self.old self.new }
+        ensures within { ReadsWithinRoom self.old self.new }
     {
         let bits = self.number(64)?;
         Ok(HashBits::of_width(bits as u32))
     }
 
-    /// Reads the reason for the deletion of a clause.
+    /// Reads and returns the reason for the deletion of a clause.
     pub(super) fn deletion(&mut self) -> Result<DeleteClauseProof, StepError>
-        ensures { ReadsFromInput IsDeletion (valued deletion_of result) R.seen self.old self.new }
+        requires { HasReadRoom self.old }
+        ensures reads { ReadsFromInput IsDeletion (valued deletion_of result) R.seen self.old self.new }
+        ensures within { ReadsWithinRoom self.old self.new }
     {
         let code = self.number(2)?;
         if code == 0 {

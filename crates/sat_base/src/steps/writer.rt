@@ -12,13 +12,14 @@ use crate::device::pending::Pending;
 use crate::{CountedWrite, ProofStep};
 use std::io;
 
-/// The buffer size for writing a proof.
-const LONG_PIECE: usize = 16_384;
+/// The buffer size for writing a proof. A longer buffer takes `run` beyond the stack that Linux maps at the start: the
+/// stack could then not grow once memory has run out.
+const LONG_PIECE: usize = 8_192;
 
 /// The buffer size for writing a single step.
 const SHORT_PIECE: usize = 64;
 
-/// A writer of proof steps. It buffers at most 16,384 pending bytes, so a proof of N bytes takes about N/16,384 writes.
+/// A writer of proof steps. It buffers at most 8,192 pending bytes, so a proof of N bytes takes about N/8,192 writes.
 /// The pending bytes are written out when the buffer has no room for more, by `flush`, and by `into_inner`.
 #[derive(Drop)]
 pub struct StepWriter<W> {
@@ -26,7 +27,7 @@ pub struct StepWriter<W> {
 }
 
 impl<W: CountedWrite> StepWriter<W> {
-    /// Returns a step writer that writes its bytes to `writer`. Writes nothing yet, and does not allocate.
+    /// Returns a step writer that writes its bytes to `writer`. Writes nothing yet, and never allocates.
     pub fn new(writer: W) -> StepWriter<W>
         ensures { steps_sink W.seen result ≡ empty_sink (W.seen writer) }
     {
@@ -90,7 +91,7 @@ impl<W: CountedWrite> StepWriter<W> {
     }
 }
 
-/// Writes the bytes of a step in pieces of at most 64 bytes, so that most steps take a single write. Does not allocate.
+/// Writes the bytes of a step in pieces of at most 64 bytes, so that most steps take a single write. Never allocates.
 /// After an error, a prefix of the bytes may have been written.
 pub fn write_step<W: CountedWrite>(writer: &mut W, step: &ProofStep<'_>) -> io::Result<()>
     ensures puts { WritesText (step_bytes (step_of step.now)) result (W.seen writer.old) (W.seen writer.new) }

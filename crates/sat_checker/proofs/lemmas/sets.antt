@@ -13,3 +13,4 @@ pub mod Unmarking
 pub mod Searching
 pub mod Trails
 pub mod Ranks
+pub mod Clashes

@@ -12,51 +12,52 @@ pub record ConflictCauses : Type 0 where
   pub literals : List ℕ
   pub clauses : List StoredClause
 
--- the negations of all literals of the clause except `l`
+-- The negations of all literals of the clause except `l`.
 abbrev pub negations_except : ℕ → List ℕ → List ℕ
 negations_except l clause = map negated (filter (λ m. not (m == l)) clause)
 
--- A clause that implied a literal is needed if the literal is; then so are the negations of its other literals.
+-- The causes `g` and, if the literal `l` that the clause implied is one of them, also the clause and the negations of
+-- its other literals.
 abbrev pub with_cause : ℕ → StoredClause → ConflictCauses → ConflictCauses
 with_cause l c g =
     if is_among g.literals l then record { literals = negations_except l c.literals ++ g.literals; clauses = c ∷ g.clauses } else g
 
--- The causes, given the verdict on a clause. A falsified clause is the conflict. The open literal of a unit clause is
--- true for the clauses after it.
+-- The causes of a conflict, given the verdict on a clause and the causes found in the clauses after it. A falsified
+-- clause is the conflict. The open literal of a unit clause is true for the clauses after it.
 abbrev pub causes_by : ClauseState → StoredClause → List ℕ → (List ℕ → ConflictCauses) → ConflictCauses
 causes_by falsified c assumed following = record { literals = map negated c.literals; clauses = c ∷ [] }
 causes_by (becomes_unit l) c assumed following = with_cause l c (following (l ∷ assumed))
 causes_by neither c assumed following = following assumed
 
--- what the first conflict of these clauses rests on, if every clause that is unit when it is visited is used
+-- What the first conflict of these clauses rests on, if every clause that is unit when it is visited is used.
 abbrev pub conflict_causes : List ℕ → List StoredClause → ConflictCauses
 conflict_causes assumed [] = record { literals = []; clauses = [] }
 conflict_causes assumed (c ∷ cs) = causes_by (clause_state assumed c.literals) c assumed (λ more. conflict_causes more cs)
 
--- the stored clauses of the buckets with these hashes, in the order of the hashes, and by id within each bucket
+-- The stored clauses of the buckets with these hashes, in the order of the hashes, and by id within each bucket.
 abbrev pub clauses_named : List ℕ → Stored → List StoredClause
 clauses_named [] f = []
 clauses_named (hash ∷ hashes) f = filter (λ c. hash_by f.solver_names f.width c.literals == hash) f.clauses ++ clauses_named hashes f
 
--- the units needed, by increasing id, without the literals of the negated clause
+-- The units needed, by increasing id, without the literals of the negated clause.
 abbrev pub needed_units : List ℕ → ConflictCauses → List StoredUnit → List StoredUnit
 needed_units denied g = filter (λ u. is_among g.literals u.literal && not (is_among denied u.literal))
 
--- the ids of the units needed, and then those of the clauses needed
+-- The ids of the units needed, and then those of the clauses needed.
 abbrev pub conflict_ids : List ℕ → ConflictCauses → List StoredUnit → List ℕ
 conflict_ids denied g units = map (λ u. u.id) (needed_units denied g units) ++ map (λ c. c.id) g.clauses
 
--- the first option, or the second if the first is `None`
+-- The first option, or the second if the first is `None`.
 abbrev pub or_else : {A : Type 0} → Option A → Option A → Option A
 or_else None y = y
 or_else (Some x) y = Some x
 
--- the id of a unit that satisfies the clause, or `None`; it is the unit of the first literal that is stored as a unit
+-- The id of a unit that satisfies the clause, or `None`; it is the unit of the first literal that is stored as a unit.
 abbrev pub true_unit : List ℕ → List StoredUnit → Option ℕ
 true_unit [] units = None
 true_unit (l ∷ ls) units = or_else (unit_id l units) (true_unit ls units)
 
--- only the id of the unit that satisfies the clause, or these ids if there is none
+-- Only the id of the unit that satisfies the clause, or these ids if there is none.
 abbrev pub unit_alone : Option ℕ → List ℕ → List ℕ
 unit_alone (Some id) ids = id ∷ []
 unit_alone None ids = ids

@@ -12,13 +12,13 @@ use Rattle.sat_checker.specs.Accepts.{PassesByHashes, Accepts, AcceptsAll, store
 use Rattle.sat_checker.specs.announcements.Needed.{ConflictCauses, conflict_causes, clauses_named, conflict_ids, true_unit, propagations}
 use Rattle.sat_checker.specs.announcements.Announcements.{Announcement, AddClause, AtClause, option_to_list, last_id, announced, delayed, Notice, notices_over, notices_after, all_notices_after}
 
--- that `x` is in the list
+-- `IsOneOf x list` holds if `x` is in the list.
 abbrev pub IsOneOf : {A : Type 0} → A → List A → Type 0
 IsOneOf x [] = ⊥
 IsOneOf x (y ∷ ys) = (x ≡ y) ⊎ IsOneOf x ys
 
--- That the clause rests on these ids: those of stored units, increasing, and then those of stored clauses. Under the
--- negated clause, these units and clauses are unit in turn, and the last is falsified.
+-- `RestsOn f clause ids` holds if these are the ids of stored units, increasing, followed by the ids of stored clauses,
+-- and if these units and clauses are unit in turn under the negated clause.
 pub record RestsOn (f : Stored) (clause ids : List ℕ) : Type 0 where
   pub units : List StoredUnit
   pub clauses : List StoredClause
@@ -28,18 +28,20 @@ pub record RestsOn (f : Stored) (clause ids : List ℕ) : Type 0 where
   pub increasing : IsIncreasing (map (λ u. u.id) units)
   pub conflict : UnitInTurn (map negated clause) (map (λ u. u.literal ∷ []) units ++ map (λ c. c.literals) clauses)
 
--- that a clause that passes the check and is no tautology rests on its propagations, even after more units are added
+-- `PropagationsInTurn` holds if every clause that passes the check and is no tautology rests on its propagations, also
+-- after more units are added.
 abbrev pub PropagationsInTurn : Type 0
 PropagationsInTurn = (steps : List Step) (front clause hashes : List ℕ) → AcceptsAll steps → PassesByHashes (with_units front (ready_after steps)) clause hashes → is_tautology clause ≡ false →
     RestsOn (with_units front (ready_after steps)) clause (propagations (with_units front (ready_after steps)) clause hashes)
 
--- a clause that was unit, and the literal that it implied
+-- A clause that was unit, and the literal that it implied.
 pub record Reason : Type 0 where
   pub clause : StoredClause
   pub literal : ℕ
 
--- Clauses are visited in order, under assumed literals, up to a conflict. The first falsified clause is the conflict. A
--- unit clause implies its literal for the clauses after it, and any other clause is skipped.
+-- `ClauseWalk assumed clauses reasons last` holds if `last` is the first falsified clause when the clauses are visited
+-- in order, under the assumed literals, and `reasons` are the unit clauses before it. The literal that a unit clause
+-- implies is true for the clauses after it. Any other clause is skipped.
 pub data ClauseWalk : List ℕ → List StoredClause → List Reason → StoredClause → Type 0 where
   is_conflict : (assumed : List ℕ) (c : StoredClause) (cs : List StoredClause) → IsFalsified assumed c.literals → ClauseWalk assumed (c ∷ cs) [] c
   is_unit : (assumed : List ℕ) (c : StoredClause) (cs : List StoredClause) (l : ℕ) (reasons : List Reason) (last : StoredClause) →
@@ -47,14 +49,15 @@ pub data ClauseWalk : List ℕ → List StoredClause → List Reason → StoredC
   is_neither : (assumed : List ℕ) (c : StoredClause) (cs : List StoredClause) (reasons : List Reason) (last : StoredClause) →
       (IsFalsified assumed c.literals → ⊥) → ((l : ℕ) → IsUnit assumed c.literals l → ⊥) → ClauseWalk assumed cs reasons last → ClauseWalk assumed (c ∷ cs) reasons last
 
--- The literals that a conflict rests on, followed backwards. They are the negations of the falsified clause's literals,
--- and of the other literals of every clause that implied a needed literal.
+-- `IsNeededLiteral reasons last m` holds if the conflict in `last`, followed backwards, rests on the literal `m`: it is
+-- the negation of a literal of `last`, or of another literal of a clause that implied a needed literal.
 pub data IsNeededLiteral (reasons : List Reason) (last : StoredClause) : ℕ → Type 0 where
   of_last : (l : ℕ) → is_among last.literals l ≡ true → IsNeededLiteral reasons last (negated l)
   of_reason : (r : Reason) (l : ℕ) → IsOneOf r reasons → IsNeededLiteral reasons last r.literal → is_among r.clause.literals l ≡ true → l ≢ r.literal → IsNeededLiteral reasons last (negated l)
 
--- That these are exactly the needed literals and the needed clauses. A needed clause implied a needed literal. The
--- clauses are in the order visited, the falsified clause last.
+-- `IsConflictCauses assumed cs g` holds if `g` has exactly the needed literals and the needed clauses of the walk over
+-- `cs` under the assumed literals. A needed clause implied a needed literal. The clauses are in the order visited, the
+-- falsified clause last.
 pub record IsConflictCauses (assumed : List ℕ) (cs : List StoredClause) (g : ConflictCauses) : Type 0 where
   pub reasons : List Reason
   pub last : StoredClause
@@ -62,8 +65,8 @@ pub record IsConflictCauses (assumed : List ℕ) (cs : List StoredClause) (g : C
   pub literals : (m : ℕ) → (is_among g.literals m ≡ true) ↔ IsNeededLiteral reasons last m
   pub clauses : g.clauses ≡ map (λ r. r.clause) (filter (λ r. is_among g.literals r.literal) reasons) ++ last ∷ []
 
--- That the propagations of a clause that passes are the causes of its conflict, followed backwards. The clause is no
--- tautology, and no unit satisfies it.
+-- `ConflictIsFollowedBackwards` holds if the propagations of every clause that passes are the ids of the causes of its
+-- conflict, and these are as `IsConflictCauses` says, provided that it is no tautology and no unit satisfies it.
 abbrev pub ConflictIsFollowedBackwards : Type 0
 ConflictIsFollowedBackwards = (steps : List Step) (front clause hashes : List ℕ) → AcceptsAll steps → PassesByHashes (with_units front (ready_after steps)) clause hashes →
     is_tautology clause ≡ false → list_any (is_among (unit_literals (with_units front (ready_after steps)))) clause ≡ false →
@@ -71,54 +74,59 @@ ConflictIsFollowedBackwards = (steps : List Step) (front clause hashes : List �
     let assumed : List ℕ = map negated clause ++ unit_literals f in
     (propagations f clause hashes ≡ conflict_ids (map negated clause) (conflict_causes assumed (clauses_named hashes f)) f.units) × IsConflictCauses assumed (clauses_named hashes f) (conflict_causes assumed (clauses_named hashes f)))
 
--- that a clause with both signs of a variable has no propagations
+-- `TautologiesRestOnNothing` holds if a clause with both signs of a variable has no propagations.
 abbrev pub TautologiesRestOnNothing : Type 0
 TautologiesRestOnNothing = (f : Stored) (clause hashes : List ℕ) → is_tautology clause ≡ true → propagations f clause hashes ≡ []
 
--- that the last irredundant clause stored is not an empty clause
+-- `IsNoEmpty last` holds if the last irredundant clause stored is not an empty clause.
 abbrev pub IsNoEmpty : Last → Type 0
 IsNoEmpty last = (id : ℕ) → last ≢ Empty id
 
--- that a deleted clause rests on the unit that satisfies it, or on the last irredundant clause stored, unless that is
--- an empty clause
+-- `DeletionsRest` holds if every clause deleted as satisfied rests on the unit that satisfies it, and every clause
+-- deleted as simplified rests on the last irredundant clause stored, unless that is an empty clause.
 abbrev pub DeletionsRest : Type 0
 DeletionsRest = (steps : List Step) (clause : List ℕ) → AcceptsAll steps →
     (Accepts (ready_after steps) (DeleteClause clause Satisfied) → RestsOn (ready_after steps) clause (option_to_list (true_unit (canonical clause) (ready_after steps).units)))
     × (Accepts (ready_after steps) (DeleteClause clause Simplified) → IsNoEmpty (ready_after steps).last → RestsOn (ready_after steps) clause (option_to_list (last_id (ready_after steps).last)))
 
--- that a step's announcements come after all earlier and delayed ones, and no delayed announcement is repeated
+-- `NoticesInOrder` holds if the announcements of every step come after all earlier and delayed ones, and if no
+-- announcement is delayed once a pending unit conflict is settled.
 abbrev pub NoticesInOrder : Type 0
 NoticesInOrder = (steps : List Step) (step : Step) →
     (notices_after (step ∷ steps) ≡ all_notices_after steps ++ notices_over (ready_after steps) (announced (ready_after steps) step)) × (delayed (ready_after steps) ≡ [])
 
--- that the clause was announced under this id: as a clause of the formula, or as a derived clause
+-- `IsAnnouncedAs id clause announcement` holds if the announcement introduces the clause under this id, as a clause of
+-- the formula or as a derived clause.
 abbrev pub IsAnnouncedAs : ℕ → List ℕ → Announcement → Type 0
 IsAnnouncedAs id clause (AddClause i ls) = (i ≡ id) × (ls ≡ clause)
 IsAnnouncedAs id clause (AtClause i redundant ls ids) = (i ≡ id) × (ls ≡ clause)
 IsAnnouncedAs id clause other = ⊥
 
--- that one of these notices announces the clause under this id
+-- `IsAnnounced id clause reported` holds if one of these notices announces the clause under this id.
 abbrev pub IsAnnounced : ℕ → List ℕ → List Notice → Type 0
 IsAnnounced id clause reported = (t : Notice) × IsOneOf t reported × IsAnnouncedAs id clause t.announcement
 
--- That stored clauses and units, and an empty clause that is the last irredundant one, were announced under their ids.
--- A unit conflict is between a stored unit and its negation, which was announced.
+-- `AreAnnounced f reported` holds if stored clauses and units, and an empty clause that is the last irredundant one,
+-- were announced under their ids, and if a pending unit conflict is between a stored unit and its negation, which was
+-- announced.
 pub record AreAnnounced (f : Stored) (reported : List Notice) : Type 0 where
   pub clauses : AllByRecursion (λ c. IsAnnounced c.id c.literals reported) f.clauses
   pub units : AllByRecursion (λ u. IsAnnounced u.id (u.literal ∷ []) reported) f.units
   pub last : (id : ℕ) → f.last ≡ Empty id → IsAnnounced id [] reported
   pub conflict : (ids : ℕ × ℕ) → f.conflict ≡ Some ids → (u : StoredUnit) × IsOneOf u f.units × (u.id ≡ ids.0) × IsAnnounced ids.1 (negated u.literal ∷ []) reported
 
--- that `AreAnnounced` holds after all steps, accepted or not
+-- `IdsAreAnnounced` holds if `AreAnnounced` does after all steps, accepted or not.
 abbrev pub IdsAreAnnounced : Type 0
 IdsAreAnnounced = (steps : List Step) → AreAnnounced (stored_after steps) (notices_after steps)
 
--- that the empty clause of a unit conflict lists the ids of two announced units, one the negation of the other
+-- `ConflictIsAnnounced` holds if the empty clause that a unit conflict delays lists the ids of two announced units, one
+-- the negation of the other.
 abbrev pub ConflictIsAnnounced : Type 0
 ConflictIsAnnounced = (steps : List Step) (id i j : ℕ) → delayed (stored_after steps) ≡ AtClause id false [] (i ∷ j ∷ []) ∷ [] →
     (l : ℕ) × IsAnnounced i (l ∷ []) (notices_after steps) × IsAnnounced j (negated l ∷ []) (notices_after steps)
 
--- that a clause that is deleted as simplified rests on an announced clause that is part of it, possibly an empty clause
+-- `SimplifiedIsAnnounced` holds if every clause that may be deleted as simplified rests on an announced clause that is
+-- a subset of it, possibly an empty clause.
 abbrev pub SimplifiedIsAnnounced : Type 0
 SimplifiedIsAnnounced = (steps : List Step) (clause : List ℕ) → Accepts (ready_after steps) (DeleteClause clause Simplified) →
     (id : ℕ) × (part : List ℕ) × (option_to_list (last_id (ready_after steps).last) ≡ id ∷ []) × (is_subset_of part clause ≡ true) × IsAnnounced id part (all_notices_after steps)

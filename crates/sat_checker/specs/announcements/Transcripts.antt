@@ -5,7 +5,7 @@ use Rattle.sat_checker.specs.Stored.{Mode, Variable}
 use Rattle.sat_checker.specs.announcements.Announcements.{UserVariable, Announcement, UserVar, DeleteVar, DuplicatedClause, TautologicalClause, AtClause, MakeIrredundant, DeleteClause, DeleteAtClause, DeleteRatClause, Assumptions, is_sample, Notice}
 use Rattle.sat_checker.specs.announcements.Announcements as announcements
 
--- a step of a transcript, with the user's names
+-- A step of a transcript, with the user's names.
 pub data Transcribed : Type 0 where
   WitnessVar : ℕ → Transcribed
   SampleVar : ℕ → Transcribed
@@ -17,41 +17,41 @@ pub data Transcribed : Type 0 where
   Assume : List ℕ → Transcribed
   FailedAssumptions : List ℕ → Transcribed
 
--- the explicit name, or the variable's own index if its mode is sample
+-- The explicit name, or the variable's own index if its mode is sample.
 abbrev pub name_or_itself : ℕ → Mode → Option ℕ → Option ℕ
 name_or_itself v mode (Some name) = Some name
 name_or_itself v mode None = if is_sample mode then Some v else None
 
--- the name by which a user knows a variable, if there is one
+-- The name by which a user knows a variable, if there is one.
 abbrev pub user_from_proof_var : (ℕ → Variable) → ℕ → Option ℕ
 user_from_proof_var variables v = name_or_itself v (variables v).mode (variables v).name
 
--- the list and, before it, the name's literal with the sign of `l`, if there is a name
+-- The list and, before it, the name's literal with the sign of `l`, if there is a name.
 abbrev pub onto_named : ℕ → Option ℕ → List ℕ → List ℕ
 onto_named l None ls = ls
 onto_named l (Some name) ls = (2 * name + l % 2) ∷ ls
 
--- the literals with the user's names; literals of variables without a name are dropped
+-- The literals with the user's names; literals of variables without a name are dropped.
 abbrev pub in_user_names : (ℕ → Variable) → List ℕ → List ℕ
 in_user_names variables [] = []
 in_user_names variables (l ∷ ls) = onto_named l (user_from_proof_var variables (variable l)) (in_user_names variables ls)
 
--- the transcript step for the removal of a variable's name, if it had one
+-- The transcript step for the removal of a variable's name, if it had one.
 abbrev pub name_was_removed : Option ℕ → Option Transcribed
 name_was_removed None = None
 name_was_removed (Some name) = Some (HideVar name)
 
--- the transcript step for a name: if the variable had none before, it was set; otherwise, the mode was changed
+-- The transcript step for a name: if the variable had none before, it was set; otherwise, the mode was changed.
 abbrev pub naming_transcript : UserVariable → Option ℕ → Option Transcribed
 naming_transcript u None = if u.is_new then None else Some (ObserveInternalVar u.name)
 naming_transcript u (Some name) = Some (if u.sampling then SampleVar u.name else WitnessVar u.name)
 
--- the transcript step for a derived clause: `Unsat` if it is empty, otherwise none
+-- The transcript step for a derived clause: `Unsat` if it is empty, otherwise none.
 abbrev pub deriving_of : List ℕ → Option Transcribed
 deriving_of [] = Some Unsat
 deriving_of (l ∷ ls) = None
 
--- the transcript step for an announcement, if any, given the variables before the step
+-- The transcript step for an announcement, if any, given the variables before the step.
 abbrev pub transcript : (ℕ → Variable) → Announcement → Option Transcribed
 transcript variables (UserVar v None) = name_was_removed (variables v).name
 transcript variables (UserVar v (Some u)) = naming_transcript u (variables v).name
@@ -68,12 +68,12 @@ transcript variables (announcements.Model ls) = Some (Model (in_user_names varia
 transcript variables (Assumptions ls) = Some (Assume (in_user_names variables ls))
 transcript variables (announcements.FailedAssumptions core ids) = Some (FailedAssumptions (in_user_names variables core))
 
--- the transcript steps with this step before them, if there is one
+-- The transcript steps with this step before them, if there is one.
 abbrev pub with_transcript : Option Transcribed → List Transcribed → List Transcribed
 with_transcript None ts = ts
 with_transcript (Some t) ts = t ∷ ts
 
--- the transcript of what was announced, in order
+-- The transcript of what was announced, in order.
 abbrev pub transcripts : List Notice → List Transcribed
 transcripts [] = []
 transcripts (t ∷ ts) = with_transcript (transcript t.variables t.announcement) (transcripts ts)

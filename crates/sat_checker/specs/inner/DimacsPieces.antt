@@ -10,7 +10,7 @@ use Rattle.sat_checker.specs.declared.processing.ProcessingError.{ProcessingErro
 use Rattle.sat_checker.specs.declared.error.CheckerDimacsError.{CheckerDimacsError}
 use Rattle.sat_checker.specs.declared.error.CheckerDimacsError.TheVariants as refused
 
--- whether the error is an allocation failure, after which the checker has failed
+-- `is_out_of_memory error` is true if the error is an allocation failure, after which the checker has failed.
 abbrev pub is_out_of_memory : DimacsError → Bool
 is_out_of_memory (texts.Malformed line) = false
 is_out_of_memory (texts.Limit line) = false
@@ -18,19 +18,21 @@ is_out_of_memory texts.Read = false
 is_out_of_memory texts.OutOfMemory = true
 is_out_of_memory texts.HasFailed = false
 
--- the checker, marked as failed or not
+-- The checker, marked as failed or not.
 abbrev pub with_flag : {L : Type 0} → Bool → CheckerView L → CheckerView L
 with_flag b c = record c { kernel = record c.kernel { failed = b } }
 
 module _ {L : Type 0} (Hears : L → Notice → Result Unit ProcessingError → L → Type 0) where
-  -- What the result means, if these are the clauses to add. The parser's result `answer` is returned only if all of
-  -- them were added.
+  -- `AnswersRead Hears result answer old new clauses` holds if all of `clauses` were added and `result` reports the
+  -- parser's result `answer`, or if adding them failed as `result` says. If the parser ran out of memory, the checker
+  -- has failed.
   abbrev pub AnswersRead : Result Unit CheckerDimacsError → Result Unit DimacsError → CheckerView L → CheckerView L → List (List ℕ) → Type 0
   AnswersRead (Ok x) answer old new clauses = (answer ≡ Ok tt) × AddsClauses Hears (Ok tt) old new clauses
   AnswersRead (Err (refused.Dimacs error)) answer old new clauses =
       (answer ≡ Err error) × (mid : CheckerView L) × AddsClauses Hears (Ok tt) old mid clauses × (new ≡ with_flag (is_out_of_memory error) mid)
   AnswersRead (Err (refused.Checker error)) answer old new clauses = AddsClauses Hears (Err error) old new clauses
 
-  -- that the clauses that the parser has read and not yet returned are added, and then its result is returned
+  -- `AddsRead Hears result answer parser old new` holds if `AnswersRead` does for the clauses that the parser has read
+  -- and not yet returned.
   abbrev pub AddsRead : Result Unit CheckerDimacsError → Result Unit DimacsError → Progress → CheckerView L → CheckerView L → Type 0
   AddsRead result answer parser old new = (clauses : List (List ℕ)) × (clauses_read parser ≡ parser.taken ++ clauses) × AnswersRead result answer old new clauses

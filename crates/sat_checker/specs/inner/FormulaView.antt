@@ -17,7 +17,7 @@ use Rattle.sat_checker.specs.declared.state.status.LastClause.TheVariants as cod
 use Rattle.sat_checker.specs.declared.state.status.Status.{Status}
 use Rattle.sat_checker.specs.declared.formula.Formula.{Formula}
 
--- what is recorded besides clauses, units and variables
+-- What is recorded besides clauses, units and variables.
 pub record StoredStatus : Type 0 where
   pub unsat : Bool
   pub conflict : Option (ℕ × ℕ)
@@ -26,40 +26,44 @@ pub record StoredStatus : Type 0 where
   pub ended : Bool
   pub var_deleted : Bool
 
--- what the definition's state records besides clauses, units and variables
+-- What `f` records besides clauses, units and variables.
 abbrev pub status_of : Stored → StoredStatus
 status_of f = record { unsat = f.unsat; conflict = f.conflict; last = f.last; next_id = f.next_id; ended = f.ended; var_deleted = f.var_deleted }
 
--- the last irredundant clause stored, as the code represents it
+-- The last irredundant clause stored, as the code represents it.
 abbrev pub last_in : LastClause → Last
 last_in code.NoneYet = NoneYet
 last_in (code.Empty id) = Empty id
 last_in (code.Single id l) = UnitClause id
 last_in (code.Long id) = LongClause id
 
--- what is recorded in the code's status
+-- What the code's status records.
 abbrev pub status_in_code : Status → StoredStatus
 status_in_code s = record { unsat = s.unsat; conflict = s.conflict; last = last_in s.last; next_id = s.next_id; ended = s.ended; var_deleted = s.var_deleted }
 
--- That a unit with this id has this literal, and a unit with this literal has this id or a higher one.
+-- `IsIdOfUnit id l u` holds if a unit `u` with this id has the literal `l`, and a unit with the literal `l` has this id
+-- or a higher one.
 abbrev pub IsIdOfUnit : ℕ → ℕ → StoredUnit → Type 0
 IsIdOfUnit id l u = (u.id ≡ id → u.literal ≡ l) × (u.literal ≡ l → id ≤ u.id)
 
--- that, if the last irredundant clause is a unit, its id was assigned, and `IsIdOfUnit` holds for it and all units
+-- `LastUnitIsPut last units next_id` holds if, when the last irredundant clause is a unit, its id was assigned, and
+-- `IsIdOfUnit` holds for it and all units.
 abbrev pub LastUnitIsPut : LastClause → List StoredUnit → ℕ → Type 0
 LastUnitIsPut code.NoneYet units next_id = Unit {0}
 LastUnitIsPut (code.Empty id) units next_id = Unit {0}
 LastUnitIsPut (code.Single id l) units next_id = (id < next_id) × AllByRecursion (IsIdOfUnit id l) units
 LastUnitIsPut (code.Long id) units next_id = Unit {0}
 
--- the invariant of ids: of clauses by place, of units, and of the last irredundant clause if it is a unit
+-- `AreNumbered ids units last next_id` holds if the ids of the clauses, by place, and those of the units are in order
+-- and below `next_id`, and `LastUnitIsPut` holds.
 pub record AreNumbered (ids : List ℕ) (units : List StoredUnit) (last : LastClause) (next_id : ℕ) : Type 0 where
   pub of_clauses : AreIdsInOrder ids next_id
   pub of_units : AreIdsInOrder (map (λ u. u.id) units) next_id
   pub put : LastUnitIsPut last units next_id
 
--- That the formula has these clauses, hashed with these solver names at this width, these units, and these records.
--- Both the units and the marks have room for all literals of the clauses.
+-- `KeepsParts formula kept solver_names bits stored standing` holds if the formula has the clauses `kept`, hashed with
+-- these solver names at this width, the units `stored`, and the records `standing`. Both the units and the marks have
+-- room for all literals of the clauses.
 pub record KeepsParts (formula : Formula) (kept : List StoredClause) (solver_names : ℕ → Option ℕ) (bits : ℕ) (stored : List StoredUnit) (standing : StoredStatus) : Type 0 where
   pub clauses : KeepsHashed formula.store kept solver_names bits
   pub units : formula.units.units ≡ stored
@@ -68,38 +72,43 @@ pub record KeepsParts (formula : Formula) (kept : List StoredClause) (solver_nam
   pub room : HasStoredRoom formula.units.room kept
   pub marks : HasStoredRoom formula.marks.room kept
 
--- that the formula represents what is stored, except for the variables and the assumptions
+-- `RepresentsFormula formula f` holds if the formula represents what is stored, except for the variables and the
+-- assumptions.
 abbrev pub RepresentsFormula : Formula → Stored → Type 0
 RepresentsFormula formula f = KeepsParts formula f.clauses f.solver_names f.width f.units (status_of f)
 
--- the formula with all clauses filed by their current hashes
+-- The formula with all clauses filed by their current hashes.
 abbrev pub rehashed_in : Formula → Formula
 rehashed_in formula = record formula { store = rehashed formula.store }
 
--- The result of a change: `Ok` means that it is stored, and `CounterEnd` that a number does not fit in 64 bits.
+-- `StoredOrExhausted result kept g` holds for `Ok` if `kept` does, and for `CounterEnd` if a number of `g` does not fit
+-- in 64 bits. It holds for `OutOfMemory`.
 abbrev pub StoredOrExhausted : {T : Type 0} → Result T StoreError → Type 0 → Stored → Type 0
 StoredOrExhausted (Ok x) kept g = kept
 StoredOrExhausted (Err OutOfMemory) kept g = Unit {0}
 StoredOrExhausted (Err CounterEnd) kept g = CountersExhausted g
 
--- that the formula is changed as the function says
+-- `FormulaEffect result old change new` holds if `new` represents `change f` for every `f` that `old` represents, as
+-- far as `StoredOrExhausted` requires it of the result.
 abbrev pub FormulaEffect : {T : Type 0} → Result T StoreError → Formula → (Stored → Stored) → Formula → Type 0
 FormulaEffect result old change new = (f : Stored) → RepresentsFormula old f → StoredOrExhausted result (RepresentsFormula new (change f)) (change f)
 
--- That the change is accepted and made, or is refused. An error is returned only if the change would be accepted.
+-- `FormulaEffectIf result accepts kept g` holds if the change is accepted and made (`Ok(true)`), is refused
+-- (`Ok(false)`), or would be accepted but fails (`Err`). `CounterEnd` also means that `g` exhausts the counters.
 abbrev pub FormulaEffectIf : Result Bool StoreError → Type 0 → Type 0 → Stored → Type 0
 FormulaEffectIf (Ok accepted) accepts kept g = MatchBool accepted (accepts × kept) (accepts → ⊥)
 FormulaEffectIf (Err OutOfMemory) accepts kept g = accepts
 FormulaEffectIf (Err CounterEnd) accepts kept g = accepts × CountersExhausted g
 
--- That the formula has these clauses, the literals of these units under any ids, and room for the clauses' literals. A
--- propagation check needs nothing else.
+-- `ChecksAs formula f` holds if the formula has the clauses of `f`, the literals of its units under any ids, and room
+-- for the clauses' literals. A propagation check needs nothing else.
 pub record ChecksAs (formula : Formula) (f : Stored) : Type 0 where
   pub clauses : RepresentsClauses formula.store f
   pub units : map (λ u. u.literal) formula.units.units ≡ unit_literals f
   pub room : HasStoredRoom formula.units.room f.clauses
 
--- that only notes, marks and room may differ, and no literal has lost its room
+-- `ChecksBeside old new` holds if the two differ at most in notes, assumed literals, marks and room, and no literal has
+-- lost its room.
 pub record ChecksBeside (old new : Formula) : Type 0 where
   pub store : new.store ≡ old.store
   pub status : new.status ≡ old.status
@@ -107,14 +116,16 @@ pub record ChecksBeside (old new : Formula) : Type 0 where
   pub room : RoomStays old.units.room new.units.room
   pub marks : RoomStays old.marks.room new.marks.room
 
--- that a step is accepted, and the formula represents its effect
+-- `DeletesAs new f step` holds if `f` accepts the step, and `new` represents its effect on `f`.
 abbrev pub DeletesAs : Formula → Stored → Step → Type 0
 DeletesAs new f step = Accepts f step × RepresentsFormula new (effect step f)
 
--- that a deletion is accepted and made, or is refused
+-- `DeletionEffect accepted old step new` holds if the deletion is accepted and made when `accepted` is true, and
+-- refused otherwise.
 abbrev pub DeletionEffect : Bool → Formula → Step → Formula → Type 0
 DeletionEffect accepted old step new = (f : Stored) → RepresentsFormula old f → MatchBool accepted (DeletesAs new f step) (Accepts f step → ⊥)
 
--- that the notes of the last propagation check explain why the clause passes under these hashes
+-- `Explained formula clause hashes` holds if the notes of the last propagation check explain the check of the clause
+-- under these hashes.
 abbrev pub Explained : Formula → List ℕ → List ℕ → Type 0
 Explained formula clause hashes = ExplainsCheck formula.store.clauses formula.passed (map (λ u. u.literal) formula.units.units) clause hashes

@@ -5,20 +5,21 @@ use Rattle.sat_checker.specs.inner.PairView.{Indexed, AreInOrder, places_in, mix
 use Rattle.sat_checker.specs.inner.SlotView.{Slot, is_gone, places_of}
 use Rattle.sat_checker.specs.declared.store.links.Pair.{Pair}
 
--- the places without this place
+-- The places except `place`.
 abbrev pub without_place : ℕ → List ℕ → List ℕ
 without_place place = filter (λ p. not (p == place))
 
--- the pairs of the clauses that are not removed, if the first slot is at this place
+-- The pairs of the clauses that are not removed, if the first slot is at `place`.
 abbrev pub pairs_from : ℕ → List Slot → List Pair
 pairs_from place [] = []
 pairs_from place (s ∷ ss) = if is_gone s then pairs_from (place + 1) ss else (record { hash = mixed s.hash; place = place }) ∷ pairs_from (place + 1) ss
 
--- the pairs of all clauses that are not removed, starting at the first place
+-- The pairs of all clauses that are not removed. The first slot is at place 0.
 abbrev pub pairs_of : List Slot → List Pair
 pairs_of slots = pairs_from 0 slots
 
--- that the index finds the clauses that are not removed by their mixed hashes, and has a place for every slot
+-- `IndexesSlots index slots` holds if the index finds the clauses that are not removed by their mixed hashes, has a
+-- place for every slot, and lists its pairs by increasing place.
 pub record IndexesSlots (index : Indexed) (slots : List Slot) : Type 0 where
   pub filed : (hash : ℕ) → places_in (mixed hash) index.pairs ≡ places_of hash slots
   pub places : index.places ≡ length slots

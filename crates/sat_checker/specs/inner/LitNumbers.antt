@@ -4,22 +4,22 @@ use Rattle.sat_base.specs.values.Tables.{value_at}
 use Rattle.sat_checker.specs.declared.units.lit_numbers.LitNumbers.{LitNumbers}
 use Rattle.sat_checker.specs.declared.units.lit_numbers.LitPlaces.{LitPlaces}
 
--- the number, or `None` if it is the largest number of 64 bits
+-- The number, or `None` if it is the largest number of 64 bits, which represents none.
 abbrev pub unless_largest : ℕ → Option ℕ
 unless_largest n = if n == 2 ^ 64 - 1 then None else Some n
 
--- the number of a literal, or `None`
+-- The number of the literal `l`, or `None` if it has none.
 abbrev pub number_at : LitNumbers → ℕ → Option ℕ
 number_at numbers l = unless_largest (value_at (2 ^ 64 - 1) numbers.numbers l)
 
--- the place, or `None` if it is the largest number of 32 bits
+-- The place, or `None` if it is the largest number of 32 bits, which represents none.
 abbrev pub unless_largest_place : ℕ → Option ℕ
 unless_largest_place n = if n == 2 ^ 32 - 1 then None else Some n
 
--- the place of a literal, or `None`
+-- The place of the literal `l`, or `None` if it has none.
 abbrev pub place_at : LitPlaces → ℕ → Option ℕ
 place_at places l = unless_largest_place (value_at (2 ^ 32 - 1) places.places l)
 
--- that the place of every literal on a trail is stored
+-- `AreTrailPlaces places trail` holds if the place of every literal on the trail is stored.
 abbrev pub AreTrailPlaces : LitPlaces → List ℕ → Type 0
 AreTrailPlaces places trail = (i : ℕ) → i < length trail → place_at places (get_or trail i 0) ≡ Some i

@@ -6,13 +6,14 @@ pub use Rattle.sat_checker.specs.ClauseStates.{clause_state_of}
 use Rattle.sat_checker.specs.declared.rup.Walked.{Walked}
 use Rattle.sat_checker.specs.declared.rup.Walked.TheVariants.{Empty, Conflict, Open}
 
--- that literals were assumed in addition to the old ones, and no literal has lost its room
+-- `AssumesMore old new` holds if literals were assumed in addition to those in `old`, and no literal has lost its room.
 pub record AssumesMore (old new : LiteralsAndRoom) : Type 0 where
   pub longer : length old.literals ≤ length new.literals
   pub below : drop (length new.literals - length old.literals) new.literals ≡ old.literals
   pub room : RoomStays old.room new.room
 
--- how the walk over a bucket ended, from the old assumed literals to the new ones
+-- `WalksBucket walked clauses old new` holds if the walk over the clauses of a bucket, from the assumed literals `old`,
+-- ended as `walked` says: there are no clauses, it reached a conflict, or it led to the assumed literals `new`.
 abbrev pub WalksBucket : Walked → List (List ℕ) → List ℕ → List ℕ → Type 0
 WalksBucket Empty clauses old new = (clauses ≡ []) × (new ≡ old)
 WalksBucket Conflict clauses old new = (clauses ≢ []) × (walk old clauses ≡ None)

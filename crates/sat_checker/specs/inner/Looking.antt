@@ -2,12 +2,13 @@
 use Rattle.std.specs.Prelude.{ℕ, ◌+◌, ◌≤◌}
 use Rattle.sat_checker.specs.Stored.{Stored}
 
--- that at most `count` looks were added
+-- `LooksUpTo count old new` holds if the number of looks did not decrease, and rose by at most `count`.
 pub record LooksUpTo (count old new : ℕ) : Type 0 where
   pub rise : old ≤ new
   pub most : new ≤ old + count
 
--- that at most as many looks were added as `count` gives for what is stored
+-- `LooksOver Kept count old new` holds if the number of looks did not decrease, and rose by at most `count f` for every
+-- `f` with `Kept f`.
 pub record LooksOver (Kept : Stored → Type 0) (count : Stored → ℕ) (old new : ℕ) : Type 0 where
   pub rise : old ≤ new
   pub most : (f : Stored) → Kept f → new ≤ old + count f

@@ -16,57 +16,60 @@ use Rattle.sat_checker.specs.declared.store.StoreError.{StoreError}
 use Rattle.sat_checker.specs.declared.store.StoreError.TheVariants as stores
 use Rattle.sat_checker.specs.declared.announce.announcement.Was.{Was}
 
--- announcements during which these variables may be looked up
+-- The announcements, each with the variables that may be looked up during it.
 abbrev pub announced_by : (ℕ → Variable) → List Announcement → List Notice
 announced_by variables = map (λ a. record { announcement = a; variables = variables })
 
--- a variable and its earlier data, if any, as the code represents them
+-- The variable and its earlier data, if any, that the code's value represents.
 abbrev pub was_of : Option Was → Option (ℕ × Variable)
 was_of None = None
 was_of (Some was) = Some (was.var, variable_of_data was.data)
 
--- the variables, with the earlier data of the given variable, if any
+-- The variables, but with the earlier data that is given for one of them, if any.
 abbrev pub put_back : Option (ℕ × Variable) → (ℕ → Variable) → ℕ → Variable
 put_back None variables = variables
 put_back (Some was) variables = λ v. if v == was.0 then was.1 else variables v
 
--- the variable that a step may rename, change or delete, with its data
+-- The variable that a step may rename, change or delete, with its data.
 abbrev pub changed_by : (ℕ → Variable) → Step → Option (ℕ × Variable)
 changed_by variables (UserVarName v name) = Some (v, variables v)
 changed_by variables (DeleteVar v) = Some (v, variables v)
 changed_by variables (ChangeSamplingMode v sample) = Some (v, variables v)
 changed_by variables step = None
 
--- the checker's error for a fault of an announcement
+-- The checker's error for a fault of an announcement.
 abbrev pub fault_of : ProcessingError → CheckerError
 fault_of faults.OutOfMemory = errors.OutOfMemory
 fault_of (faults.ProofProcessorError cause) = errors.ProofProcessorError cause
 
--- the checker's error if a step could not be stored
+-- The checker's error if a step could not be stored.
 abbrev pub failure_of : StoreError → CheckerError
 failure_of stores.OutOfMemory = errors.OutOfMemory
 failure_of stores.CounterEnd = errors.CounterEnd
 
--- the records of a status, which can still be returned after a later step has failed
+-- The records of a status, which can still be returned after a later step has failed.
 abbrev pub records_in : Status → Records
 records_in s = record { unsat = s.unsat; ended = s.ended; var_deleted = s.var_deleted }
 
--- that neither the state nor the looks changed
+-- `SameStateAndLooks old new` holds if the state and the number of looks are the same in both.
 pub record SameStateAndLooks {L : Type 0} (old new : CheckerView L) : Type 0 where
   pub state : new.kernel.state ≡ old.kernel.state
   pub looks : looks_of new ≡ looks_of old
 
--- that the listener can accept every announcement without a fault and without a change
+-- `IsUnmovedByNotices Hears l` holds if the listener `l` can accept every announcement without a fault and without a
+-- change.
 abbrev pub IsUnmovedByNotices : {L : Type 0} → (L → Notice → Result Unit ProcessingError → L → Type 0) → L → Type 0
 IsUnmovedByNotices Hears l = (t : Notice) → Hears l t (Ok tt) l
 
 module _ {L : Type 0} (Hears : L → Notice → Result Unit ProcessingError → L → Type 0) (reported : List Notice) where
-  -- What the result of these announcements means: all were made, or those up to a fault, and then the checker has
-  -- failed. The checker's records are those of its state.
+  -- `TakenIn Hears reported result old new` holds if all announcements were made and the checker has not failed, or if
+  -- those up to a fault were made, the result is its error, and the checker has failed. The checker's records are those
+  -- of its state.
   abbrev pub TakenIn : Result Unit CheckerError → CheckerView L → CheckerView L → Type 0
   TakenIn (Ok x) old new = (has_failed new ≡ false) × (new.kernel.records ≡ records_in new.kernel.state.formula.status) × HearsAll Hears reported old.listeners new.listeners
   TakenIn (Err e) old new = (has_failed new ≡ true) × (new.kernel.records ≡ records_in new.kernel.state.formula.status) × (f : ProcessingError) × (e ≡ fault_of f) × HearsUpTo Hears f reported old.listeners new.listeners
 
-  -- that `TakenIn` holds, and neither the state nor the looks changed
+  -- `NotifiesAndKeepsState Hears reported result old new` holds if `TakenIn` does, and neither the state nor the number
+  -- of looks changed.
   abbrev pub NotifiesAndKeepsState : Result Unit CheckerError → CheckerView L → CheckerView L → Type 0
   NotifiesAndKeepsState result old new = SameStateAndLooks old new × TakenIn result old new

@@ -6,21 +6,22 @@ use Rattle.sat_checker.specs.inner.PairView.{Indexed}
 use Rattle.sat_checker.specs.inner.SlotView.{Slot, is_gone}
 use Rattle.sat_checker.specs.declared.store.occurrences.Occurrences.{Occurrences}
 
--- how often a literal occurs in a clause
+-- How often a literal occurs in a clause.
 abbrev pub times_in : ℕ → List ℕ → ℕ
 times_in l [] = 0
 times_in l (x ∷ xs) = (if x == l then 1 else 0) + times_in l xs
 
--- how often a literal occurs in the clauses that are not removed
+-- How often a literal occurs in the clauses that are not removed.
 abbrev pub times_stored : ℕ → List Slot → ℕ
 times_stored l [] = 0
 times_stored l (s ∷ ss) = (if is_gone s then 0 else times_in l s.clause.literals) + times_stored l ss
 
--- the stored count of a literal, or 0 if there is none
+-- The stored count of a literal, or 0 if there is none.
 abbrev pub count_at : Occurrences → ℕ → ℕ
 count_at kept l = value_at 0 kept.counts l
 
--- that the clauses that are not removed are found by their hashes, and their literals are counted
+-- `SlotsInvariant slots index kept` holds if the index finds the clauses that are not removed by their hashes, and
+-- `kept` counts every literal as often as they contain it.
 pub record SlotsInvariant (slots : List Slot) (index : Indexed) (kept : Occurrences) : Type 0 where
   pub files : IndexesSlots index slots
   pub counted : (l : ℕ) → count_at kept l ≡ times_stored l slots

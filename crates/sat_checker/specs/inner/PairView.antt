@@ -8,34 +8,34 @@ use Rattle.sat_checker.specs.declared.store.links.Pair.{Pair}
 unfoldable pub mixed : ℕ → ℕ
 mixed hash = hash * 0xBF58476D1CE4E5B9 % 2 ^ 64 + hash / 2 ^ 64 * 2 ^ 64
 
--- that every pair has a lower place than all later pairs
+-- `AreInOrder pairs` holds if every pair has a lower place than all later pairs.
 abbrev pub AreInOrder : List Pair → Type 0
 AreInOrder [] = Unit {0}
 AreInOrder (p ∷ ps) = AllByRecursion (λ q. p.place < q.place) ps × AreInOrder ps
 
--- the pairs except those with this place
+-- The pairs except the one at `place`.
 abbrev pub without_pair : ℕ → List Pair → List Pair
 without_pair place = filter (λ p. not (p.place == place))
 
--- the places of the pairs with this hash
+-- The places of the pairs with this hash.
 abbrev pub places_in : ℕ → List Pair → List ℕ
 places_in hash pairs = map (λ p. p.place) (filter (λ p. p.hash == hash) pairs)
 
--- the first of these places, or `None`
+-- The first of the places, or `None` if there is none.
 abbrev pub first_of : List ℕ → Option ℕ
 first_of [] = None
 first_of (p ∷ ps) = Some p
 
--- the places after the given place
+-- The places after `place`.
 abbrev pub places_after : ℕ → List ℕ → List ℕ
 places_after place = filter (nat_lt place)
 
--- the places from the given place on, or none
+-- The places from `place` on, or none if it is `None`.
 abbrev pub from_on : Option ℕ → List ℕ → List ℕ
 from_on None places = []
 from_on (Some place) places = filter (nat_le place) places
 
--- what contracts see of an index: its pairs, in order of their places, and the number of places
+-- What contracts see of an index: its pairs, in order of their places, and the number of places.
 pub record Indexed : Type 0 where
   pub pairs : List Pair
   pub places : ℕ

@@ -20,7 +20,7 @@ use Rattle.sat_checker.specs.declared.error.CheckerError.TheVariants as errors
 use Rattle.sat_checker.specs.declared.processing.ProcessingError.{ProcessingError}
 use Rattle.sat_checker.specs.declared.processing.ProcessingError.TheVariants as faults
 
--- the checker's error if no step was read
+-- The checker's error if no step was read.
 abbrev pub read_error : StepError → CheckerError
 read_error unread.Ends = errors.ProofIncomplete
 read_error unread.Cut = errors.ProofIncomplete
@@ -29,7 +29,7 @@ read_error unread.Read = errors.IoError
 read_error unread.OutOfMemory = errors.OutOfMemory
 read_error unread.HasFailed = errors.HasFailed
 
--- whether the error is an allocation failure, after which the checker has failed
+-- `is_final error` is true if the error is an allocation failure, after which the checker has failed.
 abbrev pub is_final : StepError → Bool
 is_final unread.Ends = false
 is_final unread.Cut = false
@@ -38,45 +38,50 @@ is_final unread.Read = false
 is_final unread.OutOfMemory = true
 is_final unread.HasFailed = false
 
--- the largest number of bytes that can still be read
+-- The largest number of bytes that can still be read.
 abbrev pub bytes_left : Source → ℕ
 bytes_left s = piece_size * (most_reads - s.reads) + length s.waiting
 
--- that the reader was called as often as the source counts reads
+-- `CountsReads old new` holds if the calls of the reader and the reads that the source counts rose by the same number.
 abbrev pub CountsReads : Source → Source → Type 0
 CountsReads old new = new.reader.calls + old.reads ≡ old.reader.calls + new.reads
 
--- a checker, and the source of its steps
+-- A checker, and the source of its steps.
 pub record CheckerAtSource (L : Type 0) : Type 0 where
   pub checker : CheckerView L
   pub source : Source
 
--- the checker at this source of its steps
+-- The checker at this source of its steps.
 abbrev pub at_source : {L : Type 0} → CheckerView L → Source → CheckerAtSource L
 at_source c s = record { checker = c; source = s }
 
--- that the bytes of this step were consumed, and the looks rose at most by the bound for the step
+-- `TriesStep a b earlier step` holds if the bytes of the step were consumed, and the number of looks rose at most by
+-- the bound for the step after the earlier ones.
 pub record TriesStep {L : Type 0} (a b : CheckerAtSource L) (earlier : List Step) (step : Step) : Type 0 where
   pub text : List ℕ
   pub passes : ConsumesBytes a.source b.source text
   pub spelt : SpellsStep step text
   pub looks : looks_of b.checker ≤ looks_of a.checker + most_looks (ready_after earlier) step
 
--- that at least one byte was consumed, the bytes begin a step, and no looks were added
+-- `ReadsPartOfStep a b` holds if a proper prefix of a step was consumed, of at least one byte, no other bytes are
+-- pending, and no looks were added.
 pub record ReadsPartOfStep {L : Type 0} (a b : CheckerAtSource L) : Type 0 where
   pub tag : ℕ
   pub more : List ℕ
   pub passes : ConsumesBytes a.source b.source (tag ∷ more)
-  pub begins : IsPrefixOfText SpellsStep (tag ∷ more)
+  pub none : b.source.waiting ≡ []
+  pub begins : IsProperPrefix SpellsStep (tag ∷ more)
   pub looks : looks_of b.checker ≡ looks_of a.checker
 
 module _ {L : Type 0} (Hears : L → Notice → Result Unit ProcessingError → L → Type 0) (before : List Notice) (begun : L) where
-  -- that no more steps were accepted, the checker has not failed, and no looks were added
+  -- `Waits Hears before begun a b earlier` holds if the checker has accepted the earlier steps and no others, it has
+  -- not failed, and no looks were added.
   pub record Waits (a b : CheckerAtSource L) (earlier : List Step) : Type 0 where
     pub goes_on : HasAcceptedUnfailed Hears before begun b.checker earlier
     pub looks : looks_of b.checker ≡ looks_of a.checker
 
-  -- What the result means if the next step is read and checked. `Ok` says whether the step is the end.
+  -- `StepsOn Hears before begun result a b earlier` holds if reading and checking the step after the earlier ones led
+  -- from `a` to `b` with this result. `Ok` says whether the step is the end.
   abbrev pub StepsOn : Result Bool CheckerError → CheckerAtSource L → CheckerAtSource L → List Step → Type 0
   StepsOn (Ok ended) a b earlier = (step : Step) × TriesStep a b earlier step × MatchBool ended (step ≡ End) (step ≢ End) × HasAcceptedUnfailed Hears before begun b.checker (step ∷ earlier)
   StepsOn (Err errors.CheckFailed) a b earlier = (step : Step) × TriesStep a b earlier step × (Accepts (ready_after earlier) step → ⊥) × FailsRefusing Hears before begun b.checker earlier
@@ -93,7 +98,8 @@ module _ {L : Type 0} (Hears : L → Notice → Result Unit ProcessingError → 
   StepsOn (Err errors.IoError) a b earlier = (text : List ℕ) × ConsumesAndFails a.source b.source text × IsProperPrefix SpellsStep text × Waits a b earlier
   StepsOn (Err errors.HasFailed) a b earlier = ⊥
 
-  -- That these steps, none of them the end, were read and accepted.
+  -- `TakesStepsBeforeEnd Hears before begun a b earlier passed` holds if the steps `passed`, none of them the end, were
+  -- read and accepted after the earlier ones, and the number of looks rose at most by their bound.
   pub record TakesStepsBeforeEnd (a b : CheckerAtSource L) (earlier passed : List Step) : Type 0 where
     pub text : List ℕ
     pub passes : ConsumesBytes a.source b.source text
@@ -103,6 +109,6 @@ module _ {L : Type 0} (Hears : L → Notice → Result Unit ProcessingError → 
     pub looks : looks_of b.checker ≤ looks_of a.checker + most_looks_after passed earlier
 
 module _ {L : Type 0} (Hears : L → Notice → Result Unit ProcessingError → L → Type 0) where
-  -- the result of reading and checking the next step, whatever was accepted and announced earlier
+  -- `TurnsOn Hears result a b` holds if `StepsOn` does, whatever was accepted and announced earlier.
   abbrev pub TurnsOn : Result Bool CheckerError → CheckerAtSource L → CheckerAtSource L → Type 0
   TurnsOn result a b = (before : List Notice) (begun : L) (earlier : List Step) → HasAccepted Hears before begun a.checker earlier → StepsOn Hears before begun result a b earlier

@@ -8,132 +8,133 @@ use Rattle.sat_checker.specs.HasherView.{solver_name_of, width_of}
 use Rattle.sat_checker.specs.declared.hash.ClauseHasher.{ClauseHasher}
 use Rattle.sat_checker.specs.declared.store.slots.ClauseLits.{ClauseLits}
 
--- the literals, which are stored inline or in the buffer
+-- The literals, which are stored inline or in the buffer.
 abbrev pub lits_in : List ℕ → ClauseLits → List ℕ
 lits_in buffer c = if nat_le c.len 4 then take c.len c.inline else slice_range buffer c.start (c.start + c.len)
 
--- that literals that are stored in the buffer are within it
+-- `LitsWithin buffer c` holds if the literals of `c`, when there are more than 4 and so in the buffer, are within it.
 abbrev pub LitsWithin : List ℕ → ClauseLits → Type 0
 LitsWithin buffer c = 4 < c.len → c.start + c.len ≤ length buffer
 
--- a clause at its place, with its hash; a clause without a count is removed
+-- A clause at its place, with its hash; a clause without a count is removed.
 pub record Slot : Type 0 where
   pub clause : StoredClause
   pub hash : ℕ
 
--- the slot of a clause with these counts
+-- The slot of a clause with these counts.
 abbrev pub slot_with : ℕ → ℕ → ℕ → ℕ → List ℕ → Slot
 slot_with id irredundant redundant hash literals = record { clause = record { id = id; literals = literals; irredundant = irredundant; redundant = redundant }; hash = hash }
 
--- the slot of a removed clause
+-- The slot of a removed clause.
 abbrev pub unstored : ℕ → ℕ → List ℕ → Slot
 unstored id hash literals = slot_with id 0 0 hash literals
 
--- the slot at a place, or a removed one without literals if there is none
+-- The slot at `place`, or that of a removed clause without literals if there is none.
 abbrev pub slot_at : List Slot → ℕ → Slot
 slot_at slots place = slice_index_or slots place (unstored 0 0 [])
 
--- the literals of the clause at a place, even if it is removed
+-- The literals of the clause at `place`, even if it is removed.
 abbrev pub literals_at : List Slot → ℕ → List ℕ
 literals_at slots place = (slot_at slots place).clause.literals
 
--- the literals of every clause, by place, including removed ones
+-- The literals of every clause, by place, including removed ones.
 abbrev pub all_lits : List Slot → List (List ℕ)
 all_lits = map (λ s. s.clause.literals)
 
--- how often a clause is stored as redundant (true) or as irredundant
+-- How often a clause is stored as redundant (true) or as irredundant.
 abbrev pub slot_count : Bool → Slot → ℕ
 slot_count redundant s = if redundant then s.clause.redundant else s.clause.irredundant
 
--- the slots after the clause at a place gets one more count
+-- The slots once the clause at `place` has one more count, redundant or irredundant.
 abbrev pub with_count_at : Bool → ℕ → List Slot → List Slot
 with_count_at redundant place slots = slice_set slots place (record (slot_at slots place) { clause = with_count redundant (slot_at slots place).clause })
 
--- the slots after the clause at a place loses one count; without a count, it is removed
+-- The slots once the clause at `place` has one count fewer. Without a count, it is removed.
 abbrev pub without_count_at : Bool → ℕ → List Slot → List Slot
 without_count_at redundant place slots = slice_set slots place (record (slot_at slots place) { clause = without_count redundant (slot_at slots place).clause })
 
--- the slots after the clause at a place gets this hash
+-- The slots once the clause at `place` has this hash.
 abbrev pub with_hash_at : ℕ → ℕ → List Slot → List Slot
 with_hash_at hash place slots = slice_set slots place (record (slot_at slots place) { hash = hash })
 
--- the ids by place, including those of removed clauses
+-- The ids by place, including those of removed clauses.
 abbrev pub slot_ids : List Slot → List ℕ
 slot_ids = map (λ s. s.clause.id)
 
--- the clauses that are not removed
+-- The clauses that are not removed.
 abbrev pub live : List Slot → List StoredClause
 live [] = []
 live (s ∷ ss) = unless_gone s.clause ++ live ss
 
--- whether a clause has no count
+-- `is_gone s` is true if the clause has no count.
 abbrev pub is_gone : Slot → Bool
 is_gone s = s.clause.irredundant == 0 && s.clause.redundant == 0
 
--- the number of removed clauses
+-- The number of removed clauses.
 abbrev pub gone_count : List Slot → ℕ
 gone_count [] = 0
 gone_count (s ∷ ss) = (if is_gone s then 1 else 0) + gone_count ss
 
--- the slots without those of removed clauses
+-- The slots without those of removed clauses.
 abbrev pub slots_present : List Slot → List Slot
 slots_present = filter (λ s. not (is_gone s))
 
--- that the removed clauses were dropped, or nothing changed
+-- `CompactsOrKeeps old new` holds if the removed clauses were dropped, or nothing changed.
 abbrev pub CompactsOrKeeps : List Slot → List Slot → Type 0
 CompactsOrKeeps old new = (new ≡ old) ⊎ (new ≡ slots_present old)
 
--- that a clause with this id is at this place, and is not removed
+-- `IsPresentAt slots id place` holds if the clause at `place` has this id and is not removed.
 pub record IsPresentAt (slots : List Slot) (id place : ℕ) : Type 0 where
   pub inside : place < length slots
   pub id_is : (slot_at slots place).clause.id ≡ id
   pub there : is_gone (slot_at slots place) ≡ false
 
--- the slot of a clause that was stored once
+-- The slot of a clause that was stored once.
 abbrev pub stored_slot : Bool → ℕ → ℕ → List ℕ → Slot
 stored_slot redundant id hash literals = record { clause = new_clause redundant id literals; hash = hash }
 
--- whether a clause is not removed and has this hash
+-- `is_filed hash s` is true if the clause is not removed and has this hash.
 abbrev pub is_filed : ℕ → Slot → Bool
 is_filed hash s = not (is_gone s) && s.hash == hash
 
--- the literals of the clauses with this hash
+-- The literals of the clauses with this hash.
 abbrev pub bucket_in : ℕ → List Slot → List (List ℕ)
 bucket_in hash slots = all_lits (filter (is_filed hash) slots)
 
--- the literals of the clauses with a hash, as a function of the hash
+-- The literals of the clauses with a hash, as a function of the hash.
 abbrev pub bucket_of : List Slot → ℕ → List (List ℕ)
 bucket_of slots hash = bucket_in hash slots
 
--- the number of literals of the clauses that are not removed
+-- The number of literals of the clauses that are not removed.
 abbrev pub live_length : List Slot → ℕ
 live_length slots = total_length (map (λ c. c.literals) (live slots))
 
--- the places of the clauses with this hash, if the first slot is at this place
+-- The places of the clauses with this hash, if the first slot is at `place`.
 abbrev pub places_from : ℕ → ℕ → List Slot → List ℕ
 places_from place hash [] = []
 places_from place hash (s ∷ ss) = if is_filed hash s then place ∷ places_from (place + 1) hash ss else places_from (place + 1) hash ss
 
--- the places of the clauses with this hash
+-- The places of the clauses with this hash.
 abbrev pub places_of : ℕ → List Slot → List ℕ
 places_of hash slots = places_from 0 hash slots
 
--- whether the clause at the place has these literals
+-- `is_same_at slots literals place` is true if the clause at `place` has these literals.
 abbrev pub is_same_at : List Slot → List ℕ → ℕ → Bool
 is_same_at slots literals place = same_literals (literals_at slots place) literals
 
--- the first of these places whose clause has the literals, or `None`
+-- The first of the places whose clause has these literals, or `None`.
 abbrev pub found_among : List Slot → List ℕ → List ℕ → Option ℕ
 found_among slots literals = find (is_same_at slots literals)
 
--- the slot with its hash by these solver names, at this width, unless its clause is removed
+-- The slot with the hash of its clause by these solver names, at this width. The slot of a removed clause is unchanged.
 abbrev pub hashed_by : (ℕ → Option ℕ) → ℕ → Slot → Slot
 hashed_by names width s = if is_gone s then s else record s { hash = hash_by names width s.clause.literals }
 
--- the slots with their hashes by these solver names, at this width, except those of removed clauses
+-- The slots with the hashes of their clauses by these solver names, at this width. The slots of removed clauses are
+-- unchanged.
 abbrev pub all_hashed_by : (ℕ → Option ℕ) → ℕ → List Slot → List Slot
 all_hashed_by names width = map (hashed_by names width)
 
--- the slots with their hashes by this hasher, except those of removed clauses
+-- The slots with the hashes of their clauses by this hasher. The slots of removed clauses are unchanged.
 abbrev pub hashed_anew : ClauseHasher → List Slot → List Slot
 hashed_anew h slots = all_hashed_by (solver_name_of h) (width_of h) slots

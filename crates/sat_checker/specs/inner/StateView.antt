@@ -12,39 +12,42 @@ use Rattle.sat_checker.specs.inner.VariablesView.{KeepsData, KeepsVariables}
 use Rattle.sat_checker.specs.declared.state.CheckerState.{CheckerState}
 use Rattle.sat_checker.specs.declared.store.StoreError.{StoreError}
 
--- that the state represents what is stored, once all clauses are filed by their current hashes
+-- `RepresentsStored state f` holds if the state represents `f`, once all clauses are filed by their current hashes.
 pub record RepresentsStored (state : CheckerState) (f : Stored) : Type 0 where
   pub formula : RepresentsFormula (rehashed_in state.formula) f
   pub variables : KeepsVariables state.variables f.variables
   pub assumed : state.assumed ≡ canonical f.assumed
 
--- that the state represents what is stored, and all clauses are filed by their current hashes
+-- `KeepsFiled state f` holds if the state represents `f`, and all clauses are filed by their current hashes.
 pub record KeepsFiled (state : CheckerState) (f : Stored) : Type 0 where
   pub formula : RepresentsFormula state.formula f
   pub variables : KeepsVariables state.variables f.variables
   pub assumed : state.assumed ≡ canonical f.assumed
 
--- That a step is accepted only if the definition accepts it, and the new state then represents its effect. A step is
--- refused only if the definition refuses it, and an error is returned only if the definition accepts it.
+-- `DecidesStep result old step new` holds if the step is accepted only if the rules accept it, and `new` then
+-- represents its effect; it is refused only if the rules refuse it, and an error is returned only if the rules accept
+-- it.
 abbrev pub DecidesStep : Result Bool StoreError → CheckerState → Step → CheckerState → Type 0
 DecidesStep result old step new = (f : Stored) → RepresentsStored old f → FormulaEffectIf result (Accepts f step) (RepresentsStored new (effect step f)) (effect step f)
 
--- the result of changing the state in this way, if all its clauses are filed by their current hashes
+-- `ChangesStored result old change new` holds if `new` represents `change f` for every `f` that `old` represents with
+-- all clauses filed by their current hashes, as far as `StoredOrExhausted` requires it of the result.
 abbrev pub ChangesStored : {T : Type 0} → Result T StoreError → CheckerState → (Stored → Stored) → CheckerState → Type 0
 ChangesStored result old change new = (f : Stored) → KeepsFiled old f → StoredOrExhausted result (RepresentsStored new (change f)) (change f)
 
--- what is stored after a derived clause; its variables are then known
+-- What is stored after a derived clause; its variables are then known.
 abbrev pub with_derived : Bool → List ℕ → Stored → Stored
 with_derived redundant clause f = with_stored redundant clause (with_literals_known clause f)
 
--- what is stored after a clause of the formula; its variables are then known
+-- What is stored after a clause of the formula; its variables are then known.
 abbrev pub with_added_clause : List ℕ → Stored → Stored
 with_added_clause clause f = with_input clause (with_literals_known clause f)
 
--- that the data of variables is unchanged unless the step is accepted
+-- `KeepsUnlessAccepted result old new` holds if the data of variables is unchanged, unless the step is accepted.
 abbrev pub KeepsUnlessAccepted : Result Bool StoreError → CheckerState → CheckerState → Type 0
 KeepsUnlessAccepted result old new = MatchResult result (λ accepted. accepted ≡ false → KeepsData old.variables new.variables) (λ _. KeepsData old.variables new.variables)
 
--- that the number of looks did not decrease, and rose at most by the bound of the step
+-- `LooksWithin state step old new` holds if the number of looks did not decrease, and rose at most by the bound of the
+-- step.
 abbrev pub LooksWithin : CheckerState → Step → ℕ → ℕ → Type 0
 LooksWithin state step old new = LooksOver (RepresentsStored state) (λ f. most_looks f step) old new

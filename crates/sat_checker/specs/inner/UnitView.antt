@@ -8,12 +8,13 @@ use Rattle.sat_checker.specs.inner.LitNumbers.{number_at, AreTrailPlaces}
 use Rattle.sat_checker.specs.declared.units.lit_numbers.LitNumbers.{LitNumbers}
 use Rattle.sat_checker.specs.declared.units.lit_numbers.LitPlaces.{LitPlaces}
 
--- the units in the order in which they were stored, and the literals that there is room for
+-- The units in the order in which they were stored, and the literals that there is room for.
 pub record UnitsAndRoom : Type 0 where
   pub units : List StoredUnit
   pub room : List ℕ
 
--- That exactly the units are assumed, in any order. Every literal has its unit's id and, if assumed, its trail place.
+-- `UnitsInvariant units ids places assigned` holds if exactly the units are assigned, in any order, and no unit is
+-- repeated. Every literal has its unit's id and, if assigned, its trail place.
 pub record UnitsInvariant (units : List StoredUnit) (ids : LitNumbers) (places : LitPlaces) (assigned : List ℕ) : Type 0 where
   pub assumed : (l : ℕ) → is_among assigned l ≡ is_among (map (λ u. u.literal) units) l
   pub once : NoRepeats (map (λ u. u.literal) units)

@@ -4,13 +4,14 @@ use Rattle.sat_base.specs.values.Literals.{negated}
 use Rattle.sat_checker.specs.LiteralSets.{is_among}
 pub use Rattle.sat_checker.specs.ClauseStates.{ClauseState, falsified, becomes_unit, neither, not_false, state_by_open, clause_state}
 
--- The assumed literals after a clause, or `None` if it is falsified. Every clause that is unit when visited is used.
+-- The assumed literals after a clause with this verdict, or `None` if it is falsified. Every clause that is unit when
+-- visited is used.
 abbrev pub walk_on : ClauseState → List ℕ → Option (List ℕ)
 walk_on falsified assumed = None
 walk_on (becomes_unit l) assumed = Some (l ∷ assumed)
 walk_on neither assumed = Some assumed
 
--- the rest of the walk, unless a clause was falsified
+-- What `next` gives for the literals assumed so far, or `None` if a clause was falsified.
 abbrev pub and_then : Option (List ℕ) → (List ℕ → Option (List ℕ)) → Option (List ℕ)
 and_then None next = None
 and_then (Some assumed) next = next assumed
@@ -20,12 +21,13 @@ abbrev pub walk : List ℕ → List (List ℕ) → Option (List ℕ)
 walk assumed [] = Some assumed
 walk assumed (c ∷ cs) = and_then (walk_on (clause_state assumed c) assumed) (λ more. walk more cs)
 
--- true if a conflict was met, otherwise the result for the literals assumed so far
+-- `if_conflict assumed next` is true if a conflict was reached (`None`), and is otherwise the value of `next` for the
+-- literals assumed so far.
 abbrev pub if_conflict : Option (List ℕ) → (List ℕ → Bool) → Bool
 if_conflict None next = true
 if_conflict (Some assumed) next = next assumed
 
--- whether the walk over the buckets meets a conflict before an empty bucket
+-- `walk_buckets assumed buckets` is true if the walk over the buckets reaches a conflict before an empty bucket.
 abbrev pub walk_buckets : List ℕ → List (List (List ℕ)) → Bool
 walk_buckets assumed [] = false
 walk_buckets assumed ([] ∷ bs) = false

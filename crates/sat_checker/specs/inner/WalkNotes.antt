@@ -2,7 +2,7 @@
 use Rattle.std.specs.Prelude.{ℕ, Bool, List, Option}
 use Rattle.sat_checker.specs.declared.rup.passed.Reason.{Reason}
 
--- the reasons in the order visited, the falsified clause, and whether the notes are unusable because memory ran out
+-- The reasons in the order visited, the falsified clause, and whether the notes are unusable because memory ran out.
 pub record WalkNotes : Type 0 where
   pub reasons : List Reason
   pub conflict : Option ℕ

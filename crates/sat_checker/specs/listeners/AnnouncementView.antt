@@ -13,16 +13,16 @@ use Rattle.sat_checker.specs.declared.announce.announcement.CheckedProofStep.The
 use Rattle.sat_checker.specs.declared.announce.announcement.CheckerData.{CheckerData}
 use Rattle.sat_checker.specs.declared.announce.announcement.Was.{Was}
 
--- whether the mode that the code announces is sample; otherwise it is witness
+-- `is_sampling mode` is true if the mode that the code announces is sample; otherwise it is witness.
 abbrev pub is_sampling : CheckedSamplingMode → Bool
 is_sampling modes.Sample = true
 is_sampling modes.Witness = false
 
--- what is announced about a variable that has a name, as the code represents it
+-- What is announced about a variable that has a name, as the code represents it.
 abbrev pub announced_user : CheckedUserVar → UserVariable
 announced_user u = record { name = u.user_var; sampling = is_sampling u.sampling_mode; is_new = u.new_var }
 
--- the announcement that the code's announcement represents
+-- The announcement that the code's announcement represents.
 abbrev pub announcement_of : CheckedProofStep → Announcement
 announcement_of (code.UserVar var user) = UserVar var (option_map announced_user user)
 announcement_of (code.DeleteVar var) = DeleteVar var
@@ -38,15 +38,15 @@ announcement_of (code.Model assignment) = Model assignment.now
 announcement_of (code.Assumptions assumptions) = Assumptions assumptions.now
 announcement_of (code.FailedAssumptions core ids) = FailedAssumptions core.now ids.now
 
--- the variables, with the earlier data of the given variable, if any
+-- The variables, but with the earlier data that is given for one of them, if any.
 abbrev pub looked_up : Option (Bor Was) → (ℕ → Variable) → ℕ → Variable
 looked_up None variables = variables
 looked_up (Some was) variables = λ v. if v == was.now.var then variable_of_data was.now.data else variables v
 
--- the variables that may be looked up
+-- The variables that may be looked up.
 abbrev pub variables_of : CheckerData → ℕ → Variable
 variables_of names = looked_up names.was (variable_at names.variables.now)
 
--- the announcement, with the variables that may be looked up
+-- The announcement that the code's step represents, with the variables that may be looked up.
 abbrev pub notice_of : CheckedProofStep → CheckerData → Notice
 notice_of step names = record { announcement = announcement_of step; variables = variables_of names }

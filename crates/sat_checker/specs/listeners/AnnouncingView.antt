@@ -9,20 +9,20 @@ use Rattle.sat_checker.specs.declared.announce.step_announcements.StoreClauseRes
 use Rattle.sat_checker.specs.declared.announce.step_announcements.StoreClauseResult.TheVariants as results
 use Rattle.sat_checker.specs.declared.announce.step_announcements.Deletion.{Deletion}
 
--- the announcement of a derived clause, given the change that it makes to what is stored
+-- The announcement of a derived clause, given the change that it makes to what is stored.
 abbrev pub stored_as : StoreClauseResult → ℕ → Bool → List ℕ → List ℕ → List Announcement
 stored_as results.New id redundant literals ids = AtClause id redundant literals ids ∷ []
 stored_as (results.NewlyIrredundant same) id redundant literals ids = MakeIrredundant same literals ∷ []
 stored_as results.Duplicate id redundant literals ids = []
 
--- what storing a clause of two literals or more changed, by how it was placed
+-- What storing a clause of two literals or more changed, by how it was placed.
 abbrev pub change_in : Bool → Placed → StoreClauseResult
 change_in redundant p = if p.is_new then results.New else if redundant then results.Duplicate else if p.irredundant == 0 then results.NewlyIrredundant p.id else results.Duplicate
 
--- the announcement that a clause with these literals is deleted, given how it was stored
+-- The announcement that a clause with these literals is deleted, given how it was stored.
 abbrev pub deletion_announced : List ℕ → Deletion → List Announcement
 deletion_announced literals d = if d.redundant then redundant_deleted (found_in literals d.stored) else irredundant_deleted (option_to_list d.from) (found_in literals d.stored)
 
--- that no unit is stored among the clauses of two or more literals
+-- `AreLong f` holds if no clause of one literal is stored among the clauses of two or more.
 abbrev pub AreLong : Stored → Type 0
 AreLong f = (l : ℕ) → clause_with (l ∷ []) f.clauses ≡ None

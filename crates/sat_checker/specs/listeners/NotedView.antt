@@ -12,14 +12,17 @@ use Rattle.sat_checker.specs.declared.announce.notes.Notes.{Notes}
 use Rattle.sat_checker.specs.declared.store.StoreError.{StoreError}
 use Rattle.sat_checker.specs.declared.state.CheckerState.{CheckerState}
 
--- that these announcements were appended to the notes, if there is a listener
+-- `AppendsAnnouncements before reported after` holds if these announcements were appended to the notes, provided that
+-- there is a listener.
 abbrev pub AppendsAnnouncements : Notes → List Announcement → Notes → Type 0
 AppendsAnnouncements before reported after = IsTrue before.hears → after.news ≡ before.news ++ reported
 
--- that the announcements of an accepted step were appended to the notes, if there is a listener
+-- `Announces result old step before after` holds if the announcements of the step were appended to the notes, provided
+-- that it was accepted and there is a listener.
 abbrev pub Announces : Result Bool StoreError → CheckerState → Step → Notes → Notes → Type 0
 Announces result old step before after = IfOk result (λ accepted. IsTrue accepted → (f : Stored) → RepresentsStored old f → AreLong f → AppendsAnnouncements before (announced f step) after)
 
--- that the change of storing a sorted set gives the announcement that the definition makes for the derived set
+-- `ChangesSet result redundant literals old` holds if the change of storing a sorted set gives the announcement that
+-- `derived_set` defines, whatever the ids are.
 abbrev pub ChangesSet : Result StoreClauseResult StoreError → Bool → List ℕ → Formula → Type 0
 ChangesSet result redundant literals old = IfOk result (λ change. (f : Stored) → RepresentsFormula old f → AreLong f → (ids : List ℕ) → stored_as change f.next_id redundant literals ids ≡ derived_set redundant literals ids f (id_of_set literals f))

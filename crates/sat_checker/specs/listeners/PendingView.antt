@@ -7,7 +7,7 @@ use Rattle.sat_checker.specs.declared.announce.pending.AnnouncementKind.{Announc
 use Rattle.sat_checker.specs.declared.announce.pending.AnnouncementKind.TheVariants as kinds
 use Rattle.sat_checker.specs.declared.announce.pending.Item.{Item}
 
--- an announcement of this kind, with these literals and ids
+-- An announcement of this kind, with these literals and ids.
 abbrev pub announcement_with : AnnouncementKind → List ℕ → List ℕ → Announcement
 announcement_with (kinds.UserVar var user) literals ids = UserVar var (option_map announced_user user)
 announcement_with (kinds.DeleteVar var) literals ids = DeleteVar var
@@ -22,11 +22,11 @@ announcement_with kinds.Model literals ids = Model literals
 announcement_with kinds.Assumptions literals ids = Assumptions literals
 announcement_with kinds.FailedAssumptions literals ids = FailedAssumptions literals ids
 
--- the announcement of an item, with the literals and ids at its places
+-- The announcement of an item, with the literals and ids at its places.
 abbrev pub announcement_at : List (List ℕ) → List (List ℕ) → Item → Announcement
 announcement_at literals ids i = announcement_with i.kind (slice_index_or literals i.literals []) (slice_index_or ids i.ids [])
 
--- that there are literals and ids at the item's places
+-- `IsItem literals ids i` holds if the item's places in the lists of literals and of ids exist.
 pub record IsItem (literals ids : List (List ℕ)) (i : Item) : Type 0 where
   pub literals_within : i.literals < length literals
   pub ids_within : i.ids < length ids

@@ -3,7 +3,7 @@ use Rattle.sat_checker.specs.announcements.Transcripts.{Transcribed, WitnessVar,
 use Rattle.sat_checker.specs.declared.announce.transcript.ProofTranscriptStep.{ProofTranscriptStep}
 use Rattle.sat_checker.specs.declared.announce.transcript.ProofTranscriptStep.TheVariants as code
 
--- the transcript step that the code's step represents
+-- The transcript step that the code's step represents.
 abbrev pub transcribed_of : ProofTranscriptStep → Transcribed
 transcribed_of (code.WitnessVar var) = WitnessVar var
 transcribed_of (code.SampleVar var) = SampleVar var

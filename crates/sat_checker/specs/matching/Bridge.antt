@@ -9,24 +9,27 @@ use Rattle.sat_base.specs.steps.Steps.{Step}
 use Rattle.sat_checker.specs.Fold.{Holds}
 use Rattle.sat_checker.specs.matching.Checking.{variable_of, CheckerRules, Accepted}
 
--- the live proof variables with their identities
+-- The live proof variables with their identities.
 abbrev pub LiveVariables : Type 0
 LiveVariables = List (ℕ × ℕ)
 
--- that the valuations of variables and of identities agree on the live variables
+-- `AgreesOnLive live a b` holds if the valuations `a` of proof variables and `b` of identities agree on the live
+-- variables.
 abbrev pub AgreesOnLive : LiveVariables → Valuation → Valuation → Type 0
 AgreesOnLive live a b = AllByRecursion (λ p. a p.0 ≡ b p.1) live
 
--- that every proof variable occurs once
+-- `AreDistinctVariables live` holds if every proof variable occurs at most once.
 abbrev pub AreDistinctVariables : LiveVariables → Type 0
 AreDistinctVariables [] = Unit {0}
 AreDistinctVariables (p ∷ ps) = AllByRecursion (λ q. q.0 ≡ p.0 → ⊥) ps × AreDistinctVariables ps
 
--- that some valuation of identities agrees with this valuation and satisfies the accepted clauses
+-- `HasAcceptedModel j live a` holds if some valuation of identities agrees with `a` on the live variables and satisfies
+-- the accepted clauses.
 abbrev pub HasAcceptedModel : ScriptState → LiveVariables → Valuation → Type 0
 HasAcceptedModel j live a = (b : Valuation) × AgreesOnLive live a b × EachHolds b j.clauses
 
--- the relation between a script state and accepted steps: their names and variables, and the valuations that they allow
+-- `IsBridge k j earlier live` holds if the script state `j` and the accepted steps agree on names and variables and on
+-- the valuations that they allow.
 pub record IsBridge (k : CheckerRules) (j : ScriptState) (earlier : List Step) (live : LiveVariables) : Type 0 where
   pub accepted : Accepted k earlier
   pub once : AreDistinctVariables live

@@ -7,13 +7,13 @@ use Rattle.sat_base.specs.script.ScriptState.{ScriptState, NameMode, Sampled, Wi
 use Rattle.sat_base.specs.steps.Steps.{Step, UserVarName, AddClause, Model, Assumptions, FailedAssumptions, End}
 use Rattle.sat_checker.specs.matching.Checking.{variable_of}
 
--- the outcome of an ask
+-- The outcome of an ask.
 pub data Outcome : Type 0 where
   Sat : List Literal → Outcome  -- with the literals of a model
   Unsat : List Literal → Outcome  -- with the literals of a core
   Unknown : Outcome
 
--- an ordered step that is expected, in terms of names
+-- An ordered step that is expected, in terms of names.
 pub data Expected : Type 0 where
   NewName : ℕ → Expected  -- a variable that is not known gets the name
   NoName : ℕ → Expected  -- the name is removed from its variable
@@ -24,28 +24,28 @@ pub data Expected : Type 0 where
   Closes : Expected  -- the end of an ask
   Finish : Expected
 
--- the steps expected for names that are introduced from left to right
+-- The steps expected for names that are introduced from left to right.
 abbrev pub introducing : List ℕ → ScriptState → List Expected
 introducing [] j = []
 introducing (name ∷ names) j = map NewName (new_names name j) ++ introducing names (introduce name j)
 
--- the steps expected for names that are hidden
+-- The steps expected for names that are hidden.
 abbrev pub hiding : List ℕ → ScriptState → List Expected
 hiding [] j = []
 hiding (name ∷ names) j = map NewName (new_names name j) ++ (NoName name ∷ hiding names (without_name name (introduce name j)))
 
--- the steps expected for names whose mode is set
+-- The steps expected for names whose mode is set.
 abbrev pub setting : NameMode → List ℕ → ScriptState → List Expected
 setting mode [] j = []
 setting mode (name ∷ names) j = map NewName (new_names name j) ++ setting mode names (with_mode mode name (introduce name j))
 
--- the step that shows an outcome, or none if it is unknown
+-- The step that shows an outcome, or none if it is unknown.
 abbrev pub showing : ScriptState → List Literal → Outcome → List Expected
 showing j ask (Sat line) = Shows (map (λ n. n.name) j.in_use) ask line ∷ []
 showing j ask (Unsat core) = Fails ask core ∷ []
 showing j ask Unknown = []
 
--- the steps expected for commands that are not refused, and their outcomes
+-- The steps expected for commands that are not refused, and their outcomes.
 abbrev pub expected : ScriptState → List Command → List Outcome → List Expected
 expected j [] outcomes = Finish ∷ []
 expected j (Clause ls ∷ commands) outcomes = introducing (names_of ls) j ++ (Adds ls ∷ expected (state_after_accepted (Clause ls) j) commands outcomes)
@@ -57,21 +57,23 @@ expected j (Hide names ∷ commands) outcomes = hiding names j ++ expected (stat
 expected j (Witness names ∷ commands) outcomes = setting Witnessed names j ++ expected (state_after_accepted (Witness names) j) commands outcomes
 expected j (Sample names ∷ commands) outcomes = setting Sampled names j ++ expected (state_after_accepted (Sample names) j) commands outcomes
 
--- that `code` is the literal of the proof variable for `l`; variables are found only through explicit names
+-- `Spells variable_of l code` holds if `code` is the literal of the proof variable that `variable_of` gives for the
+-- name of `l`, with its sign.
 pub record Spells (variable_of : ℕ → Option ℕ) (l : Literal) (code : ℕ) : Type 0 where
   pub variable : ℕ
   pub named : variable_of l.name ≡ Some variable
   pub is : code ≡ mk_lit variable l.positive
 
--- that for every literal of the list, its code is among the codes
+-- `EachSpelt names ls codes` holds if every literal of the list has its code among the codes.
 abbrev pub EachSpelt : (ℕ → Option ℕ) → List Literal → List ℕ → Type 0
 EachSpelt names ls codes = AllByRecursion (λ l. (code : ℕ) × Spells names l code × Among code codes) ls
 
--- that the literals and the codes are the same set
+-- `SameSet names ls codes` holds if the literals and the codes are the same set.
 abbrev pub SameSet : (ℕ → Option ℕ) → List Literal → List ℕ → Type 0
 SameSet names ls codes = EachSpelt names ls codes × AllByRecursion (λ code. (l : Literal) × Spells names l code × Among l ls) codes
 
--- that after these steps, with these variables known, the step is what is expected
+-- `Fits knows earlier expected step` holds if the step is what is expected after the earlier steps, with the variables
+-- known that `knows` says.
 pub data Fits (knows : ℕ → Bool) (earlier : List Step) : Expected → Step → Type 0 where
   new_name : {name v index : ℕ} → index + 1 ≡ name → knows v ≡ false
       → Fits knows earlier (NewName name) (UserVarName v (Some index))

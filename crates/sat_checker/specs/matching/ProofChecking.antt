@@ -3,6 +3,6 @@ use Rattle.sat_checker.specs.Accepts.{Accepts, ready_after}
 use Rattle.sat_checker.specs.Stored.{is_known}
 use Rattle.sat_checker.specs.matching.Checking.{CheckerRules}
 
--- the rules of the checker, with what it records and which variables it knows
+-- The rules of the checker, with what it records and which variables it knows.
 abbrev pub checker_rules : CheckerRules
 checker_rules = record { Accepts = λ earlier step. Accepts (ready_after earlier) step; unsat = λ earlier. (ready_after earlier).unsat; knows = λ earlier v. is_known v (ready_after earlier) }

@@ -4,8 +4,8 @@ use Rattle.sat_base.specs.steps.Steps.{Step}
 use Rattle.sat_checker.specs.matching.Checking.{CheckerRules, is_ordered}
 use Rattle.sat_checker.specs.matching.Expected.{Expected, Fits}
 
--- That the ordered steps between two lists of steps are the expected ones, in order. Every one of them fits after the
--- steps before it.
+-- `HasTrace k s t expected` holds if the ordered steps that lead from `s` to `t` are the expected ones, in order. Every
+-- one of them fits after the steps before it.
 pub data HasTrace (k : CheckerRules) : List Step → List Step → List Expected → Type 0 where
   no_step : {s : List Step} → HasTrace k s s []
   silent : {s t : List Step} {step : Step} {es : List Expected} → is_ordered step ≡ false → HasTrace k (step ∷ s) t es → HasTrace k s t es

@@ -54,7 +54,7 @@ impl Notes {
         }
     }
 
-    /// Whether a listener needs the notes.
+    /// Returns `true` if a listener needs the notes.
     #[inline(always)]
     pub fn has_listener(&self) -> bool
         ensures { result ≡ self.now.hears }
@@ -215,7 +215,7 @@ impl Formula {
         self.deletion_heard(literals, proof, looks)
     }
 
-    /// Does what `deletion` does if there is a listener: looks up the clause, and the id of the clause from which
+    /// Returns what `deletion` returns if there is a listener: looks up the clause, and the id of the clause from which
     /// it follows.
     #[inline(never)]
     fn deletion_heard(

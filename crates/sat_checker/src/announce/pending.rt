@@ -116,7 +116,7 @@ impl Model for PendingAnnouncements {
 }
 
 impl PendingAnnouncements {
-    /// Creates an empty list of announcements. Does not allocate.
+    /// Creates an empty list of announcements. Never allocates.
     pub fn new(alloc: Global) -> PendingAnnouncements
         ensures { result ≡ [] }
     {
@@ -143,7 +143,7 @@ impl PendingAnnouncements {
         self.items.len()
     }
 
-    /// Whether there are no announcements.
+    /// Returns `true` if there are no announcements.
     pub fn is_empty(&self) -> bool
         ensures { result ≡ true → self.now ≡ [] }
     {

@@ -113,7 +113,7 @@ impl LastClause {
     }
 }
 
-/// Whether the mode is `Sample` (if `sampling` is true) or `Witness` (if `sampling` is false).
+/// Returns `true` if the mode is `Sample` (if `sampling` is true) or `Witness` (if `sampling` is false).
 fn has_mode(mode: SamplingMode, sampling: bool) -> bool
     ensures { result ≡ (if sampling then is_sample (mode_in mode) else has_witness_mode (mode_in mode)) }
 {

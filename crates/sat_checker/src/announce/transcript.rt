@@ -52,7 +52,7 @@ pub struct Transcript {
 }
 
 impl Transcript {
-    /// Creates a transcript. Does not allocate.
+    /// Creates a transcript. Never allocates.
     pub fn new(alloc: Global) -> Transcript
         ensures { result.lits.items ≡ [] }
     {

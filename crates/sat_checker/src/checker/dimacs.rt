@@ -4,7 +4,7 @@ ghost use Rattle.std.specs.Io.{ReadsAtMost};
 ghost use Rattle.sat_base.specs.device.Device.{most_reads};
 ghost use Rattle.sat_base.specs.dimacs.Faults.{ReadsNext};
 ghost use Rattle.sat_base.specs.dimacs.Parsing.{all_taken, no_progress, ReportsEnded, StopsReading};
-ghost use Rattle.sat_checker.specs.CheckerView.{has_failed, kernel_of, seen_of, FailsAgain};
+ghost use Rattle.sat_checker.specs.CheckerView.{has_failed, kernel_of, looks_of, seen_of, FailsAgain};
 ghost use Rattle.sat_checker.specs.declared.error.CheckerDimacsError.TheVariants as errors;
 ghost use Rattle.sat_checker.specs.declared.error.CheckerError.TheVariants.{HasFailed};
 ghost use Rattle.sat_checker.specs.DimacsView.{AddsDimacs, DimacsFaultNeedsListener};
@@ -25,7 +25,7 @@ const PIECE: usize = 4096;
 /// The largest number of reads.
 const MAX_READS: u64 = 1 << 48;
 
-/// Whether the error is `OutOfMemory`, which makes the checker fail.
+/// Returns `true` if the error is `OutOfMemory`, which makes the checker fail.
 fn is_want(error: DimacsError) -> bool
     ensures { result ≡ is_out_of_memory error }
 {
@@ -38,7 +38,8 @@ fn is_want(error: DimacsError) -> bool
     }
 }
 
-/// Reads the next bytes of the text, or none if a line that begins with `%` has ended the text.
+/// Reads the next bytes of the text, or none if a line that begins with `%` has ended the text. Returns the number of
+/// bytes read.
 fn read_next<R: CountedRead>(
     parser: &DimacsParser,
     reader: &mut R,
@@ -67,7 +68,7 @@ impl<P: ProofProcessor, T: ProofTranscriptProcessor> Checker<P, T> {
         // Nothing is read after the line that ends the text.
         ensures stops { StopsReading (R.seen reader.old) (R.seen reader.new) }
         ensures reads { (R.seen reader.new).calls ≤ (R.seen reader.old).calls + most_reads }
-        ensures rise { kernel_looks (kernel_of self.old) ≤ kernel_looks (kernel_of self.new) }
+        ensures rise { looks_of (seen_of self.old) ≤ looks_of (seen_of self.new) }
         ensures faults { DimacsFaultNeedsListener result self.old }
         ensures failed { FailsAgain (errors.Checker HasFailed) result self.old self.new }
     {

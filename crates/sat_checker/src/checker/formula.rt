@@ -1,7 +1,6 @@
 //! Adds a formula, clause by clause.
 ghost use Rattle.std.specs.Prelude.{◌≤◌};
-ghost use Rattle.sat_checker.specs.CheckerView.{kernel_of, seen_of, FaultNeedsListener, FailsAgain};
-ghost use Rattle.sat_checker.specs.KernelView.{kernel_looks};
+ghost use Rattle.sat_checker.specs.CheckerView.{seen_of, looks_of, FaultNeedsListener, FailsAgain};
 ghost use Rattle.sat_checker.specs.declared.error.CheckerError.TheVariants.{HasFailed};
 ghost use Rattle.sat_checker.specs.listeners.ProcessingView.{HearsEach};
 ghost use Rattle.sat_checker.specs.ClausesView.{AddsClauses};
@@ -18,7 +17,7 @@ impl<P: ProofProcessor, T: ProofTranscriptProcessor> Checker<P, T> {
     pub fn add_formula(&mut self, formula: &CnfFormula) -> Result<(), CheckerError>
         ensures adds { AddsClauses (HearsEach P.takes T.reads)
             result (seen_of self.old) (seen_of self.new) formula.now.clauses }
-        ensures rise { kernel_looks (kernel_of self.old) ≤ kernel_looks (kernel_of self.new) }
+        ensures rise { looks_of (seen_of self.old) ≤ looks_of (seen_of self.new) }
         ensures faults { FaultNeedsListener result self.old }
         ensures failed { FailsAgain HasFailed result self.old self.new }
     {

@@ -6,7 +6,8 @@ ghost use Rattle.sat_base.specs.steps.Steps.{End};
 ghost use Rattle.sat_base.specs.steps.StepReading.{reader_source, reader_name, has_reader_failed as is_stopped};
 ghost use Rattle.sat_base.specs.steps.StepViews.{step_of};
 ghost use Rattle.sat_checker.specs.KernelView.{kernel_has_failed, kernel_looks};
-ghost use Rattle.sat_checker.specs.CheckerView.{kernel_of, seen_of, seen_with, FaultNeedsListener, FailsAgain};
+ghost use Rattle.sat_checker.specs.CheckerView.{kernel_of, seen_of, seen_with, looks_of};
+ghost use Rattle.sat_checker.specs.CheckerView.{FaultNeedsListener, FailsAgain};
 ghost use Rattle.sat_checker.specs.declared.error.CheckerError.TheVariants.{HasFailed, OutOfMemory};
 ghost use Rattle.sat_checker.specs.announcements.Announcements.{Notice};
 ghost use Rattle.sat_checker.specs.ProofView.{ChecksProof, FoundNoEnd};
@@ -34,7 +35,7 @@ fn unread_error(error: StepError) -> CheckerError
     }
 }
 
-/// Whether the error is `OutOfMemory`, which makes the checker fail.
+/// Returns `true` if the error is `OutOfMemory`, which makes the checker fail.
 fn is_final(error: StepError) -> bool
     ensures { result ≡ is_final error }
 {
@@ -48,7 +49,7 @@ fn is_final(error: StepError) -> bool
     }
 }
 
-/// Whether the step is `End`.
+/// Returns `true` if the step is `End`.
 fn is_end(step: &ProofStep<'_>) -> bool
     ensures { MatchBool result (step_of step.now ≡ End) (step_of step.now ≢ End) }
 {
@@ -63,7 +64,7 @@ impl<P: ProofProcessor, T: ProofTranscriptProcessor> Checker<P, T> {
         ensures proof { ChecksProof (HearsEach P.takes T.reads)
             result (seen_of self.old) (seen_of self.new) (R.seen reader.old) (R.seen reader.new) }
         ensures unended { IsErrOf result OutOfMemory → FoundNoEnd (R.seen reader.old) (R.seen reader.new) }
-        ensures rise { kernel_looks (kernel_of self.old) ≤ kernel_looks (kernel_of self.new) }
+        ensures rise { looks_of (seen_of self.old) ≤ looks_of (seen_of self.new) }
         ensures faults { FaultNeedsListener result self.old }
         ensures failed { FailsAgain HasFailed result self.old self.new }
     {
@@ -81,7 +82,7 @@ impl<P: ProofProcessor, T: ProofTranscriptProcessor> Checker<P, T> {
         ensures proof { ChecksProof (HearsFirst O.takes (HearsEach P.takes T.reads))
             result (seen_with own.old self.old) (seen_with own.new self.new) (R.seen reader.old) (R.seen reader.new) }
         ensures unended { IsErrOf result OutOfMemory → FoundNoEnd (R.seen reader.old) (R.seen reader.new) }
-        ensures rise { kernel_looks (kernel_of self.old) ≤ kernel_looks (kernel_of self.new) }
+        ensures rise { looks_of (seen_of self.old) ≤ looks_of (seen_of self.new) }
         ensures failed { FailsAgain HasFailed result self.old self.new }
     {
         self.check_proof_by(reader, own, true)
@@ -135,7 +136,7 @@ impl<P: ProofProcessor, T: ProofTranscriptProcessor> Checker<P, T> {
         }
     }
 
-    /// Reads and checks the next step. Returns whether the step is `End`.
+    /// Reads and checks the next step. Returns `true` if the step is `End`.
     fn check_next<R: CountedRead, O: ProofProcessor>(
         &mut self,
         steps: &mut StepReader<'_, R>,

@@ -22,14 +22,13 @@ use crate::formula::Formula;
 use crate::looks::Looks;
 use crate::state::status::LastClause;
 use crate::store::StoreError;
-use crate::units::valuation::{
-    are_apart, assume_apart, assume_roomy, have_room, is_strictly_assumed,
-};
+use crate::units::valuation::{assume_apart, assume_roomy, have_room, is_strictly_assumed};
+use crate::unsorted_lits::are_apart;
 use sat_base::{DeleteClauseProof, Lit};
 use std::alloc::AllocError;
 
 impl Formula {
-    /// Whether the literals are a model of the stored formula. Runs out of memory only if they are.
+    /// Returns `true` if the literals are a model of the stored formula. Runs out of memory only if they are.
     pub fn fits(&mut self, literals: &[Lit], looks: &mut Looks) -> Result<bool, AllocError>
         ensures exact { IfOk result (λ fits. (f : Stored) → RepresentsFormula (rehashed_in self.old) f
             → IsTrue fits ↔ FitsModel f literals.now) }
@@ -48,7 +47,7 @@ impl Formula {
         }
     }
 
-    /// Does what `fits` does once memory has run out: returns false if the literals are not a model of the stored
+    /// Does what `fits` does once memory has run out: returns `false` if the literals are not a model of the stored
     /// formula, and an error if they are.
     fn fail_if_met(&mut self, literals: &[Lit], looks: &mut Looks) -> Result<bool, AllocError>
         requires { self.old.status.unsat ≡ false }
@@ -79,8 +78,8 @@ impl Formula {
         assume_roomy(&mut self.marks, literals);
     }
 
-    /// Whether the literals include no negation of a unit, and satisfy every irredundant clause. The literals for which
-    /// there is room must be marked.
+    /// Returns `true` if the literals include no negation of a unit, and satisfy every irredundant clause. The literals
+    /// for which there is room must be marked.
     fn are_met(&self, literals: &[Lit], looks: &mut Looks) -> bool
         requires { AgreesOn self.now.marks.room self.now.marks.literals literals.now }
         ensures met { (f : Stored) → RepresentsFormula (rehashed_in self.now) f
@@ -91,7 +90,7 @@ impl Formula {
         !self.units.are_contradicted(literals) && self.store.are_satisfied(&self.marks, looks)
     }
 
-    /// Decides on a deletion once memory has run out: returns false if the clause may not be deleted for the reason
+    /// Decides on a deletion once memory has run out: returns `false` if the clause may not be deleted for the reason
     /// `proof`, and `OutOfMemory` if it may.
     pub fn fail_if_deletable(
         &mut self,
@@ -112,7 +111,7 @@ impl Formula {
         Ok(false)
     }
 
-    /// Whether a clause may be deleted for the reason `proof`. Does not allocate.
+    /// Returns `true` if a clause may be deleted for the reason `proof`. Never allocates.
     pub fn may_delete_in_room(
         &mut self,
         clause: &[Lit],
@@ -132,7 +131,8 @@ impl Formula {
         self.may_delete_marked(clause, proof, looks)
     }
 
-    /// Whether a clause may be deleted for the reason `proof`. Exactly the literals of `clause` must be marked.
+    /// Returns `true` if a clause may be deleted for the reason `proof`. Exactly the literals of `clause` must be
+    /// marked.
     fn may_delete_marked(&self, clause: &[Lit], proof: DeleteClauseProof, looks: &mut Looks) -> bool
         requires { (l : ℕ) → is_among self.now.marks.literals l ≡ is_among clause.now l }
         ensures exact { (f : Stored) → RepresentsFormula self.now f
@@ -151,8 +151,8 @@ impl Formula {
         }
     }
 
-    /// Whether a clause is stored as redundant, if `redundant` is true, or as irredundant otherwise. Exactly the
-    /// literals of `clause` must be marked.
+    /// Returns `true` if a clause is stored as redundant, if `redundant` is true, or as irredundant otherwise. Exactly
+    /// the literals of `clause` must be marked.
     fn marked_has_count(&self, redundant: bool, clause: &[Lit], looks: &mut Looks) -> bool
         requires { (l : ℕ) → is_among self.now.marks.literals l ≡ is_among clause.now l }
         ensures found { (f : Stored) → RepresentsFormula self.now f
@@ -163,8 +163,8 @@ impl Formula {
         self.store.assumed_count(redundant, &self.marks, looks) > 0
     }
 
-    /// Whether the last irredundant clause stored is still stored, and its literals are a proper subset of the
-    /// marked literals.
+    /// Returns `true` if the last irredundant clause stored is still stored, and its literals are a proper subset of
+    /// the marked literals.
     fn has_last_marked(&self, looks: &mut Looks) -> bool
         ensures part { (f : Stored) → RepresentsFormula self.now f
             → MatchBool result (IsStrictSubset (last_literals f.last f) self.now.marks.literals)

@@ -28,7 +28,7 @@ fn assume(assigned: &mut Assigned, lit: Lit)
     }
 }
 
-/// Whether the first unit with the same variable as `lit` is `lit` itself.
+/// Returns `true` if the first unit with the same variable as `lit` is `lit` itself.
 fn stands_first(units: &[(Lit, ClauseHash)], lit: Lit) -> bool
     ensures { result ≡ stands_first (map (λ u. u.0) units.now) lit }
 {
@@ -43,15 +43,15 @@ fn stands_first(units: &[(Lit, ClauseHash)], lit: Lit) -> bool
     false
 }
 
-/// Whether there is no room for `lit`, and the first unit in `before` with the same variable is `lit` itself.
+/// Returns `true` if there is no room for `lit`, and the first unit in `before` with the same variable is `lit` itself.
 fn came_in(assigned: &Assigned, before: &[(Lit, ClauseHash)], lit: Lit) -> bool
     ensures { result ≡ (not (is_among assigned.now.room lit) && stands_first (map (λ u. u.0) before.now) lit) }
 {
     !assigned.has_room(lit) && stands_first(before, lit)
 }
 
-/// Whether a unit passes, given the units before it. Runs out of memory only if there is no room for a literal of a
-/// stored clause.
+/// Returns `true` if a unit passes, given the units before it. Runs out of memory only if there is no room for a
+/// literal of a stored clause.
 fn passes(
     store: &Store,
     before: &[(Lit, ClauseHash)],
@@ -89,8 +89,8 @@ fn passes(
     answer
 }
 
-/// Whether every unit in `units` after the first passes, given the units before it. Exactly the stored units must
-/// be assumed.
+/// Returns `true` if every unit in `units` after the first passes, given the units before it. Exactly the stored units
+/// must be assumed.
 pub(crate) fn pass_in_turn(
     store: &Store,
     units: &[(Lit, ClauseHash)],

@@ -175,7 +175,7 @@ impl Needed {
         Ok(())
     }
 
-    /// Whether a marked literal is a unit.
+    /// Returns `true` if a marked literal is a unit.
     pub fn has_unit(&self, units: &Units) -> bool
         ensures { result ≡ false → (l : ℕ) → is_among self.now.marked.literals l ≡ true
             → is_among (map (λ u. u.literal) units.now.units) l ≡ false }

@@ -99,7 +99,7 @@ impl Passed {
         self.lost = true;
     }
 
-    /// Whether the notes are unusable.
+    /// Returns `true` if the notes are unusable.
     pub fn is_lost(&self) -> bool
         ensures { result ≡ self.now.lost }
     {

@@ -49,14 +49,14 @@ impl LitSet {
         }
     }
 
-    /// Whether the literal is in the set.
+    /// Returns `true` if the literal is in the set.
     fn has(&self, lit: Lit) -> bool
         ensures { result ≡ is_among self.now lit }
     {
         self.lits.binary_search(&lit).is_ok()
     }
 
-    /// Whether all literals of `part` are in the set.
+    /// Returns `true` if all literals of `part` are in the set.
     pub fn has_all(&self, part: &[Lit]) -> bool
         ensures { result ≡ is_subset_of part.now self.now }
     {
@@ -68,7 +68,7 @@ impl LitSet {
         true
     }
 
-    /// Whether the set contains a literal of the variable.
+    /// Returns `true` if the set contains a literal of the variable.
     pub fn mentions(&self, var: Var) -> bool
         ensures { result ≡ mentions self.now var }
     {

@@ -131,7 +131,7 @@ impl Clauses {
         self.index.next(mixed(hash), place)
     }
 
-    /// Whether the literals of the clause at `place` are `literals`.
+    /// Returns `true` if the literals of the clause at `place` are `literals`.
     fn is_same(&self, place: usize, literals: &[Lit], looks: &mut Looks) -> bool
         requires { place < length self.now }
         ensures same { result ≡ is_same_at self.now literals.now place }
@@ -190,14 +190,14 @@ impl Clauses {
         self.occurrences.has_literal(lit)
     }
 
-    /// Whether any clause that is not removed contains the variable. Counts no looks.
+    /// Returns `true` if any clause that is not removed contains the variable. Counts no looks.
     pub fn mention(&self, var: Var) -> bool
         ensures { result ≡ list_any (λ c. mentions c.literals var) (live self.now) }
     {
         self.occurrences.has(var)
     }
 
-    /// Whether every clause that is stored as irredundant contains an assumed literal.
+    /// Returns `true` if every clause that is stored as irredundant contains an assumed literal.
     pub fn are_satisfied(&self, assigned: &Assigned, looks: &mut Looks) -> bool
         ensures found { result ≡ are_all_true assigned.now.literals (live self.now) }
         ensures looks { LooksUpTo (live_length self.now) looks.old looks.new }
@@ -261,7 +261,7 @@ impl Clauses {
         Ok(())
     }
 
-    /// Files the present clauses again, under the hashes that `hasher` computes. Does not allocate.
+    /// Files the present clauses again, under the hashes that `hasher` computes. Never allocates.
     pub fn rehash(&mut self, hasher: &ClauseHasher, looks: &mut Looks)
         ensures hashed { self.new ≡ hashed_anew hasher.now self.old }
         ensures looks { LooksUpTo (live_length self.old) looks.old looks.new }

@@ -191,8 +191,8 @@ pub(crate) fn link_all(heads: &mut [u32], links: &mut [Link], shift: u32)
     }
 }
 
-/// Links a pair of the hash `hash` and the place `place` to the head of its list. Only pairs at later places may already
-/// be linked.
+/// Links a pair of the hash `hash` and the place `place` to the head of its list. Only pairs at later places may
+/// already be linked.
 #[inline(always)]
 pub(crate) fn link_before(
     heads: &mut [u32],

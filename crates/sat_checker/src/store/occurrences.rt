@@ -6,8 +6,8 @@ ghost use Rattle.sat_checker.specs.inner.OccurrenceView.{count_at, times_in};
 use sat_base::{Lit, Table, Var};
 use std::alloc::{AllocError, Global};
 
-/// A count for each literal, indexed by literal code. Counts have 32 bits: a clause contains a literal at most once, and
-/// callers count fewer than 2^32 clauses.
+/// A count for each literal, indexed by literal code. Counts have 32 bits: a clause contains a literal at most once,
+/// and callers count fewer than 2^32 clauses.
 #[derive(Drop)]
 pub struct Occurrences {
     counts: Table<u32>,
@@ -121,7 +121,7 @@ impl Occurrences {
         self.counts.get(lit.code(), 0)
     }
 
-    /// Whether the count of a literal of the variable is above zero.
+    /// Returns `true` if the count of a literal of the variable is above zero.
     pub fn has(&self, var: Var) -> bool
         ensures { MatchBool result (0 < count_at self.now (2 * var) + count_at self.now (2 * var + 1))
             (count_at self.now (2 * var) + count_at self.now (2 * var + 1) ≡ 0) }

@@ -24,7 +24,7 @@ pub struct ClauseLits {
 }
 
 impl ClauseLits {
-    /// Stores literals inline, or at the end of `buffer`.
+    /// Stores literals inline, or at the end of `buffer`, and returns where they are.
     fn new(buffer: &mut Vec<Lit>, literals: &[Lit]) -> Result<ClauseLits, AllocError>
         ensures kept { (more : List ℕ) × (buffer.new.items ≡ buffer.old.items ++ more) }
         ensures within { IfOk result (λ c. LitsWithin buffer.new.items c) }
@@ -173,7 +173,7 @@ impl Slots {
         }
     }
 
-    /// Whether the clause at `place` is removed, that is, whether both of its counts are zero.
+    /// Returns `true` if the clause at `place` is removed, that is, whether both of its counts are zero.
     pub fn is_gone(&self, place: usize) -> bool
         requires { place < length self.now }
         ensures { result ≡ is_gone (slot_at self.now place) }

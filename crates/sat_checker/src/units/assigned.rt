@@ -106,7 +106,7 @@ impl Assigned {
         self.marks.near()
     }
 
-    /// Whether a literal is assumed.
+    /// Returns `true` if a literal is assumed.
     #[inline(always)]
     pub fn is_true(&self, lit: Lit) -> bool
         ensures { result ≡ is_among self.now.literals lit }
@@ -117,7 +117,7 @@ impl Assigned {
         }
     }
 
-    /// Whether there is room for a literal.
+    /// Returns `true` if there is room for a literal.
     #[inline(always)]
     pub fn has_room(&self, lit: Lit) -> bool
         ensures { result ≡ is_among self.now.room lit }
@@ -261,7 +261,7 @@ pub fn make_room_for(assigned: &mut Assigned, clause: &[Lit]) -> Result<(), Allo
     Ok(())
 }
 
-/// Assumes a literal if there is room for it and it isn't already assumed. Does not allocate.
+/// Assumes a literal if there is room for it and it isn't already assumed. Never allocates.
 pub fn assume_if_roomy(assigned: &mut Assigned, lit: Lit)
     ensures literals { assigned.new.literals
         ≡ (if is_among assigned.old.room lit && not (is_among assigned.old.literals lit)
@@ -351,7 +351,7 @@ fn number_if(counts: bool, number: usize) -> usize
     usize::from(counts).wrapping_mul(number)
 }
 
-/// Whether a mark says that the literal is assumed.
+/// Returns `true` if a mark says that the literal is assumed.
 #[inline(always)]
 fn is_assumed(mark: Mark) -> bool
     ensures { result ≡ is_assumed mark }
@@ -362,7 +362,7 @@ fn is_assumed(mark: Mark) -> bool
     }
 }
 
-/// Does what `look_at` does, even for literals with large codes.
+/// Returns what `look_at` returns, even for literals with large codes.
 #[inline(never)]
 fn look_far(assigned: &Assigned, clause: &[Lit]) -> Look
     ensures { clause_state_of result ≡ clause_state assigned.now.literals clause.now }

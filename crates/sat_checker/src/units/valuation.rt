@@ -33,7 +33,7 @@ pub(crate) fn assume_apart(assigned: &mut Assigned, literals: &[Lit]) -> Result<
 }
 
 /// Assumes the literals, from the first to the last, up to one for which there is no room or that is already assumed.
-/// Returns `true` if this assumed all of them. Does not allocate.
+/// Returns `true` if this assumed all of them. Never allocates.
 pub(crate) fn assume_distinct(assigned: &mut Assigned, literals: &[Lit]) -> bool
     requires { assigned.old.literals ≡ [] }
     ensures assumed { result ≡ true → assigned.new.literals ≡ reverse literals.now }
@@ -47,7 +47,7 @@ pub(crate) fn assume_distinct(assigned: &mut Assigned, literals: &[Lit]) -> bool
     true
 }
 
-/// Assumes only the literals for which there is room. Does not allocate.
+/// Assumes only the literals for which there is room. Never allocates.
 pub(crate) fn assume_roomy(assigned: &mut Assigned, literals: &[Lit])
     requires { assigned.old.literals ≡ [] }
     ensures marked { (l : ℕ) → is_among assigned.new.literals l
@@ -59,7 +59,7 @@ pub(crate) fn assume_roomy(assigned: &mut Assigned, literals: &[Lit])
     }
 }
 
-/// Whether there is room for all of the literals.
+/// Returns `true` if there is room for all of the literals.
 #[tactic(auto, using(crate::proofs::lemmas::sets::Parts::each_literal))]
 pub(crate) fn have_room(assigned: &Assigned, literals: &[Lit]) -> bool
     ensures { result ≡ is_subset_of literals.now assigned.now.room }
@@ -72,7 +72,7 @@ pub(crate) fn have_room(assigned: &Assigned, literals: &[Lit]) -> bool
     true
 }
 
-/// Whether all of the literals are assumed.
+/// Returns `true` if all of the literals are assumed.
 #[tactic(auto, using(crate::proofs::lemmas::sets::Parts::each_literal))]
 fn are_assumed(assigned: &Assigned, literals: &[Lit]) -> bool
     ensures { result ≡ is_subset_of literals.now assigned.now.literals }
@@ -85,7 +85,7 @@ fn are_assumed(assigned: &Assigned, literals: &[Lit]) -> bool
     true
 }
 
-/// Whether a clause of sorted literals consists of exactly the assumed literals.
+/// Returns `true` if a clause of sorted literals consists of exactly the assumed literals.
 pub(crate) fn has_just_assumed(assigned: &Assigned, clause: &[Lit]) -> bool
     requires { IsIncreasing clause.now }
     ensures { result ≡ same_literals clause.now (canonical assigned.now.literals) }
@@ -94,7 +94,7 @@ pub(crate) fn has_just_assumed(assigned: &Assigned, clause: &[Lit]) -> bool
     clause.len() == assumed.len() && are_assumed(assigned, clause)
 }
 
-/// Whether the literals of a clause, which must be sorted, are a proper subset of the assumed literals.
+/// Returns `true` if the literals of a clause, which must be sorted, are a proper subset of the assumed literals.
 pub(crate) fn is_strictly_assumed(assigned: &Assigned, clause: &[Lit]) -> bool
     requires { IsIncreasing clause.now }
     ensures { result ≡ (is_subset_of clause.now assigned.now.literals && not (is_subset_of assigned.now.literals clause.now)) }
@@ -103,20 +103,7 @@ pub(crate) fn is_strictly_assumed(assigned: &Assigned, clause: &[Lit]) -> bool
     clause.len() < assumed.len() && are_assumed(assigned, clause)
 }
 
-/// Whether no two of the literals have the same variable. Does not allocate.
-pub(crate) fn are_apart(literals: &[Lit]) -> bool
-    ensures { MatchBool result (VariablesDistinct literals.now) (VariablesDistinct literals.now → ⊥) }
-{
-    for place in 0..literals.len() {
-        let (_, following) = literals.split_at(place + 1);
-        if mentions(following, literals[place].var()) {
-            return false;
-        }
-    }
-    true
-}
-
-/// Whether a literal of the clause is assumed.
+/// Returns `true` if a literal of the clause is assumed.
 #[tactic(auto, using(crate::proofs::lemmas::state::Scanning::any_literal))]
 pub(crate) fn makes_true(assigned: &Assigned, clause: &[Lit]) -> bool
     ensures { result ≡ list_any (is_among assigned.now.literals) clause.now }
@@ -129,7 +116,7 @@ pub(crate) fn makes_true(assigned: &Assigned, clause: &[Lit]) -> bool
     false
 }
 
-/// Whether the clause contains a literal of the variable.
+/// Returns `true` if the clause contains a literal of the variable.
 #[tactic(auto, using(crate::proofs::lemmas::state::Scanning::any_literal))]
 pub(crate) fn mentions(clause: &[Lit], var: Var) -> bool
     ensures { result ≡ mentions clause.now var }

@@ -36,6 +36,7 @@ module _ (f : Stored) (lines : List Line) (m : Mirrors f lines) where
   under_units (u ∷ us) h rest cs e =
       ap (λ o. and_clauses o (clauses_under (map (λ w. w.id) us ++ rest) lines)) (one_each (λ (w : StoredUnit). IsUnder lines w.id (w.literal ∷ [])) u f.units m.units h.0) ∙ ap (and_clauses (Some (u.literal ∷ []))) (under_units us h.1 rest cs e)
 
+  -- the clauses on which a step rests are present, under the ids that it names
   pub rests_present : (clause ids : List ℕ) → (r : RestsOn f clause ids) → clauses_under ids lines ≡ Some (map (λ u. u.literal ∷ []) r.units ++ map (λ c. c.literals) r.clauses)
   rests_present clause ids r = ap (λ is. clauses_under is lines) r.are ∙ under_units r.units r.units_stored (map (λ c. c.id) r.clauses) (map (λ c. c.literals) r.clauses) (under_clauses r.clauses r.clauses_stored)
 

@@ -13,10 +13,12 @@ accepted_before : (steps earlier : List Step) → AcceptsAll (taken_after steps 
 accepted_before [] earlier ok = ok
 accepted_before (s ∷ ss) earlier ok = (accepted_before ss (s ∷ earlier) ok).0
 
+-- a step of an accepted list is accepted after the steps before it
 pub accepted_at : (front : List Step) (step : Step) (following earlier : List Step) → AcceptsAll (taken_after (front ++ step ∷ following) earlier) → Accepts (ready_after (taken_after front earlier)) step
 accepted_at [] step following earlier ok = (accepted_before following (step ∷ earlier) ok).1
 accepted_at (s ∷ ss) step following earlier ok = accepted_at ss step following (s ∷ earlier) ok
 
+-- the steps of two lists are taken in order
 pub taken_append : (xs ys earlier : List Step) → taken_after (xs ++ ys) earlier ≡ taken_after ys (taken_after xs earlier)
 taken_append [] ys earlier = refl
 taken_append (x ∷ xs) ys earlier = taken_append xs ys (x ∷ earlier)
@@ -34,6 +36,7 @@ front_off : (a s t : List ℕ) → a ++ s ≡ a ++ t → s ≡ t
 front_off [] s t e = e
 front_off (x ∷ xs) s t e = front_off xs s t (let k : xs ++ s ≡ xs ++ t = cc in k)
 
+-- the bytes after the steps that were read are the text of the certificate's other steps
 pub left_of : (read steps : List Step) (a t bytes more : List ℕ) → SpellsSteps read a → SpellsSteps (steps ++ End ∷ []) t → AllByRecursion (λ step. step ≢ End) read → a ++ bytes ≡ t ++ more → Left steps read bytes more
 left_of [] steps a t bytes more r s u e = record { tail = steps; all = refl; text = t; spelt = s; is = subst (λ x. x ++ bytes ≡ t ++ more) r e }
 left_of (p ∷ ps) [] a t bytes more r s u e =
@@ -46,7 +49,7 @@ left_of (p ∷ ps) (q ∷ qs) a t bytes more r s u e =
     let k = left_of ps qs r.1 s.1 bytes more r.3 s.3 u.1 following in
     record { tail = k.tail; all = ap (λ x. x ∷ qs) (sym same.1) ∙ ap (λ xs. p ∷ xs) k.all; text = k.text; spelt = k.spelt; is = k.is }
 
--- that the next step is the next one of the certificate
+-- `Next tail text` holds if the text begins with that of the first of the steps `tail` and an end.
 pub record Next (tail : List Step) (text : List ℕ) : Type 0 where
   pub step : Step
   pub following : List Step
@@ -69,7 +72,7 @@ none_left steps read (t ∷ ts) following a u e = let f : t ≡ End = cc in absu
     last_of [] t ts h = h.0
     last_of (x ∷ xs) t ts h = last_of xs t ts h.1
 
--- that the text spells a list of steps, and then those of a second list
+-- `Cut front last text` holds if the text spells the steps `front`, and then the steps `last`.
 pub record Cut (front last : List Step) (text : List ℕ) : Type 0 where
   pub first : List ℕ
   pub second : List ℕ
@@ -77,6 +80,7 @@ pub record Cut (front last : List Step) (text : List ℕ) : Type 0 where
   pub of_last : SpellsSteps last second
   pub whole : text ≡ first ++ second
 
+-- the text of two lists of steps is the texts of both
 pub cut_at : (front last : List Step) (text : List ℕ) → SpellsSteps (front ++ last) text → Cut front last text
 cut_at [] last text s = record { first = []; second = text; of_front = refl; of_last = s; whole = refl }
 cut_at (p ∷ ps) last text s =

@@ -44,6 +44,7 @@ read_gives a b n room once some fits = record {
   failures = once.failures.0;
 }
 
+-- the result of checking a chunk that was read is as `ChecksNext` says
 pub read_checks : (a b : Reader) (bytes : List ℕ) (old new : Checking) (result : Result (Option HintVerdict) HintFault) → GivesPiece a b bytes → length bytes ≤ piece_size → IfErr result (λ e. e ≡ OutOfMemory) → IfOk result (λ v. TakesPiece v old bytes new)
     → OnErr result (StopsReading old bytes) → ChecksNext result a b old new
 read_checks a b bytes old new (Ok None) g few memory takes stops = (bytes, g, takes)
@@ -82,6 +83,7 @@ pub record GoesOn (start now : Reader) (c : Checking) (count : ℕ) : Type 0 whe
   pub room : HasRoomFor c piece_size
   pub reads : ReadsSoFar start now c count
 
+-- what was read does not depend on lists and buffers
 pub still_read : (a b : Checking) (text : List ℕ) → b.checker ≡ a.checker → b.place ≡ a.place → b.held.items ≡ a.held.items → HasRead a text → HasRead b text
 still_read a b text j p h r = record {
   lines = r.lines;
@@ -129,6 +131,7 @@ module _ (start a b : Reader) (old : Checking) (count : ℕ) (r : ReadsSoFar sta
     holds = λ rest none. g.holds r.given r.read rest (none (let c = r.calls in omega arith));
   }
 
+  -- no read failed before a verdict
   pub unfailed : (v : HintVerdict) → GivesVerdict a b old v → b.failures ≡ start.failures
   unfailed v g = g.failures ∙ r.failures
 
@@ -136,6 +139,7 @@ module _ (start a b : Reader) (old : Checking) (count : ℕ) (r : ReadsSoFar sta
   pub failed_enough : FailsToGive a b → GaveEnough start b (λ text. Unit {0})
   failed_enough f = enough_front start b _ (r.given ++ []) (gave_then start a b r.given [] r.front f.front) f.unended (few_so_far []) (λ rest. tt)
 
+  -- after a read that failed, the fault is that of the text read before
   pub failed_stops : FailsToGive a b → GaveUpToFault start b Read
   failed_stops f = record {
     text = r.given;
@@ -175,18 +179,22 @@ module _ (start a b : Reader) (old : Checking) (count : ℕ) (r : ReadsSoFar sta
   err_enough new Read h = failed_enough h
   err_enough new OutOfMemory (bytes, g, few, stops) = starved_enough bytes g
 
+  -- after a fault, the text read before is as the fault says
   pub err_stops : (new : Checking) (f : HintFault) → ChecksNext (Err f) a b old new → GaveUpToFault start b f
   err_stops new Read h = failed_stops h
   err_stops new OutOfMemory (bytes, g, few, stops) = starved_stops bytes g few stops
 
+  -- a fault is a failed read, or no read failed
   pub err_kept : (new : Checking) (f : HintFault) → ChecksNext (Err f) a b old new → (f ≡ Read) ⊎ (b.failures ≡ start.failures)
   err_kept new Read h = inl refl
   err_kept new OutOfMemory (bytes, g, few, stops) = inr (g.failures ∙ r.failures)
 
+  -- the fault `Read` means that the read failed
   pub err_read : (new : Checking) (f : HintFault) → ChecksNext (Err f) a b old new → f ≡ Read → ReadFails start b
   err_read new Read h e = failed_read h
   err_read new OutOfMemory h e = absurd cc
 
+  -- memory runs out only after a byte has been read
   pub err_some : (new : Checking) (f : HintFault) → ChecksNext (Err f) a b old new → f ≡ OutOfMemory → length start.given < length b.given
   err_some new Read h e = absurd cc
   err_some new OutOfMemory (bytes, g, few, stops) e = starved_some bytes g
@@ -199,6 +207,7 @@ module _ (start a b : Reader) (old : Checking) (count : ℕ) (r : ReadsSoFar sta
 pub limit_enough : (start now : Reader) (c : Checking) (count : ℕ) → ReadsSoFar start now c count → 0 < count → GaveEnough start now (λ text. Unit {0})
 limit_enough start now c count r some = let k = r.some in let l = r.calls in enough_front start now _ r.given r.front (r.unended some) (omega arith) (λ rest. tt)
 
+-- if the largest number of reads was made, the text read before is as the fault `Read` says
 pub limit_stops : (start now : Reader) (c : Checking) (count : ℕ) → ReadsSoFar start now c count → 0 < count → GaveUpToFault start now Read
 limit_stops start now c count r some = record {
   text = r.given;
@@ -207,5 +216,6 @@ limit_stops start now c count r some = record {
   holds = read_stops c r.given r.read;
 }
 
+-- the largest number of reads counts as a failed read
 pub limit_read : (start now : Reader) (c : Checking) (count : ℕ) → ReadsSoFar start now c count → count ≡ most_reads → ReadFails start now
 limit_read start now c count r e = (inr (r.failures, r.calls ∙ ap (λ n. start.calls + n) e), few_front start now r.given r.front (let k = r.some in let l = r.calls in omega arith))

@@ -20,7 +20,8 @@ at_end : (now : Option (List ℕ)) (ys : List ℕ) → now ≡ Some ys → IsAtE
 at_end now ys e h = subst (λ o. IsAtEnd o) e h
 
 module _ (steps : List Step) (text more : List ℕ) (from to : Reader) (cert : IsCertificate steps text) (text_is : from.to_come ≡ Some (text ++ more)) where
-  -- that the steps read are those of the certificate, and the rest of the certificate follows
+  -- `Readings passed last rest` holds if the steps read are those of the certificate, and the rest of the certificate
+  -- follows.
   record Readings (passed last : List Step) (rest : List ℕ) : Type 0 where
     to_come : List ℕ
     left_is : to.to_come ≡ Some to_come

@@ -17,6 +17,7 @@ times_one l (x ∷ []) h = omega arith
 times_one l (x ∷ y ∷ ys) h = times_once l (x ∷ y ∷ ys) h
 
 module _ (l : ℕ) where
+  -- the counts with a clause appended at the end
   pub times-snoc : (cs : List (List ℕ)) (gs : List Bool) (c : List ℕ) (g : Bool) → length gs ≡ length cs → times_kept l (cs ++ (c ∷ [])) (gs ++ (g ∷ [])) ≡ times_kept l cs gs + cond g 0 (times_long l c)
   times-snoc [] [] c g e = omega arith
   times-snoc [] (h ∷ gs) c g e = absurd (omega arith)
@@ -25,6 +26,7 @@ module _ (l : ℕ) where
       let ih : times_kept l (cs ++ (c ∷ [])) (gs ++ (g ∷ [])) ≡ times_kept l cs gs + cond g 0 (times_long l c) = times-snoc cs gs c g (omega arith) in
       omega (arith, ih)
 
+  -- a clause that is removed takes its literals from the counts
   pub times-gone : (cs : List (List ℕ)) (gs : List Bool) (place : ℕ) → length gs ≡ length cs → place < length cs → get_or gs place false ≡ false → times_kept l cs (set gs place true) + times_long l (get_or cs place []) ≡ times_kept l cs gs
   times-gone [] gs place e h g = absurd (omega arith)
   times-gone (c ∷ cs) [] place e h g = absurd (omega arith)
@@ -35,6 +37,7 @@ module _ (l : ℕ) where
       let ih : times_kept l cs (set gs n true) + times_long l (get_or cs n []) ≡ times_kept l cs gs = times-gone cs gs n (omega arith) (omega arith) g in
       omega (arith, ih)
 
+  -- a literal occurs at most once in each clause
   pub times-few : (cs : List (List ℕ)) (gs : List Bool) → AllByRecursion IsIncreasing cs → times_kept l cs gs ≤ length cs
   times-few [] gs h = omega arith
   times-few (c ∷ cs) [] h = omega arith
@@ -48,7 +51,7 @@ module _ (l : ℕ) where
   pub times-there : (cs : List (List ℕ)) (gs : List Bool) (place : ℕ) → length gs ≡ length cs → place < length cs → get_or gs place false ≡ false → times_long l (get_or cs place []) ≤ times_kept l cs gs
   times-there cs gs place e h g = let k : times_kept l cs (set gs place true) + times_long l (get_or cs place []) ≡ times_kept l cs gs = times-gone cs gs place e h g in omega (arith, k)
 
--- that P holds for a clause that is not removed
+-- `IsThere P cs gs` holds if `P` holds of a clause that is not removed.
 pub record IsThere (P : List ℕ → Type 0) (cs : List (List ℕ)) (gs : List Bool) : Type 0 where
   pub place : ℕ
   pub within : place < length cs
@@ -79,11 +82,13 @@ counted_long v l [] h = absurd (omega arith)
 counted_long v l (x ∷ []) h = absurd (omega arith)
 counted_long v l (x ∷ y ∷ ys) h = refl
 
+-- in a clause of two or more literals, all literals are counted
 pub long_as : (l : ℕ) (c : List ℕ) → is_long c ≡ true → times_long l c ≡ times_in l c
 long_as l [] e = absurd cc
 long_as l (x ∷ []) e = absurd cc
 long_as l (x ∷ y ∷ ys) e = refl
 
+-- a variable whose literals are counted in a clause is in it
 pub counted_mentions : (v : ℕ) (c : List ℕ) → is_long c ≡ true → 0 < times_long (2 * v) c + times_long (2 * v + 1) c → mentions c v ≡ true
 counted_mentions v c e h = go (mentions c v) refl
   where
@@ -95,6 +100,7 @@ counted_mentions v c e h = go (mentions c v) refl
         let n : times_in (2 * v) c + times_in (2 * v + 1) c ≡ zero = times_none v c f in
         absurd (omega (arith, a, b, n, h))
 
+-- the literals of a variable in a clause of two or more literals are counted
 pub mentions_counted : (v : ℕ) (c : List ℕ) → is_long c ≡ true → mentions c v ≡ true → 0 < times_long (2 * v) c + times_long (2 * v + 1) c
 mentions_counted v c e m =
     let a = long_as (2 * v) c e in
@@ -102,7 +108,7 @@ mentions_counted v c e m =
     let n : 0 < times_in (2 * v) c + times_in (2 * v + 1) c = times_some v c m in
     omega (arith, a, b, n)
 
--- whether the literals of a variable are counted, from whether the clause mentions it
+-- a literal is not counted in a clause of fewer than two literals
 pub not_long : (l : ℕ) (c : List ℕ) → length c < 2 → times_long l c ≡ 0
 not_long l [] h = refl
 not_long l (x ∷ []) h = refl
@@ -113,6 +119,7 @@ long_length [] h = absurd (omega arith)
 long_length (x ∷ []) h = absurd (omega arith)
 long_length (x ∷ y ∷ ys) h = refl
 
+-- in a clause of two or more literals, exactly the variables in it are counted
 pub counted_where : (v : ℕ) (c : List ℕ) (r : Bool) → 2 ≤ length c → r ≡ mentions c v → MatchBool r (0 < times_long (2 * v) c + times_long (2 * v + 1) c) (times_long (2 * v) c + times_long (2 * v + 1) c ≡ 0)
 counted_where v c true h e = mentions_counted v c (long_length c h) (sym e)
 counted_where v c false h e =
@@ -125,6 +132,7 @@ pub counted_same : (r : Bool) (a b c d : ℕ) → a ≡ c → b ≡ d → MatchB
 counted_same true a b c d e f h = omega (arith, e, f, h)
 counted_same false a b c d e f h = omega (arith, e, f, h)
 
+-- the counts up to one more clause
 pub times-more : (l : ℕ) (cs : List (List ℕ)) (gs : List Bool) (i : ℕ) → length gs ≡ length cs → i < length cs
     → times_kept l (take (i + 1) cs) (take (i + 1) gs) ≡ times_kept l (take i cs) (take i gs) + cond (get_or gs i false) 0 (times_long l (get_or cs i []))
 times-more l cs gs i e h =
@@ -133,6 +141,7 @@ times-more l cs gs i e h =
     let c : length (take i gs) ≡ length (take i cs) = length-take-le i gs (omega arith) ∙ sym (length-take-le i cs (omega arith)) in
     rw (a, b) (times-snoc l (take i cs) (take i gs) (get_or cs i []) (get_or gs i false) c)
 
+-- the counts up to the last clause are those of all clauses
 pub times_whole : (l : ℕ) (cs : List (List ℕ)) (gs : List Bool) (i : ℕ) → length gs ≡ length cs → length cs ≤ i → times_kept l (take i cs) (take i gs) ≡ times_kept l cs gs
 times_whole l cs gs i e h =
     let a = take_all i cs h in
@@ -161,6 +170,7 @@ kept_gone l cs gs i n g c h e =
     let z : cond (get_or gs i false) 0 (times_long l (get_or cs i [])) ≡ 0 = ap (λ b. cond b 0 (times_long l (get_or cs i []))) e in
     omega (arith, m, z)
 
+-- the counts up to one more clause, which is not removed
 pub kept_more : (l : ℕ) (cs : List (List ℕ)) (gs : List Bool) (i n before after : ℕ) (clause : List ℕ) → length gs ≡ n → length cs ≡ n → i < n → get_or gs i false ≡ false → clause ≡ get_or cs i [] → before ≡ times_kept l (take i cs) (take i gs) → after ≡ before + times_long l clause
     → after ≡ times_kept l (take (i + 1) cs) (take (i + 1) gs)
 kept_more l cs gs i n before after clause g c h e is b a =
@@ -168,6 +178,7 @@ kept_more l cs gs i n before after clause g c h e is b a =
     let z : cond (get_or gs i false) 0 (times_long l (get_or cs i [])) ≡ times_long l clause = ap (λ b. cond b 0 (times_long l (get_or cs i []))) e ∙ ap (times_long l) (sym is) in
     omega (arith, m, z, b, a)
 
+-- a variable that is not counted so far, nor in the next clause, is not counted with it
 pub kept_none : (v : ℕ) (cs : List (List ℕ)) (gs : List Bool) (i n : ℕ) (clause : List ℕ) → length gs ≡ n → length cs ≡ n → i < n → clause ≡ get_or cs i [] → times_long (2 * v) clause + times_long (2 * v + 1) clause ≡ 0
     → times_kept (2 * v) (take i cs) (take i gs) + times_kept (2 * v + 1) (take i cs) (take i gs) ≡ 0 → times_kept (2 * v) (take (i + 1) cs) (take (i + 1) gs) + times_kept (2 * v + 1) (take (i + 1) cs) (take (i + 1) gs) ≡ 0
 kept_none v cs gs i n clause g c h is z before =
@@ -183,6 +194,7 @@ kept_none v cs gs i n clause g c h is z before =
     either true n e = refl
     either false n e = e
 
+-- a variable that is in a clause that is not removed is counted
 pub kept_some : (v : ℕ) (cs : List (List ℕ)) (gs : List Bool) (i n : ℕ) (clause : List ℕ) → length gs ≡ n → length cs ≡ n → i < n → get_or gs i false ≡ false → clause ≡ get_or cs i [] → 0 < times_long (2 * v) clause + times_long (2 * v + 1) clause → 0 < times_kept (2 * v) cs gs + times_kept (2 * v + 1) cs gs
 kept_some v cs gs i n clause g c h e is z =
     let one : (l : ℕ) → times_long l clause ≤ times_kept l cs gs = λ l. subst (λ d. times_long l d ≤ times_kept l cs gs) (sym is) (times-there l cs gs i (g ∙ sym c) (subst (λ k. i < k) (sym c) h) e) in

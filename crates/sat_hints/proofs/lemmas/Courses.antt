@@ -1,4 +1,4 @@
--- Whether clauses, in turn, lead to a conflict under assumed literals.
+-- When clauses, in turn, lead to a conflict under assumed literals.
 use Rattle.std.proofs.Common.{ℕ, ◌≡◌, Bool, true, false, not, ◌||◌, cond, eqb, List, [], ◌∷◌, Option, None, Some, refl, sym, ◌∙◌, ap, subst, ◌⊎◌, inl, inr}
 use Rattle.std.proofs.lemmas.Bool.{or_cases, or_left, or_right, both_ways, eqb-true, eq-eqb, true≢false, or_parts}
 use Rattle.std.specs.List.{AllByRecursion}
@@ -33,7 +33,7 @@ others_from : (assumed clause : List ℕ) (o : ℕ) → IsFalsified assumed clau
 others_from assumed [] o h = tt
 others_from assumed (l ∷ ls) o h = (inr h.0, others_from assumed ls o h.1)
 
--- that o is the only open literal of the clause
+-- `OneOpen assumed clause o` holds if `o` is the only open literal of the clause.
 record OneOpen (assumed clause : List ℕ) (o : ℕ) : Type 0 where
   within : is_among clause o ≡ true
   not_false : is_among assumed (negated o) ≡ false
@@ -93,9 +93,11 @@ falsified_from assumed (l ∷ []) e = go (is_among assumed l) e
     go false e = absurd cc
 falsified_from assumed (l ∷ m ∷ ls) e = absurd cc
 
+-- a clause whose state is `falsified` is falsified
 pub is_falsified : (assumed clause : List ℕ) → clause_state assumed clause ≡ falsified → IsFalsified assumed clause
 is_falsified assumed clause e = none_open assumed clause (falsified_from assumed (not_false assumed clause) e)
 
+-- a falsified clause has the state `falsified`
 pub falsifies : (assumed clause : List ℕ) → IsFalsified assumed clause → clause_state assumed clause ≡ falsified
 falsifies assumed clause h = ap (state_by_open assumed) (all_false assumed clause h)
 
@@ -112,12 +114,14 @@ opens_from assumed (m ∷ []) l e = go (is_among assumed m) refl e
     go false h e' = let same : m ≡ l = cc in record { one = ap (λ x. x ∷ []) same; new = subst (λ x. is_among assumed x ≡ false) same h }
 opens_from assumed (m ∷ n ∷ ls) l e = absurd cc
 
+-- a clause whose state is `becomes_unit` is unit
 pub is_unit : (assumed clause : List ℕ) (l : ℕ) → clause_state assumed clause ≡ becomes_unit l → IsUnit assumed clause l
 is_unit assumed clause l e =
     let o = opens_from assumed (not_false assumed clause) l e in
     let k = one_open assumed clause l o.one in
     record { within = k.within; not_true = o.new; not_false = k.not_false; others = k.others }
 
+-- a unit clause without repeats has the state `becomes_unit`
 pub unit_opens : (assumed clause : List ℕ) (l : ℕ) → NoRepeats clause → IsUnit assumed clause l → clause_state assumed clause ≡ becomes_unit l
 unit_opens assumed clause l n u = elim (only_open assumed clause l n u.others) [
   | inl e ↦ absurd (both_ways (is_among assumed (negated l)) u.not_false (member_false assumed clause l (none_open assumed clause e) u.within))
@@ -137,6 +141,7 @@ says_further (Some NotUnit) assumed c d ds l u h = inr (l, u, h)
 says_further (Some NotFalsified) assumed c d ds l u h = (l, u, h)
 says_further (Some e) assumed c d ds l u h = h
 
+-- the result of `refutation_failure` is as `Says` says
 pub course_says : (cs : List (List ℕ)) (assumed : List ℕ) → AllByRecursion NoRepeats cs → Says (refutation_failure assumed cs) assumed cs
 course_says [] assumed n = tt
 course_says (c ∷ []) assumed n = go (clause_state assumed c) refl
@@ -173,6 +178,7 @@ same_verdict room us vs clause h same = ap (state_by_open us) (same_open room us
     go (l ∷ []) e = ap (λ b. cond b neither (becomes_unit l)) (same l (room_in room clause l h (one_open vs clause l e).within).0)
     go (l ∷ m ∷ ls) e = refl
 
+-- literals that agree on the clauses' variables lead to the same result
 pub same_course : (cs : List (List ℕ)) (room us vs : List ℕ) → HasClausesRoom room cs → AgreesOn room us vs → refutation_failure us cs ≡ refutation_failure vs cs
 same_course [] room us vs h same = refl
 same_course (c ∷ []) room us vs h same = ap falsified_failure (same_verdict room us vs c h.0 same)

@@ -15,7 +15,7 @@ use Rattle.sat_hints.specs.inner.LineChecking.{refutation_failure_of, WhyNotRefu
 use Rattle.sat_hints.specs.inner.ActiveClauses.{active_clause, active_clauses, HasRoomForPresent}
 use Rattle.sat_hints.proofs.lemmas.Courses.{same_course, is_unit, room_in}
 
--- that the clauses under all ids are present exactly if those under the rest are
+-- `PresentAlike s ids rest` holds if the clauses under all `ids` are present exactly if those under `rest` are.
 abbrev pub PresentAlike : ActiveClauses → List ℕ → List ℕ → Type 0
 PresentAlike s ids rest = (active_clauses s ids ≡ None → active_clauses s rest ≡ None) × (active_clauses s rest ≡ None → active_clauses s ids ≡ None)
 
@@ -58,6 +58,7 @@ room_more : (xs ys c : List ℕ) → RoomStays xs ys → HasClauseRoom xs c → 
 room_more xs ys [] s h = tt
 room_more xs ys (l ∷ ls) s h = ((s _ h.0.0, s _ h.0.1), room_more xs ys ls s h.1)
 
+-- room for the present clauses stays if the room only grows
 pub room_still : (s : ActiveClauses) (xs ys : List ℕ) → RoomStays xs ys → HasRoomForPresent xs s → HasRoomForPresent ys s
 room_still s xs ys k h id c e = room_more xs ys c k (h id c e)
 
@@ -72,6 +73,7 @@ rooms s room h (id ∷ ids) cs e = go (λ ds. rooms s room h ids ds) (active_cla
 
 -- assuming only the literals for which there is room gives the same result
 module _ (s : ActiveClauses) (ls ids : List ℕ) (why : Option HintWhy) where
+  -- the reason that the code finds is that of `WhyNotRefuted`
   pub refuted_by : (room assumed : List ℕ) → HasRoomForPresent room s → is_tautology ls ≡ false → AgreesOn room assumed ls → why ≡ refutation_failure_of assumed (active_clauses s ids) → WhyNotRefuted s ls ids why
   refuted_by room assumed h t a w = go (active_clauses s ids) refl
     where
@@ -79,6 +81,7 @@ module _ (s : ActiveClauses) (ls ids : List ℕ) (why : Option HintWhy) where
       go None e = inl (e, w ∙ ap (refutation_failure_of assumed) e)
       go (Some cs) e = inr (cs, e, inr (t, w ∙ ap (refutation_failure_of assumed) e ∙ same_course cs room assumed ls (rooms s room h ids cs e) a))
 
+  -- if both signs of a variable are assumed and all clauses are present, there is no failure
   pub refuted_both : is_tautology ls ≡ true → active_clauses s ids ≢ None → why ≡ None → WhyNotRefuted s ls ids why
   refuted_both t n w = go (active_clauses s ids) refl
     where
@@ -86,5 +89,6 @@ module _ (s : ActiveClauses) (ls ids : List ℕ) (why : Option HintWhy) where
       go None e = absurd (n e)
       go (Some cs) e = inr (cs, e, inl (t, w))
 
+  -- if a clause is not present, the reason is `UnknownId`
   pub refuted_unknown : active_clauses s ids ≡ None → why ≡ Some UnknownId → WhyNotRefuted s ls ids why
   refuted_unknown n w = inl (n, w)

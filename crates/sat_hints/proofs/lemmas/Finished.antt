@@ -36,6 +36,7 @@ breaks_after a b step steps e k = elim k [
   | inr h ↦ inr (h.0, breaks_of a b (hint_text (step ∷ steps)) e h.1)
 ]
 
+-- an error for the lines is an error for the text, if no bytes were pending
 pub errs_convert : (e : HintError) (from to : Reader) (a b : Outlet) → a.sink.waiting ≡ [] → WritesLines (Err e) from to a b → Converts (Err e) from to a.sink.writer b.sink.writer
 errs_convert HasDeleteVar from to a b e w = w
 errs_convert (Refused r) from to a b e w = (w.0, w.1, w.2, front_took a b _ e w.3)
@@ -53,6 +54,7 @@ ok_converts from to a b c e w p f none =
     let s : AddsToSink a.sink c.sink (text ++ []) = sent_more a.sink b.sink c.sink text [] w.4.sent (put_by [] b c false w.4.well f p) in
     (w.0, w.1, w.2, w.3, all_out {E = HintError} a.sink c.sink text (Ok tt) e none (subst (AddsToSink a.sink c.sink) (append-nil text) s))
 
+-- if the last pending bytes cannot be written, the conversion fails with `Write`
 pub write_converts : (from to : Reader) (a b c : Outlet) → a.sink.waiting ≡ [] → WritesLines (Ok tt) from to a b → PutsText [] b c → c.failed ≡ true → Converts (Err Write) from to a.sink.writer c.sink.writer
 write_converts from to a b c e w p f =
     let text : List ℕ = hint_text (End ∷ taken_after w.0 []) in
@@ -70,6 +72,7 @@ module _ {W : Type 0} (seen : W → Writer) (a z v : W) (given back : ℕ) (same
     | inr h ↦ inr (h.0, lent_puts {E = HintError} seen a z v given back (hint_text (step ∷ steps)) (Err Write) same h.1)
   ]
 
+  -- once a lent writer is returned, the result of the conversion holds for it
   pub lent_converts : (result : Result (Unit {0}) HintError) (from to : Reader) → Converts result from to (lent_writer given (seen a)) (lent_writer back (seen v)) → Converts result from to (seen a) (seen z)
   lent_converts (Ok x) from to c = (c.0, c.1, c.2, c.3, lent_puts {E = HintError} seen a z v given back _ (Ok tt) same c.4)
   lent_converts (Err HasDeleteVar) from to c = c

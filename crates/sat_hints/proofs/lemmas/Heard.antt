@@ -33,6 +33,7 @@ text_reported : (ts : List Notice) (earlier : List Line) → text_of (announced_
 text_reported [] earlier = sym (append-nil (text_of earlier))
 text_reported (t ∷ ts) earlier = text_reported ts (with_line (announced_line t.announcement) earlier) ∙ with_text (announced_line t.announcement) earlier (texts ts)
 
+-- the hint text is the texts of all notices
 pub hint_texts : (steps : List Step) → hint_text steps ≡ texts (all_notices_after steps)
 hint_texts steps = text_reported (all_notices_after steps) []
 
@@ -74,6 +75,7 @@ module _ {W P T : Type 0} (seen : W → Writer) (Takes : P → Notice → Result
     | inr f ↦ absurd (let d : ◌≡◌ {A = Result Unit ProcessingError} (Ok tt) (Err (faults.ProofProcessorError f.cause)) = f.answered in cc)
   ]
 
+  -- a line writer that received all notices sent their texts
   pub all_sent : (ts : List Notice) (a b : Hearers (LineWriter W) (Processing P T)) → a.own.failed ≡ false → HearsAll Hears ts a b → SentAll (outlet seen a.own) (outlet seen b.own) (texts ts)
   all_sent [] a b e h = subst (λ c. SentAll (outlet seen a.own) (outlet seen c.own) []) (sym h) (record { well = e; sent = sent_none (sink_in a) })
   all_sent (t ∷ ts) a b e h =
@@ -81,7 +83,7 @@ module _ {W P T : Type 0} (seen : W → Writer) (Takes : P → Notice → Result
       let more = all_sent ts h.0 b one.0 h.2 in
       record { well = more.well; sent = sent_more (sink_in a) (sink_in h.0) (sink_in b) (announced_text t) (texts ts) one.1 more.sent }
 
-  -- that the fault is a failed write, or comes from another listener
+  -- `BreaksOr f ts a b` holds if the fault is a failed write, or comes from another listener.
   abbrev BreaksOr : ProcessingError → List Notice → Hearers (LineWriter W) (Processing P T) → Hearers (LineWriter W) (Processing P T) → Type 0
   BreaksOr f ts a b = ((cause : Error) × (f ≡ faults.ProofProcessorError cause) × SinkFails (sink_in a) (sink_in b) (texts ts)) ⊎ HearsUpTo (HearsEach Takes Reads) f ts a.others b.others
 
@@ -108,6 +110,7 @@ module _ {W P T : Type 0} (seen : W → Writer) (Takes : P → Notice → Result
         ]
   ]
 
+  -- if the line writer is the only listener, a failure is that of a write, after a prefix of the texts
   pub all_broken : (f : ProcessingError) (ts : List Notice) (a b : Hearers (LineWriter W) (Processing P T)) → a.own.failed ≡ false → listeners_of a.others ≡ record { processors = []; transcripts = [] } → HearsUpTo Hears f ts a b → (cause : Error) × (f ≡ faults.ProofProcessorError cause) × SinkFails (sink_in a) (sink_in b) (texts ts)
   all_broken f ts a b e none h = elim (breaks_or f ts a b e h) [
     | inl k ↦ k
@@ -125,6 +128,7 @@ module _ {W P T : Type 0} (seen : W → Writer) (Takes : P → Notice → Result
 pub front_all : (old new : Outlet) (steps : List Step) → SentAll old new (texts (all_notices_after steps)) → SentPrefix old new (hint_text steps)
 front_all old new steps s = record { front = texts (all_notices_after steps); following = []; whole = hint_texts steps ∙ sym (append-nil (texts (all_notices_after steps))); sent = s }
 
+-- the texts reported so far are a prefix of the hint text
 pub front_reported : (old new : Outlet) (steps : List Step) → SentAll old new (texts (notices_after steps)) → SentPrefix old new (hint_text steps)
 front_reported old new steps s = record { front = texts (notices_after steps); following = _; whole = hint_texts steps ∙ texts-append (notices_after steps) _; sent = s }
 
@@ -135,8 +139,10 @@ front_by old new None steps s = front_all old new steps s
 pub all_by : (old new : Outlet) (conflict : Option (ℕ × ℕ)) (steps : List Step) → conflict ≡ None → SentAll old new (texts (notices_by conflict steps)) → SentAll old new (hint_text steps)
 all_by old new conflict steps e s = subst (SentAll old new) (sym (hint_texts steps)) (subst (λ k. SentAll old new (texts (notices_by k steps))) e s)
 
+-- a failed write of all notices' texts is one of the hint text
 pub broken_all : (s t : Sink) (steps : List Step) → SinkFails s t (texts (all_notices_after steps)) → SinkFails s t (hint_text steps)
 broken_all s t steps b = subst (SinkFails s t) (sym (hint_texts steps)) b
 
+-- a failed write of the texts reported so far is one of the hint text
 pub broken_reported : (s t : Sink) (steps : List Step) → SinkFails s t (texts (notices_after steps)) → SinkFails s t (hint_text steps)
 broken_reported s t steps b = subst (SinkFails s t) (sym (hint_texts steps ∙ texts-append (notices_after steps) _)) (sends_stops s t (texts (notices_after steps)) _ b)

@@ -41,6 +41,7 @@ module _ (old new : Checking) (bytes : List ℕ) (w : IsWholeLine bytes) where
     taken = t;
   }
 
+  -- a line that is at fault gives the text its first fault
   pub line_faulty : (text : List ℕ) (r : HasRead old text) (why : HintWhy) → IsAtFault r.lines (old.held.items ++ bytes) why → new.checker.lines ≡ old.checker.lines → HasFault new (text ++ bytes) why
   line_faulty text r why f e = record {
     count = length r.lines;
@@ -138,6 +139,7 @@ module _ (front : List ℕ) (inside : HasNoEnd front) (never : LeadsToPlace Lett
         number = refl;
       }
 
+-- bytes that no line can continue with are a syntax error
 pub held_faulty : (old : Checking) (bytes : List ℕ) → HasNoEnd bytes → LeadsToPlace old.place bytes None → ReadsFurther (Some Syntax) old bytes old
 held_faulty old bytes h leads text r = record {
   count = length r.lines;
@@ -172,6 +174,7 @@ no_end_second (x ∷ xs) ys h = no_end_second xs ys h.1
 ends : HasNoEnd (48 ∷ 10 ∷ []) → ⊥
 ends h = h.1.0 refl
 
+-- every line has an LF
 pub line_has_end : (line : Line) → HasNoEnd (line_text line) → ⊥
 line_has_end (Input id ls) h = ends (no_end_second (literal_words ls) (48 ∷ 10 ∷ []) (no_end_second (id_words (id ∷ [])) (literal_words ls ++ (48 ∷ 10 ∷ [])) h.1.1))
 line_has_end (Derived id ls ids) h =
@@ -180,6 +183,7 @@ line_has_end (Gone id) h = ends (no_end_second (id_words (id ∷ [])) (48 ∷ 10
 line_has_end (Core ls ids) h = ends (no_end_second (id_words ids) (48 ∷ 10 ∷ []) (no_end_second (literal_words ls) (48 ∷ 32 ∷ (id_words ids ++ (48 ∷ 10 ∷ []))) h.1.1).1.1)
 line_has_end (Fresh v) h = ends (no_end_second (id_words (v ∷ [])) (48 ∷ 10 ∷ []) h.1.1)
 
+-- a text that ends within a line is at fault there
 pub ends_badly : (c : Checking) (text : List ℕ) (v : HintVerdict) → ((count : ℕ) → c.checker.lines ≡ capped count → v ≡ Bad (capped (count + 1)) Syntax) → (c.held.items ≡ [] → ⊥) → HasRead c text → VerdictHolds v text
 ends_badly c text v is some r = subst (λ v. VerdictHolds v text) (sym (is (length r.lines) r.taken.counts_lines)) (record {
   earlier = r.lines;
@@ -197,12 +201,15 @@ ends_badly c text v is some r = subst (λ v. VerdictHolds v text) (sym (is (leng
 pub says_fault : (c : Checking) (text : List ℕ) (why : HintWhy) (v : HintVerdict) → ((count : ℕ) → c.checker.lines ≡ capped count → v ≡ Bad (capped (count + 1)) why) → HasFault c text why → (rest : List ℕ) → VerdictHolds v (text ++ rest)
 says_fault c text why v is f rest = subst (λ v. VerdictHolds v (text ++ rest)) (sym (is f.count f.number)) (f.bad rest)
 
+-- a byte that is not LF continues a prefix without LF
 pub goes_on : (bytes : List ℕ) (i : ℕ) → i < length bytes → (get_or bytes i 0 ≡ 10 → ⊥) → HasNoEnd (take i bytes) → HasNoEnd (take (i + 1) bytes)
 goes_on bytes i h other k = rw (take_more bytes i 0 h) (no_end_both (take i bytes) (get_or bytes i 0 ∷ []) k (other, tt))
 
+-- the first LF ends a complete line
 pub line_at : (bytes : List ℕ) (i : ℕ) → i < length bytes → get_or bytes i 0 ≡ 10 → HasNoEnd (take i bytes) → IsWholeLine (take (i + 1) bytes)
 line_at bytes i h e k = record { front = take i bytes; inside = k; ended = take_more bytes i 0 h ∙ ap (λ b. take i bytes ++ (b ∷ [])) e }
 
+-- if no byte is LF, there is no complete line
 pub no_line : (bytes : List ℕ) (i : ℕ) → length bytes ≤ i → HasNoEnd (take i bytes) → HasNoEnd bytes
 no_line bytes i h k = subst HasNoEnd (take_all i bytes h) k
 

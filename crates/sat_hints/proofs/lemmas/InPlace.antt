@@ -56,6 +56,7 @@ literals_whole ls text p w = whole_with (literal_words ls) text (no_end_words nu
 both_whole : (ls ids : List ℕ) → AllByRecursion IsLiteralCode ls → AllByRecursion IsId ids → IsWholeLine (literal_words ls ++ (48 ∷ 32 ∷ (id_words ids ++ (48 ∷ 10 ∷ []))))
 both_whole ls ids p q = literals_whole ls _ p (after_letter 48 (id_words ids ++ (48 ∷ 10 ∷ [])) (omega arith) (ids_whole ids (48 ∷ 10 ∷ []) q end_whole))
 
+-- the text of a line has one LF, its last byte
 pub line_is_whole : (line : Line) → IsLine line → IsWholeLine (line_text line)
 line_is_whole (Input id ls) p = after_letter 105 _ (omega arith) (ids_whole (id ∷ []) _ p.0 (literals_whole ls (48 ∷ 10 ∷ []) p.1 end_whole))
 line_is_whole (Derived id ls ids) p = after_letter 100 _ (omega arith) (ids_whole (id ∷ []) _ p.0 (both_whole ls ids p.1 p.2))
@@ -73,11 +74,13 @@ only_front (c ∷ front) (x ∷ xs) rest h never e =
     let more : front ++ (10 ∷ []) ≡ xs ++ rest = cc in
     only_front front xs rest h.1 (λ k. never (subst (λ b. b ≡ 10 → ⊥) (sym same) h.0, k)) more
 
+-- a complete line that begins with a line's text is this text
 pub spells_whole : (bytes rest : List ℕ) (line : Line) → IsWholeLine bytes → BeginsWithHintLine bytes line rest → SpellsLine bytes line
 spells_whole bytes rest line w r =
     let e : rest ≡ [] = only_front w.front (line_text line) rest w.inside (line_has_end line) (sym w.ended ∙ r.1) in
     (r.0, r.1 ∙ ap (λ t. line_text line ++ t) e ∙ append-nil (line_text line))
 
+-- bytes that do not begin with a line spell none
 pub no_line_whole : (bytes : List ℕ) → BeginsWithNoLine bytes → (line : Line) → SpellsLine bytes line → ⊥
 no_line_whole bytes none line s = none line [] (s.0, s.1 ∙ sym (append-nil (line_text line)))
 
@@ -95,6 +98,7 @@ pub taken_whole : {E : Type 0} (r : Result (Option HintWhy) E) (old new : LineCh
 taken_whole (Ok why) old new bytes rest line read t = λ w lines taken. judged why old new lines bytes line (spells_whole bytes rest line w read) (t lines taken)
 taken_whole (Err e) old new bytes rest line read t = tt
 
+-- a line that is read in place and checked is read as if it had been held
 pub reads_line : (why : Option HintWhy) (old new : Checking) (bytes rest : List ℕ) (line : Line) → old.held.items ≡ [] → new.held.items ≡ old.held.items → new.place ≡ old.place → BeginsWithHintLine bytes line rest → TakesNext why old.checker new.checker line → ReadsFurther why old (line_text line) new
 reads_line why old new bytes rest line none e at r t = line_passes old new (line_text line) (line_is_whole line r.0) why none e at (λ lines taken. judged why old.checker new.checker lines (line_text line) line (r.0, refl) (t lines taken))
 

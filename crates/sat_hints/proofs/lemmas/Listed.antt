@@ -49,7 +49,7 @@ listed-none id (x ∷ ids) (c ∷ cs) (g ∷ gs) h =
     let n : eqb id x ≡ false = apart id x (λ e. h 0 (omega arith) (sym e)) in
     rw n (listed-none id ids cs gs (λ i l e. h (suc i) (omega arith) e))
 
--- that the ids increase
+-- `Rises ids` holds if the ids increase.
 abbrev pub Rises : List ℕ → Type 0
 Rises ids = (i j : ℕ) → i < j → j < length ids → get_or ids i 0 < get_or ids j 0
 
@@ -158,14 +158,17 @@ module _ (p : Present) (s : IsStore p) (id : ℕ) (xs : List ℕ) (is : xs ≡ p
   listed_as : (place : ℕ) (b : Bool) → (place < length p.ids.items) × (get_or p.ids.items place 0 ≡ id) → get_or p.gone.items place false ≡ b → clause_in p id ≡ cond b None (Some (present_clause_at p place))
   listed_as place b a g = subst (λ i. clause_in p i ≡ cond b None (Some (present_clause_at p place))) a.1 (listed-at place p.ids.items p.clauses p.gone.items s.clauses s.gone s.rises a.0 ∙ ap (λ b. cond b None (Some (present_clause_at p place))) g)
 
+  -- a clause that the search finds, and that is not removed, is in the store
   pub found_at : (place : ℕ) (b : Bool) → IsBinarySearchResult (λ y. nat_cmp y id) xs (Ok place) → b ≡ get_or p.gone.items place b → b ≡ false → FindsPresentClause p id place
   found_at place b h e f =
       let a = at_place place h in
       record { within = subst (λ n. place < n) (sym s.clauses) a.0; named = a.1; clause = listed_as place false a (mark_at place b a.0 e ∙ f) }
 
+  -- a clause that the search finds, but that is removed, is not in the store
   pub gone_at : (place : ℕ) (b : Bool) → IsBinarySearchResult (λ y. nat_cmp y id) xs (Ok place) → b ≡ get_or p.gone.items place b → b ≡ true → clause_in p id ≡ None
   gone_at place b h e f = let a = at_place place h in listed_as place true a (mark_at place b a.0 e ∙ f)
 
+  -- an id that the search does not find has no clause
   pub none_at : (at : ℕ) → IsBinarySearchResult (λ y. nat_cmp y id) xs (Err at) → clause_in p id ≡ None
   none_at at h =
       let a = searched xs id (Err at) h (subst (λ ys. (i j : ℕ) → i ≤ j → j < length ys → get_or ys i 0 ≤ get_or ys j 0) (sym is) (in_order p.ids.items s.rises)) in
@@ -201,7 +204,7 @@ loses old new place s l i g c =
 pub loses_further : (old mid new : Present) (id : ℕ) → Loses old mid id → SamePresentClauses mid new → Loses old new id
 loses_further old mid new id l k = record { store = k.store; below = λ b h. k.below b (l.below b h); clauses = λ j. k.clauses j ∙ l.clauses j; times = λ c e m. ap (λ n. n + times_long m c) (k.times m) ∙ l.times c e m }
 
--- that `kept` has the first `count` clauses, except for removed ones
+-- `KeepsFirst p count kept` holds if `kept` has the first `count` clauses, except for removed ones.
 pub record KeepsFirst (p : Present) (count : ℕ) (kept : Present) : Type 0 where
   pub store : IsStore kept
   pub below : (k : ℕ) → AllBelow (take count p.ids.items) k → AllBelow kept.ids.items k
@@ -218,6 +221,7 @@ module _ (p : Present) (s : IsStore p) (i : ℕ) (inside : i < length p.ids.item
       let m : k < i = omega arith in
       subst (λ x. x < get_or p.ids.items i 0) (sym (get_or-take i p.ids.items k 0 m)) (s.rises k i m inside)
 
+  -- the ids of the clauses kept so far are below the next id
   pub next_below : (kept : Present) → KeepsFirst p i kept → AllBelow kept.ids.items (get_or p.ids.items i 0)
   next_below kept k = k.below (get_or p.ids.items i 0) first_below
 
@@ -253,6 +257,7 @@ module _ (p : Present) (s : IsStore p) (i : ℕ) (inside : i < length p.ids.item
   mark : {b : Bool} → b ≡ get_or p.gone.items i b → get_or p.gone.items i false ≡ b
   mark {b} m = same_default p.gone.items i false b (subst (λ n. i < n) (sym s.gone) inside) ∙ sym m
 
+  -- a clause that is not removed is kept
   pub keeps_one : (kept new : Present) (id : ℕ) (clause : List ℕ) (b : Bool) → KeepsFirst p i kept → AddsPresentClause kept new id clause → b ≡ get_or p.gone.items i b → b ≡ false → id ≡ get_or p.ids.items i 0 → clause ≡ get_or p.clauses i [] → KeepsFirst p (i + 1) new
   keeps_one kept new id clause t k a m f d c = let g = mark m ∙ f in record {
     store = a.store;
@@ -262,6 +267,7 @@ module _ (p : Present) (s : IsStore p) (i : ℕ) (inside : i < length p.ids.item
         ∙ ap (λ b. times_kept m (take i p.clauses) (take i p.gone.items) + cond b 0 (times_long m (get_or p.clauses i []))) (sym g) ∙ sym (counted_more m);
   }
 
+  -- a removed clause is not kept
   pub keeps_not : (kept : Present) (b : Bool) → KeepsFirst p i kept → b ≡ get_or p.gone.items i b → b ≡ true → KeepsFirst p (i + 1) kept
   keeps_not kept t k m f = let g = mark m ∙ f in record {
     store = k.store;
@@ -278,6 +284,7 @@ module _ (p : Present) (s : IsStore p) (i : ℕ) (inside : i < length p.ids.item
           none ∙ sym (ap (λ b. cond b None (listed_clause j (take i p.ids.items) (take i p.clauses) (take i p.gone.items))) e)
       gone j false e = sym (ap (λ b. cond b None (listed_clause j (take i p.ids.items) (take i p.clauses) (take i p.gone.items))) e)
 
+-- once all clauses were seen, the kept clauses are those present
 pub keeps_all : (p kept : Present) (i : ℕ) → IsStore p → length p.ids.items ≤ i → KeepsFirst p i kept → SamePresentClauses p kept
 keeps_all p kept i s h k =
     let a : take i p.ids.items ≡ p.ids.items = take_all i p.ids.items h in
@@ -285,7 +292,7 @@ keeps_all p kept i s h k =
     let c : take i p.gone.items ≡ p.gone.items = take_all i p.gone.items (subst (λ n. n ≤ i) (sym s.gone) h) in
     record { store = k.store; below = subst (λ xs. (b : ℕ) → AllBelow xs b → AllBelow kept.ids.items b) a k.below; clauses = λ id. k.clauses id ∙ rw (a, b, c) refl; times = λ l. k.times l ∙ times_whole l p.clauses p.gone.items i (s.gone ∙ sym s.clauses) (subst (λ n. n ≤ i) (sym s.clauses) h) }
 
--- that the clause under an id is at some index
+-- `IsStoredAt id c ids cs gs` holds if the clause `c` is stored under `id`, at some index.
 pub record IsStoredAt (id : ℕ) (c : List ℕ) (ids : List ℕ) (cs : List (List ℕ)) (gs : List Bool) : Type 0 where
   pub place : ℕ
   pub within : place < length cs
@@ -293,6 +300,7 @@ pub record IsStoredAt (id : ℕ) (c : List ℕ) (ids : List ℕ) (cs : List (Lis
   pub there : get_or gs place false ≡ false
   pub clause : get_or cs place [] ≡ c
 
+-- a clause that is found is at some index
 pub stands_at : (id : ℕ) (c : List ℕ) (ids : List ℕ) (cs : List (List ℕ)) (gs : List Bool) → listed_clause id ids cs gs ≡ Some c → IsStoredAt id c ids cs gs
 stands_at id c [] cs gs e = absurd cc
 stands_at id c (i ∷ ids) [] gs e = absurd cc

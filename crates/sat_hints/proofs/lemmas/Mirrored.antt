@@ -20,6 +20,7 @@ abbrev pub lines_by : List Announcement → List Line → List Line
 lines_by [] earlier = earlier
 lines_by (a ∷ more) earlier = lines_by more (with_line (announced_line a) earlier)
 
+-- the lines of notices are those of their announcements
 pub reported_lines : (f : Stored) (xs : List Announcement) (earlier : List Line) → announced_lines (notices_over f xs) earlier ≡ lines_by xs earlier
 reported_lines f [] earlier = refl
 reported_lines f (a ∷ xs) earlier = reported_lines f xs (with_line (announced_line a) earlier)
@@ -37,6 +38,7 @@ pub each_more : {A : Type 0} (P Q : A → Type 0) → ((x : A) → P x → Q x) 
 each_more P Q w [] h = tt
 each_more P Q w (x ∷ xs) h = (w x h.0, each_more P Q w xs h.1)
 
+-- what holds for each holds for one of them
 pub one_each : {A : Type 0} (P : A → Type 0) (x : A) (xs : List A) → AllByRecursion P xs → IsOneOf x xs → P x
 one_each P x [] h k = absurd k
 one_each P x (y ∷ ys) h k = elim k [ inl e ↦ subst P (sym e) h.0 | inr m ↦ one_each P x ys h.1 m ]
@@ -56,8 +58,8 @@ pub record HasAccepted (id : ℕ) (c : List ℕ) (cs : List StoredClause) : Type
   pub id_is : clause.id ≡ id
   pub literals_are : clause.literals ≡ c
 
--- That the lines are a derivation, and what is stored is present. A clause of two or more literals is present only if
--- it is stored.
+-- `Mirrors f lines` holds if the lines are a derivation, and what is stored is present. A clause of two or more
+-- literals is present only if it is stored.
 pub record Mirrors (f : Stored) (lines : List Line) : Type 0 where
   pub derivation : IsHintDerivation lines
   pub clauses : AllByRecursion (λ c. IsUnder lines c.id c.literals) f.clauses
@@ -205,6 +207,7 @@ long_same r ls f lines id e m = record {
     go true k = k
     go false k = omega (arith, k)
 
+-- a clause that is stored already leaves lines and store in agreement
 pub set_same : (r : Bool) (ls : List ℕ) (f : Stored) (lines : List Line) (id : ℕ) → id_of_set ls f ≡ Some id → Mirrors f lines → Mirrors (with_set r ls f) lines
 set_same r [] f lines id e m = absurd cc
 set_same r (l ∷ []) f lines id e m = subst (λ b. Mirrors (cond b f (cond (is_unit f (negated l)) (with_contradiction l f) (with_new_unit l f))) lines) (sym (unit_there l id f.units e)) m
@@ -298,6 +301,7 @@ module _ (line : Line) (set : List ℕ) (f : Stored) (lines : List Line) (new : 
     conflict = conflict_kept;
   }
 
+-- a new clause and its line leave lines and store in agreement
 pub set_new : (r : Bool) (set : List ℕ) (f : Stored) (lines : List Line) (line : Line) → id_of_set set f ≡ None → NewLine line f.next_id set lines → Mirrors f lines → Mirrors (with_set r set f) (line ∷ lines)
 set_new r [] f lines line e new m = empty_new line [] f lines new m refl (with_set r [] f) refl refl refl refl
 set_new r (l ∷ []) f lines line e new m = subst (λ b. Mirrors (cond b f (cond (is_unit f (negated l)) (with_contradiction l f) (with_new_unit l f))) (line ∷ lines)) (sym (unit_absent l f.units e)) (go (is_unit f (negated l)))

@@ -122,7 +122,7 @@ same_lines ks ls p q e =
     let a = later_than ks ls [] p q (sym e ∙ sym (append-nil (texts_in ks))) in
     a.are ∙ ap (λ x. x ++ ks) (no_texts a.later a.others)
 
--- that two lines at fault have the same number and the same reason
+-- `SameBad k l w v` holds if two lines at fault have the same number and the same reason.
 record SameBad (k l : ℕ) (w v : HintWhy) : Type 0 where
   number : k ≡ l
   why : w ≡ v

@@ -27,6 +27,7 @@ all_at : (P : ℕ → Type 0) (ls : List ℕ) (l : ℕ) → AllByRecursion P ls 
 all_at P [] l h m = absurd (true≢false (sym m))
 all_at P (x ∷ xs) l h m = elim (or_cases (eqb x l) (is_among xs l) m) [ inl e ↦ subst P (eqb-true x l e) h.0 | inr k ↦ all_at P xs l h.1 k ]
 
+-- a clause is unit with one literal at most
 pub same_unit : (assumed clause : List ℕ) (l m : ℕ) → IsUnit assumed clause l → IsUnit assumed clause m → m ≡ l
 same_unit assumed clause l m u v = elim (all_at (λ x. (x ≡ l) ⊎ (is_among assumed (negated x) ≡ true)) clause m u.others v.within) [
   | inl e ↦ e
@@ -230,13 +231,14 @@ pub texts_in-none : texts_in [] ≡ []
 unfolding texts_in
 texts_in-none = refl
 
+-- a text that begins with lines is split at these lines first
 pub lines_of_text : (ls : List Line) (more : List ℕ) → AreLines ls → lines (text_of ls ++ more) ≡ texts_in ls ++ lines more
 lines_of_text [] more h = sym (ap (λ t. t ++ lines more) texts_in-none)
 lines_of_text (l ∷ ls) more h =
     ap lines (append_assoc (text_of ls) (line_text l) more) ∙ lines_of_text ls (line_text l ++ more) h.1 ∙ ap (λ t. texts_in ls ++ t) (split_ended (line_text l) more (line_ended l h.0))
     ∙ sym (append_assoc (texts_in ls) (line_text l ∷ []) (lines more)) ∙ ap (λ t. t ++ lines more) (sym (texts_in-cons l ls))
 
--- that the first of several texts is that of the oldest line
+-- `Oldest ls t more` holds if `t` is the text of the oldest line, and `more` those of the others.
 record Oldest (ls : List Line) (t : List ℕ) (more : List (List ℕ)) : Type 0 where
   later : List Line
   line : Line
@@ -268,12 +270,13 @@ all_second : (P : Line → Type 0) (xs ys : List Line) → AllByRecursion P (xs 
 all_second P [] ys h = h
 all_second P (x ∷ xs) ys h = all_second P xs ys h.1
 
--- that all lines are the earlier ones and some later ones
+-- `Later all earlier more` holds if all lines are the earlier ones and some later ones, with the texts `more`.
 pub record Later (all earlier : List Line) (more : List (List ℕ)) : Type 0 where
   pub later : List Line
   pub are : all ≡ later ++ earlier
   pub others : texts_in later ≡ more
 
+-- a text that begins with that of earlier lines has these lines as its earlier ones
 pub later_than : (earlier all : List Line) (more : List (List ℕ)) → AreLines earlier → AreLines all → texts_in all ≡ texts_in earlier ++ more → Later all earlier more
 later_than [] all more p q e = record { later = all; are = sym (append-nil all); others = e ∙ ap (λ x. x ++ more) texts_in-none }
 later_than (l ∷ ls) all more p q e =

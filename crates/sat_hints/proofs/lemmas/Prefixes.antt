@@ -18,17 +18,18 @@ use Rattle.sat_base.proofs.lemmas.text.NumberWords.{at_space, id_first}
 abbrev end : List ℕ
 end = 48 ∷ 10 ∷ []
 
+-- every limit of a part fits into 64 bits
 pub limit_fits : (part : Part) → limit_of part < 2 ^ 64
 limit_fits End = omega arith
 limit_fits e = omega arith
 
--- that a part begins with a number, with `-` and a number, or with `0`
+-- `Turn part bytes` holds if the part begins with a number, with `-` and a number, or with `0`.
 data Turn (part : Part) (bytes : List ℕ) : Type 0 where
   begun : Numbered (limit_of part) (IsPartOfLine (next_of part)) 0 bytes → Turn part bytes
   negative : (rest : List ℕ) → bytes ≡ 45 ∷ rest → IsLeftIf (sign_place part) rest → Turn part bytes
   last : (rest : List ℕ) → bytes ≡ 48 ∷ rest → IsLeftIf (zero_place part) rest → Turn part bytes
 
--- that the bytes begin with a literal and a space
+-- `Signed Rest bytes` holds if the bytes begin with a literal and a space, and `Rest` holds of what follows.
 data Signed (Rest : List ℕ → Type 0) (bytes : List ℕ) : Type 0 where
   plain : Numbered var_limit Rest 0 bytes → Signed Rest bytes
   minus : (rest : List ℕ) → bytes ≡ 45 ∷ rest → Numbered var_limit Rest 0 rest → Signed Rest bytes
@@ -111,12 +112,14 @@ number_goes part number b m within e more w = record {
   following = w.following;
 }
 
+-- no line continues with a byte that neither continues nor ends the number
 pub number_stops : (part : Part) (number b : ℕ) → number < 2 ^ 64 → (b ≡ 32 → number ≡ 0) → NoDigit (limit_of part) number b → LeadsToPlace (Digits part number) (b ∷ []) None
 number_stops part number b small space none more w =
     let r = number_goes_on (limit_of part) (limit_fits part) number b more w.value w.rest small space w.within w.whole in
     none w.value r.0 w.within r.1
 
--- that the bytes read so far lead from one place to another, and `rest` was not read yet
+-- `LeadsSoFar from bytes here rest` holds if the bytes read so far lead from one place to another, and `rest` was not
+-- read yet.
 pub record LeadsSoFar (from : Place) (bytes : List ℕ) (here : Place) (rest : List ℕ) : Type 0 where
   pub inside : HasNoEnd rest
   pub leads : (more : List ℕ) → IsRestOfLine from (bytes ++ more) → IsRestOfLine here (rest ++ more)

@@ -42,7 +42,7 @@ put_three xs ys zs a b c d h k l = put_more xs (ys ++ zs) a b d h (put_more ys z
 pub put_four : (xs ys zs ws : List ℕ) (a b c d e : Outlet) → PutsText xs a b → PutsText ys b c → PutsText zs c d → PutsText ws d e → PutsText (xs ++ (ys ++ (zs ++ ws))) a e
 put_four xs ys zs ws a b c d e h k l m = put_more xs (ys ++ (zs ++ ws)) a b e h (put_three ys zs ws b c d e k l m)
 
--- that a prefix of the text was put, and `left` is the rest
+-- `PutSoFar whole left old new` holds if a prefix of the text was put, and `left` is the rest.
 pub record PutSoFar (whole left : List ℕ) (old new : Outlet) : Type 0 where
   pub front : List ℕ
   pub rest : whole ≡ front ++ left
@@ -89,6 +89,7 @@ first_byte_waits w bytes len byte a b c z h p e f g k =
     let f' : b.sink ≡ record { writer = w; waiting = take 0 bytes } = f ∙ ap (λ (n : ℕ). let s : Sink = record { writer = w; waiting = take n bytes } in s) z in
     put_more [] (byte ∷ []) a b c p (byte_waits w bytes 0 byte b c h e f' g k)
 
+-- the ID of the largest id is 2^64
 pub past_all : (id : ℕ) → id < 2 ^ 64 → 2 ^ 64 ≤ id + 1 → codes "18446744073709551616 " ≡ decimal (id + 1) ++ (32 ∷ [])
 unfolding digits
 past_all id h k = let e : id + 1 ≡ 18446744073709551616 = omega arith in rw e refl

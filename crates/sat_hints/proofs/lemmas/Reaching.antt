@@ -216,6 +216,7 @@ digits_complete : (part : Part) (number : ℕ) → number ≤ limit_of part → 
 digits_complete part zero w = let c = part_completes (next_of part) in (49, 32 ∷ c.0 ∷ c.1, one_more (limit_of part) (IsPartOfLine (next_of part)) c.0 c.1 (least_limit part) c.2)
 digits_complete part (suc n) w = let c = part_completes (next_of part) in (32, c.0 ∷ c.1, record { value = suc n; rest = c.0 ∷ c.1; within = (omega arith, w); whole = refl; following = c.2 })
 
+-- every place within its limit is completed by some bytes
 pub completes : (place : Place) → IsWithinLimit place → Completes place
 completes Letter w = (120, 32 ∷ 49 ∷ 32 ∷ end, (Gone 0, ((omega arith, tt), ap (λ ds. 120 ∷ 32 ∷ ((ds ++ (32 ∷ [])) ++ end)) (sym one_text))))
 completes (Space part) w = let c = part_completes part in (32, c.0 ∷ c.1, (c.0 ∷ c.1, refl, c.2))

@@ -1,7 +1,7 @@
 -- Literals, or their negations, that are assumed one after another.
 use Rattle.std.proofs.Common.{ℕ, zero, suc, ◌+◌, ◌<◌, ◌≤◌, ◌≡◌, ◌≢◌, Bool, true, false, ◌||◌, eqb, List, [], ◌∷◌, length, take, drop, get_or, refl, sym, ◌∙◌, ap, subst, arith, ◌⊎◌, inl, inr}
 use Rattle.std.proofs.lemmas.Bool.{or_cases, or_left, or_right, both_ways, eqb-true, eq-eqb, true≢false}
-use Rattle.std.proofs.lemmas.List.{take_more, take_all, take-append-drop, take-map, get_or-map, length-map}
+use Rattle.std.proofs.lemmas.List.{take_more, take_all, take-append-drop, get_or-map, length-map}
 use Rattle.sat_base.specs.values.Literals.{negated, negated_if}
 use Rattle.sat_checker.specs.LiteralSets.{is_among, is_tautology}
 use Rattle.sat_checker.specs.inner.AssumedRoom.{AgreesOn, signed}
@@ -9,11 +9,11 @@ use Rattle.sat_checker.proofs.lemmas.sets.Canonical.{tautology_from, both_signs}
 use Rattle.sat_checker.proofs.lemmas.sets.Order.{among-append}
 use Rattle.sat_hints.specs.inner.Course.{AreJustAssumed}
 
--- that no literal is in the list together with its negation
+-- `OneSign ls` holds if no literal is in the list together with its negation.
 abbrev pub OneSign : List ℕ → Type 0
 OneSign ls = (l : ℕ) → is_among ls l ≡ true → is_among ls (negated l) ≡ true → ⊥
 
--- that the first `count` literals are assumed, none together with its negation
+-- `AssumesFirst ls count assumed` holds if the first `count` literals are assumed, none together with its negation.
 pub record AssumesFirst (ls : List ℕ) (count : ℕ) (assumed : List ℕ) : Type 0 where
   pub are : AreJustAssumed (take count ls) assumed
   pub one_sign : OneSign (take count ls)
@@ -125,7 +125,7 @@ no_both ls one = go (is_tautology ls) refl
     go true t = let s = both_signs ls t in absurd (one s.literal s.within s.negation)
     go false t = refl
 
--- that all literals are assumed, and none is together with its negation
+-- `AssumesAll ls assumed` holds if all literals are assumed, and none is together with its negation.
 pub record AssumesAll (ls assumed : List ℕ) : Type 0 where
   pub consistent : is_tautology ls ≡ false
   pub are : AreJustAssumed ls assumed
@@ -136,62 +136,14 @@ assumes_all ls assumed i h so_far =
     record { consistent = no_both ls (subst OneSign e so_far.one_sign); are = subst (λ xs. AreJustAssumed xs assumed) e so_far.are }
 
 -- AS FAR AS THERE IS ROOM
--- that the first `count` literals with room are assumed, and none of the first `count` is with its negation
-pub record AgreesFirst (room ls : List ℕ) (count : ℕ) (assumed : List ℕ) : Type 0 where
-  pub agrees : AgreesOn room assumed (take count ls)
-  pub one_sign : OneSign (take count ls)
+-- one more literal is assumed, if there is room for it
+pub agrees_more : (negate : Bool) (ls : List ℕ) (i item next : ℕ) (room assumed new : List ℕ) → i < length ls → item ≡ get_or ls i item → next ≡ negated_if negate item → AgreesOn room assumed (take i (signed negate ls))
+    → AgreesOn room new (next ∷ assumed) → AgreesOn room new (take (i + 1) (signed negate ls))
+agrees_more negate ls i item next room assumed new inside is x so_far a =
+    let inner : i < length (signed negate ls) = subst (λ n. i < n) (sym (length-signed negate ls)) inside in
+    λ m r. a m r ∙ ap (λ b. eqb next m || b) (so_far m r) ∙ ap (λ y. eqb y m || is_among (take i (signed negate ls)) m) (lit_at negate ls i item next inside is x) ∙ among_last (signed negate ls) i inner m
 
-pub agrees_none : (room ls assumed : List ℕ) → assumed ≡ [] → AgreesFirst room ls 0 assumed
-agrees_none room ls assumed e = rw e (record { agrees = λ l r. refl; one_sign = λ l a b. true≢false (sym a) })
-
-eqb-negated : (x m : ℕ) → eqb (negated x) (negated m) ≡ eqb x m
-eqb-negated x m = go (eqb x m) refl (eqb (negated x) (negated m)) refl
-  where
-    go : (b : Bool) → eqb x m ≡ b → (d : Bool) → eqb (negated x) (negated m) ≡ d → eqb (negated x) (negated m) ≡ eqb x m
-    go true e d f = eq-eqb (negated x) (negated m) (ap negated (eqb-true x m e)) ∙ sym e
-    go false e false f = f ∙ sym e
-    go false e true f = let same : x ≡ m = sym (negated-negated x) ∙ ap negated (eqb-true (negated x) (negated m) f) ∙ negated-negated m in absurd (both_ways (eqb x m) e (eq-eqb x m same))
-
-among-signed : (negate : Bool) (xs : List ℕ) (m : ℕ) → is_among (signed negate xs) (negated_if negate m) ≡ is_among xs m
-among-signed true [] m = refl
-among-signed true (x ∷ xs) m = ap (λ b. b || is_among (signed true xs) (negated m)) (eqb-negated x m) ∙ ap (λ b. eqb x m || b) (among-signed true xs m)
-among-signed false xs m = refl
-
-take-signed : (negate : Bool) (i : ℕ) (ls : List ℕ) → take i (signed negate ls) ≡ signed negate (take i ls)
-take-signed true i ls = take-map negated i ls
-take-signed false i ls = refl
-
-turned : (negate : Bool) (x : ℕ) → negated (negated_if negate x) ≡ negated_if negate (negated x)
-turned true x = refl
-turned false x = refl
-
--- negating all literals does not change whether a literal's negation is before it
-among_before : (negate : Bool) (ls : List ℕ) (i : ℕ) → i < length ls → is_among (take i (signed negate ls)) (negated (get_or (signed negate ls) i 0)) ≡ is_among (take i ls) (negated (get_or ls i 0))
-among_before negate ls i h =
-    ap (λ xs. is_among xs (negated (get_or (signed negate ls) i 0))) (take-signed negate i ls)
-    ∙ ap (is_among (signed negate (take i ls))) (ap negated (signed-at negate ls i h) ∙ turned negate (get_or ls i 0)) ∙ among-signed negate (take i ls) (negated (get_or ls i 0))
-
-module _ (negate : Bool) (ls before : List ℕ) (i item : ℕ) (inside : i < length ls) (front : before ≡ take i ls) (is : item ≡ get_or ls i item) where
-  before_is : (lit : ℕ) → lit ≡ negated item → is_among before lit ≡ is_among (take i (signed negate ls)) (negated (get_or (signed negate ls) i 0))
-  before_is lit n = ap (λ xs. is_among xs lit) front ∙ ap (is_among (take i ls)) (n ∙ ap negated (is ∙ same_default ls i item 0 inside)) ∙ sym (among_before negate ls i inside)
-
-  pub before_met : (lit : ℕ) → lit ≡ negated item → is_among before lit ≡ true → is_tautology (signed negate ls) ≡ true
-  before_met lit n h = both_stand (signed negate ls) i (subst (λ n. i < n) (sym (length-signed negate ls)) inside) (sym (before_is lit n) ∙ h)
-
-  pub agrees_more : (room assumed new : List ℕ) (lit next : ℕ) → AgreesFirst room (signed negate ls) i assumed → lit ≡ negated item → is_among before lit ≡ false → next ≡ negated_if negate item → AgreesOn room new (next ∷ assumed) → AgreesFirst room (signed negate ls) (i + 1) new
-  agrees_more room assumed new lit next so_far n h x a =
-      let inner : i < length (signed negate ls) = subst (λ n. i < n) (sym (length-signed negate ls)) inside in
-      record {
-        agrees = λ m r.
-            a m r ∙ ap (λ b. eqb next m || b) (so_far.agrees m r) ∙ ap (λ y. eqb y m || is_among (take i (signed negate ls)) m) (lit_at negate ls i item next inside is x) ∙ among_last (signed negate ls) i inner m;
-        one_sign = one_sign_more (signed negate ls) i inner so_far.one_sign (sym (before_is lit n) ∙ h);
-      }
-
-pub record AgreesAll (room ls assumed : List ℕ) : Type 0 where
-  pub consistent : is_tautology ls ≡ false
-  pub agrees : AgreesOn room assumed ls
-
-pub agrees_all : (room ls assumed : List ℕ) (i : ℕ) → length ls ≤ i → AgreesFirst room ls i assumed → AgreesAll room ls assumed
-agrees_all room ls assumed i h so_far =
-    let e : take i ls ≡ ls = take_all i ls h in
-    record { consistent = no_both ls (subst OneSign e so_far.one_sign); agrees = subst (λ xs. AgreesOn room assumed xs) e so_far.agrees }
+-- once all literals were seen, those assumed agree with them, as far as there is room
+pub agrees_all : (negate : Bool) (ls : List ℕ) (i : ℕ) (room assumed : List ℕ) → length ls ≤ i → AgreesOn room assumed (take i (signed negate ls)) → AgreesOn room assumed (signed negate ls)
+agrees_all negate ls i room assumed h so_far =
+    subst (λ xs. AgreesOn room assumed xs) (take_all i (signed negate ls) (subst (λ n. n ≤ i) (sym (length-signed negate ls)) h)) so_far

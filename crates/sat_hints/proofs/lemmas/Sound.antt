@@ -39,7 +39,7 @@ holds_too a clause cs h k = elim (cases_Bool (clause_true a clause)) [
   | inr n ↦ absurd (conflicts_never a (map negated clause) cs h k (negations_true a clause n))
 ]
 
--- that every clause that is present holds
+-- `Present lines a` holds if every clause that is present after the lines holds in `a`.
 abbrev Present : List Line → Valuation → Type 0
 Present lines a = (id : ℕ) (c : List ℕ) → clause_under id lines ≡ Some c → clause_true a c ≡ true
 

@@ -16,15 +16,18 @@ one_before ls rest = literal_words ls ++ (48 ∷ 10 ∷ rest)
 abbrev both_before : List ℕ → List ℕ → List ℕ → List ℕ
 both_before ls ids rest = literal_words ls ++ (48 ∷ 32 ∷ (id_words ids ++ (48 ∷ 10 ∷ rest)))
 
+-- what is read as `LITS 0` is what the bytes begin with, or they begin with no such list
 pub one_answer : (found : Option (Bor (List ℕ))) (bytes ls rest : List ℕ) → BeginsWithWords number_text IsLiteralCode bytes ls rest → MatchOption found ((tail : List ℕ) → rest ≡ 48 ∷ 10 ∷ tail → ⊥) (λ x. rest ≡ 48 ∷ 10 ∷ x.now)
     → MatchOption found ((ks tail : List ℕ) → BeginsWithOne bytes ks tail → ⊥) (λ x. BeginsWithOne bytes ls x.now)
 one_answer None bytes ls rest r never = λ ks tail o. never tail (ended_words number_text IsLiteralCode literals_are_words bytes ls rest r ks (10 ∷ tail) o.0 o.1).rests
 one_answer (Some x) bytes ls rest r e = (r.are, r.whole ∙ ap (λ t. literal_words ls ++ t) e)
 
+-- without a `0` after the literals, the bytes begin with no two lists
 pub both_no_middle : (bytes ls rest : List ℕ) → BeginsWithWords number_text IsLiteralCode bytes ls rest → ((tail : List ℕ) → rest ≡ 48 ∷ 32 ∷ tail → ⊥) → (ks is tail : List ℕ) → BeginsWithBoth bytes ks is tail → ⊥
 both_no_middle bytes ls rest r never ks is tail o =
     never (id_words is ++ (48 ∷ 10 ∷ tail)) (ended_words number_text IsLiteralCode literals_are_words bytes ls rest r ks (32 ∷ (id_words is ++ (48 ∷ 10 ∷ tail))) o.0 o.2).rests
 
+-- what is read as `LITS 0 IDS 0` is what the bytes begin with, or they begin with no such lists
 pub both_answer : (found : Option (Bor (List ℕ))) (bytes ls rest following ids last : List ℕ) → BeginsWithWords number_text IsLiteralCode bytes ls rest → rest ≡ 48 ∷ 32 ∷ following → BeginsWithWords id_text IsId following ids last
     → MatchOption found ((tail : List ℕ) → last ≡ 48 ∷ 10 ∷ tail → ⊥) (λ x. last ≡ 48 ∷ 10 ∷ x.now) → MatchOption found ((ks is tail : List ℕ) → BeginsWithBoth bytes ks is tail → ⊥) (λ x. BeginsWithBoth bytes ls ids x.now)
 both_answer None bytes ls rest following ids last r e s never = λ ks is tail o.

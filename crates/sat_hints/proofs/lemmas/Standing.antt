@@ -42,6 +42,7 @@ if_more : (b : Bool) (m n k : ℕ) → m ≡ n + k → if_counting b n + if_coun
 if_more true m n k e = sym e
 if_more false m n k e = refl
 
+-- a stored clause is present, with its literals counted
 pub gains : (old new : ActiveClauses) (id : ℕ) (clause : List ℕ) → ActiveClausesInvariant old → SinceWithin old id → AddsPresentClause old.present new.present id clause → new.since ≡ old.since → new.uses.counting ≡ old.uses.counting
     → ((l : ℕ) → uses_at new.uses l ≡ uses_at old.uses l + if_counting old.uses.counting (times_long l clause)) → AddsActiveClause old new id clause
 gains old new id clause s w a e c u = record {
@@ -65,6 +66,7 @@ if_few : (b : Bool) (n : ℕ) → if_counting b n ≤ n
 if_few true n = omega arith
 if_few false n = omega arith
 
+-- no count exceeds the number of clauses
 pub few_uses : (old new : Present) (u : Uses) (id : ℕ) (clause : List ℕ) → IsStore old → ((l : ℕ) → uses_at u l ≡ if_counting u.counting (occurrences_of old l)) → IsIncreasing clause → AddsPresentClause old new id clause → (l : ℕ) → uses_at u l + times_long l clause ≤ length new.ids.items
 few_uses old new u id clause s c i a l =
     let x : uses_at u l ≡ if_counting u.counting (occurrences_of old l) = c l in
@@ -103,6 +105,7 @@ module _ (old : ActiveClauses) (id place : ℕ) (s : ActiveClausesInvariant old)
       let k : times_long l (present_clause_at old.present place) ≤ occurrences_of old.present l = times-there l old.present.clauses old.present.gone.items place (s.store.gone ∙ sym s.store.clauses) f.within g in
       if_below old.uses.counting (times_long l clause) (occurrences_of old.present l) (uses_at old.uses l) (subst (λ c. times_long l c ≤ occurrences_of old.present l) (sym e) k) (s.counted l)
 
+  -- a removed clause is not present, and its literals are not counted
   pub drops : (new : ActiveClauses) (clause : List ℕ) → clause ≡ present_clause_at old.present place → Loses old.present new.present (get_or old.present.ids.items place 0) → new.since ≡ old.since → new.uses.counting ≡ old.uses.counting
       → ((l : ℕ) → uses_at new.uses l + if_counting old.uses.counting (times_long l clause) ≡ uses_at old.uses l) → DropsClause old new id
   drops new clause e lost w c u =
@@ -170,6 +173,7 @@ module _ (s : ActiveClauses) (v : ℕ) (st : IsStore s.present) where
       let n : 0 < times_long (2 * v) u.clause + times_long (2 * v + 1) u.clause = mentions_counted v u.clause u.long u.within in
       omega (arith, h, a, b, c, d, n)
 
+  -- a variable is used exactly if one of its literals is counted
   pub used_is : (r : Bool) → MatchBool r (0 < both) (both ≡ 0) → MatchBool r (IsUsed s v) (IsUsed s v → ⊥)
   used_is true h = used_some h
   used_is false h = used_none h
@@ -207,6 +211,7 @@ module _ (old new : ActiveClauses) (v bound : ℕ) (s : ActiveClausesInvariant o
   within x true e = let a = at x ∙ ap (λ b. cond b bound (value_at 0 old.since x)) e in omega (arith, a)
   within x false e = let a = at x ∙ ap (λ b. cond b bound (value_at 0 old.since x)) e in let k = w x in omega (arith, a, k)
 
+  -- a variable becomes new if its bound is raised above all ids
   pub forgets : RenewsVariable old new v bound
   forgets = record {
     standing = record {

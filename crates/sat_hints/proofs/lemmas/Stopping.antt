@@ -75,6 +75,7 @@ line_stops old bytes all w a h text r =
       few = omega arith;
     }
 
+-- if memory runs out for a line that may follow, the bytes are such a line
 pub judged_whole : {T E : Type 0} (r : Result T E) (checker : LineChecker) (bytes rest : List ℕ) (line : Line) → BeginsWithHintLine bytes line rest → OnErr r (MayFollow checker line)
     → OnErr r (IsWholeLine bytes → (lines : List Line) → HasTakenLines checker lines → AcceptsLineBytes lines bytes)
 judged_whole (Ok x) checker bytes rest line read may = tt

@@ -117,6 +117,7 @@ derived_refuted : (old : LineChecker) (id : ℕ) (clause ids : List ℕ) (why : 
 derived_refuted old id clause ids why l r lines t =
     refuted lines (Derived id clause ids) (map negated clause) (subst (λ n. n ≤ id) t.least l) refl old.standing why t.clauses r
 
+-- a derived clause whose clauses lead to a conflict may follow
 pub derived_may : (old : LineChecker) (id : ℕ) (clause ids : List ℕ) → old.least_id ≤ id → WhyNotRefuted old.standing (signed true clause) ids None → MayFollow old (Derived id clause ids)
 derived_may old id clause ids l r lines t = derived_refuted old id clause ids None l r lines t
 
@@ -162,6 +163,7 @@ gone_follows s id lines same h =
     let c = some_clause (active_clause s id) h in
     record { in_order = tt; clauses = c.0 ∷ []; present = ap (λ o. and_clauses o (Some [])) (sym (same id) ∙ c.1); conflict = tt; unused = λ u. u }
 
+-- a line that removes a present clause may follow
 pub gone_may : (old : LineChecker) (id : ℕ) → active_clause old.standing id ≢ None → MayFollow old (Gone id)
 gone_may old id h lines t = gone_follows old.standing id lines t.clauses h
 

@@ -8,10 +8,12 @@ pub uses_in_order : (earlier : List Line) (line : Line) → UsesVariable earlier
 uses_in_order earlier (Fresh v) u = tt
 uses_in_order earlier e u = absurd u
 
+-- a line that uses a variable names no clause
 pub uses_none : (earlier : List Line) (line : Line) → UsesVariable earlier line → clauses_under (named_ids line) earlier ≡ Some []
 uses_none earlier (Fresh v) u = refl
 uses_none earlier e u = absurd u
 
+-- a line that uses a variable assumes nothing
 pub uses_nothing : (earlier : List Line) (line : Line) → UsesVariable earlier line → assumed_by line ≡ None
 uses_nothing earlier (Fresh v) u = refl
 uses_nothing earlier e u = absurd u

@@ -162,6 +162,7 @@ lines_within (Gone id ∷ lines) d l h = (named_below (id ∷ []) lines d.1.clau
 lines_within (Core core ids ∷ lines) d l h = ((h.0, named_below ids lines d.1.clauses (2 ^ 64 - 1) d.0 l d.1.present), lines_within lines d.0 l h.1)
 lines_within (Fresh v ∷ lines) d l h = (h.0, lines_within lines d.0 l h.1)
 
+-- the lines of accepted steps that fit are within their limits
 pub all_within : (steps : List Step) → IsHintDerivation (lines_of steps) → least_id (lines_of steps) ≤ (ready_after steps).next_id → (ready_after steps).next_id < 2 ^ 64 → AllByRecursion FitsStep steps → AreLines (lines_of steps)
 all_within steps d l n h = lines_within (lines_of steps) d (omega (arith, l, n)) (lines_fit steps h)
 
@@ -184,5 +185,6 @@ fields_fit (UnitClauses us) bytes h = units_read us bytes h
 fields_fit (FailedAssumptions core hs) bytes h = literals_read core h.0 h.2
 fields_fit step bytes h = tt
 
+-- steps that are read from bytes fit
 pub read_fit : (steps : List Step) (bytes : List ℕ) → SpellsSteps steps bytes → AllByRecursion FitsStep steps
 read_fit steps bytes h = items_each SpellsStep FitsStep (λ step b k. fields_fit step k.0 k.2) steps bytes h

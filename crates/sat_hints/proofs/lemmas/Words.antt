@@ -12,7 +12,7 @@ use Rattle.sat_hints.specs.inner.LineReading.{IsId, IsVariableIndex, IsLiteralCo
 use Rattle.sat_base.specs.text.NumberWords.{IsNumberUpTo, EndsNone, NoWord, BeginsWithWord, digits_so_far}
 use Rattle.sat_base.proofs.lemmas.text.NumberWords.{Plain, at_space, id_first, plain_number, are_digits}
 
--- that no word has a space or begins with `0`, and every word has one value
+-- `AreWords word P` holds if no word has a space or begins with `0`, and every word has one value.
 pub record AreWords (word : ℕ → List ℕ) (P : ℕ → Type 0) : Type 0 where
   pub plain : (x : ℕ) → P x → Plain (word x)
   pub one : (x y : ℕ) → P x → P y → word x ≡ word y → x ≡ y
@@ -55,11 +55,12 @@ module _ (word : ℕ → List ℕ) (P : ℕ → Type 0) where
   all-snoc [] x p q = (q, tt)
   all-snoc (y ∷ ys) x p q = (p.0, all-snoc ys x p.1 q)
 
-  -- that these words were read so far
+  -- `ReadSoFar bytes xs rest` holds if the words of `xs` were read from the bytes so far, and `rest` is left.
   pub record ReadSoFar (bytes xs rest : List ℕ) : Type 0 where
     pub are : AllByRecursion P xs
     pub whole : bytes ≡ spaced_words word xs ++ rest
 
+  -- one more word was read
   pub read_one : (bytes xs rest : List ℕ) (x : ℕ) (following ys : List ℕ) → ReadSoFar bytes xs rest → BeginsWithWord word P rest x following → ys ≡ xs ++ (x ∷ []) → ReadSoFar bytes ys following
   read_one bytes xs rest x following ys r b e = rw e (record {
     are = all-snoc xs x r.are b.0;

@@ -10,8 +10,8 @@ use Rattle.sat_hints.specs.inner.Clauses.{present_clause_at, clause_in, occurren
 use Rattle.sat_hints.specs.inner.UsesView.{if_counting, uses_at}
 use Rattle.sat_hints.specs.declared.active_clauses.ActiveClauses.{ActiveClauses}
 
--- whether the clause is stale: a unit whose id is below the bound of its variable, so that the variable became new
--- after the unit was added
+-- `is_stale since id clause` is true if the clause is a stale unit: its id is below the bound of its variable, which
+-- became new after the unit was added.
 abbrev pub is_stale : Table ℕ → ℕ → List ℕ → Bool
 is_stale since id [] = false
 is_stale since id (l ∷ []) = nat_lt id (value_at 0 since (variable l))
@@ -26,43 +26,45 @@ unless_stale since id (Some c) = if is_stale since id c then None else Some c
 abbrev pub active_clause : ActiveClauses → ℕ → Option (List ℕ)
 active_clause s id = unless_stale s.since id (clause_in s.present id)
 
--- the clauses under these ids, if all are present
+-- the present clauses under these ids, in their order, or `None` if one of them is not present
 abbrev pub active_clauses : ActiveClauses → List ℕ → Option (List (List ℕ))
 active_clauses s [] = Some []
 active_clauses s (id ∷ ids) = and_clauses (active_clause s id) (active_clauses s ids)
 
--- that the bound of every variable is at most this id
+-- `SinceWithin s bound` holds if the bound of every variable in `since` is at most this id.
 abbrev pub SinceWithin : ActiveClauses → ℕ → Type 0
 SinceWithin s bound = (v : ℕ) → value_at 0 s.since v ≤ bound
 
--- That the store is in order. Once counting has begun, the counts are those of the literals in clauses of two or more
--- literals; before, they are 0.
+-- `ActiveClausesInvariant s` holds if the store is in order, and the counts are those of the literals in clauses of two
+-- or more literals, once counting has begun; before, they are 0.
 pub record ActiveClausesInvariant (s : ActiveClauses) : Type 0 where
   pub store : IsStore s.present
   pub counted : (l : ℕ) → uses_at s.uses l ≡ if_counting s.uses.counting (occurrences_of s.present l)
 
--- that the clause under this id is present and at this place
+-- `FindsClause s id place` holds if the clause under this id is present, not stale, and at this place.
 pub record FindsClause (s : ActiveClauses) (id place : ℕ) : Type 0 where
   pub within : place < length s.present.clauses
   pub named : slice_index s.present.ids.items place ≡ id
   pub stored : clause_in s.present id ≡ Some (present_clause_at s.present place)
   pub clause : active_clause s id ≡ Some (present_clause_at s.present place)
 
--- that a clause was added under this id
+-- `AddsActiveClause old new id clause` holds if the clause was added under this id, the other present clauses and the
+-- bounds are the same, and the invariant holds.
 pub record AddsActiveClause (old new : ActiveClauses) (id : ℕ) (clause : List ℕ) : Type 0 where
   pub standing : ActiveClausesInvariant new
   pub below : (k : ℕ) → id < k → AllBelow new.present.ids.items k
   pub since : new.since ≡ old.since
   pub clauses : (j : ℕ) → active_clause new j ≡ (if j == id then Some clause else active_clause old j)
 
--- that no clause is present under this id, and the other present clauses are the same
+-- `DropsClause old new id` holds if no clause is present under this id, the other present clauses and the bounds are
+-- the same, and the invariant holds.
 pub record DropsClause (old new : ActiveClauses) (id : ℕ) : Type 0 where
   pub standing : ActiveClausesInvariant new
   pub below : (k : ℕ) → AllBelow old.present.ids.items k → AllBelow new.present.ids.items k
   pub since : new.since ≡ old.since
   pub clauses : (j : ℕ) → active_clause new j ≡ (if j == id then None else active_clause old j)
 
--- that a present clause of two or more literals contains the variable
+-- `IsUsed s v` holds if a present clause of two or more literals contains the variable `v`.
 pub record IsUsed (s : ActiveClauses) (v : ℕ) : Type 0 where
   pub id : ℕ
   pub clause : List ℕ
@@ -70,13 +72,15 @@ pub record IsUsed (s : ActiveClauses) (v : ℕ) : Type 0 where
   pub long : is_long clause ≡ true
   pub within : mentions clause v ≡ true
 
--- that a variable became new, its units are no longer present, and the other present clauses are the same
+-- `RenewsVariable old new v bound` holds if the variable `v` became new: its units are no longer present, the other
+-- present clauses are the same, no bound exceeds `bound`, and the invariant holds.
 pub record RenewsVariable (old new : ActiveClauses) (v bound : ℕ) : Type 0 where
   pub standing : ActiveClausesInvariant new
   pub present : new.present ≡ old.present
   pub since : SinceWithin new bound
   pub clauses : (j : ℕ) → active_clause new j ≡ unless_unit_over v (active_clause old j)
 
--- that there is room for the literals of every present clause, and for their negations
+-- `HasRoomForPresent room s` holds if `room` is enough for the literals of every present clause, and for their
+-- negations.
 abbrev pub HasRoomForPresent : List ℕ → ActiveClauses → Type 0
 HasRoomForPresent room s = (id : ℕ) (clause : List ℕ) → active_clause s id ≡ Some clause → HasClauseRoom room clause

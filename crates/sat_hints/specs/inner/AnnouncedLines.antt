@@ -17,13 +17,14 @@ text_if (Some line) = line_text line
 abbrev pub announced_text : Notice → List ℕ
 announced_text t = text_if (announced_line t.announcement)
 
--- that the result is an error exactly when a write has failed
+-- `AnswersIf failed result` holds if the result is an error exactly if `failed` is true.
 abbrev pub AnswersIf : Bool → Result (Unit {0}) Error → Type 0
 AnswersIf false result = result ≡ Ok tt
 AnswersIf true (Ok x) = ⊥
 AnswersIf true (Err e) = Unit {0}
 
--- that the line for the announcement was written, or a write has failed; only then the result is an error
+-- `PutsAnnouncedLine seen old t result new` holds if the line for the announcement was written, or a write has failed,
+-- now or before; exactly then the result is an error.
 pub record PutsAnnouncedLine {W : Type 0} (seen : W → Writer) (old : LineWriter W) (t : Notice) (result : Result (Unit {0}) Error) (new : LineWriter W) : Type 0 where
   pub puts : PutsText (announced_text t) (outlet seen old) (outlet seen new)
   pub answers : AnswersIf new.failed result

@@ -35,24 +35,25 @@ times_kept l (c ∷ cs) (g ∷ gs) = (if g then 0 else times_long l c) + times_k
 abbrev pub occurrences_of : Present → ℕ → ℕ
 occurrences_of p l = times_kept l p.clauses p.gone.items
 
--- that all ids are below the bound
+-- `AllBelow ids bound` holds if all ids are below the bound.
 abbrev pub AllBelow : List ℕ → ℕ → Type 0
 AllBelow ids bound = (i : ℕ) → i < length ids → slice_index ids i < bound
 
--- that every id has a flag and a clause, which is a sorted set, and the ids increase
+-- `IsStore p` holds if every id has a flag and a clause, the clauses are sorted sets, and the ids increase.
 pub record IsStore (p : Present) : Type 0 where
   pub clauses : length p.clauses ≡ length p.ids.items
   pub gone : length p.gone.items ≡ length p.ids.items
   pub rises : (i j : ℕ) → i < j → j < length p.ids.items → slice_index p.ids.items i < slice_index p.ids.items j
   pub sets : AllByRecursion IsIncreasing p.clauses
 
--- that the clause under this id is present and at this place
+-- `FindsPresentClause p id place` holds if the clause under this id is stored, not removed, and at this place.
 pub record FindsPresentClause (p : Present) (id place : ℕ) : Type 0 where
   pub within : place < length p.clauses
   pub named : slice_index p.ids.items place ≡ id
   pub clause : clause_in p id ≡ Some (present_clause_at p place)
 
--- that a clause was added under an id above all others
+-- `AddsPresentClause old new id clause` holds if the clause was added under this id, which is below every bound of the
+-- ids afterwards, the other clauses are the same, and the store is in order.
 pub record AddsPresentClause (old new : Present) (id : ℕ) (clause : List ℕ) : Type 0 where
   pub store : IsStore new
   pub below : (k : ℕ) → id < k → AllBelow new.ids.items k
@@ -60,14 +61,15 @@ pub record AddsPresentClause (old new : Present) (id : ℕ) (clause : List ℕ) 
   pub times : (l : ℕ) → occurrences_of new l ≡ occurrences_of old l + times_long l clause
   pub longer : length new.ids.items ≡ length old.ids.items + 1
 
--- that no clause is left under this id, and the other clauses are the same
+-- `Loses old new id` holds if no clause is left under this id, the other clauses are the same, and the store is in
+-- order.
 pub record Loses (old new : Present) (id : ℕ) : Type 0 where
   pub store : IsStore new
   pub below : (k : ℕ) → AllBelow old.ids.items k → AllBelow new.ids.items k
   pub clauses : (j : ℕ) → clause_in new j ≡ (if j == id then None else clause_in old j)
   pub times : (c : List ℕ) → clause_in old id ≡ Some c → (l : ℕ) → occurrences_of new l + times_long l c ≡ occurrences_of old l
 
--- that the clauses that are not removed are the same
+-- `SamePresentClauses old new` holds if the clauses that are not removed are the same, and the store is in order.
 pub record SamePresentClauses (old new : Present) : Type 0 where
   pub store : IsStore new
   pub below : (k : ℕ) → AllBelow old.ids.items k → AllBelow new.ids.items k

@@ -1,33 +1,34 @@
--- Whether clauses lead to a conflict under assumed literals, one clause after another.
+-- When clauses lead to a conflict under assumed literals, one clause after another.
 use Rattle.std.specs.Prelude.{ℕ, ◌≡◌, ◌⊎◌, true, false, Option, None, Some, List, [], ◌∷◌}
 use Rattle.sat_checker.specs.LiteralSets.{is_among, is_tautology}
 use Rattle.sat_checker.specs.ClauseStates.{ClauseState, falsified, becomes_unit, neither, clause_state}
 use Rattle.sat_hints.specs.declared.answer.HintWhy.{HintWhy}
 use Rattle.sat_hints.specs.declared.answer.HintWhy.TheVariants.{NotUnit, NotFalsified}
 
--- the failure of the last clause, which must be falsified
+-- the failure of the last clause, which must be falsified, or `None`
 abbrev pub falsified_failure : ClauseState → Option HintWhy
 falsified_failure falsified = None
 falsified_failure (becomes_unit l) = Some NotFalsified
 falsified_failure neither = Some NotFalsified
 
--- the failure of a clause before the last, which must be unit, or of the clauses after it
+-- the failure of a clause before the last, which must be unit, or else that of the clauses after it
 abbrev pub unit_failure : ClauseState → (ℕ → Option HintWhy) → Option HintWhy
 unit_failure falsified more = Some NotUnit
 unit_failure (becomes_unit l) more = more l
 unit_failure neither more = Some NotUnit
 
--- why the clauses do not lead to a conflict, or `None` if they do
+-- the reason why the clauses do not lead to a conflict under the assumed literals, or `None` if they do
 abbrev pub refutation_failure : List ℕ → List (List ℕ) → Option HintWhy
 refutation_failure assumed [] = Some NotFalsified
 refutation_failure assumed (c ∷ []) = falsified_failure (clause_state assumed c)
 refutation_failure assumed (c ∷ d ∷ cs) = unit_failure (clause_state assumed c) (λ l. refutation_failure (l ∷ assumed) (d ∷ cs))
 
--- that exactly the literals `ls` are assumed
+-- `AreJustAssumed ls assumed` holds if exactly the literals `ls` are assumed.
 abbrev pub AreJustAssumed : List ℕ → List ℕ → Type 0
 AreJustAssumed ls assumed = (l : ℕ) → is_among assumed l ≡ is_among ls l
 
--- that `why` is the reason why the assumed literals and the clauses do not conflict, or `None` if they do
+-- `WhyNoConflict assumed clauses why` holds if `why` is the reason why the assumed literals and the clauses do not
+-- conflict, or `None` if they do.
 abbrev pub WhyNoConflict : List ℕ → List (List ℕ) → Option HintWhy → Type 0
 WhyNoConflict assumed clauses why =
     ((is_tautology assumed ≡ true) × (why ≡ None)) ⊎ ((is_tautology assumed ≡ false) × (why ≡ refutation_failure assumed clauses))

@@ -19,14 +19,15 @@ use Rattle.sat_hints.specs.declared.answer.HintFault.TheVariants.{Read, OutOfMem
 use Rattle.sat_hints.specs.declared.line_checking.LineChecker.{LineChecker}
 use Rattle.sat_hints.specs.declared.checking.Checking.{Checking}
 
--- that the bytes are one line with its LF
+-- `IsWholeLine bytes` holds if the bytes are one line with its LF.
 pub record IsWholeLine (bytes : List ℕ) : Type 0 where
   pub front : List ℕ
   pub inside : HasNoEnd front
   pub ended : bytes ≡ front ++ (10 ∷ [])
 
--- What the result for the bytes of a line means, after these lines. `None`: they spell a line that may follow, and the
--- checker has accepted it. Otherwise they are at fault for this reason, and no line is counted.
+-- `ChecksLineBytes why old new lines bytes` holds if `why` is the result for the bytes of a line after these lines. If
+-- it is `None`, they spell a line that may follow, and the checker has accepted it. Otherwise they are at fault for
+-- this reason, and no line is counted.
 abbrev pub ChecksLineBytes : Option HintWhy → LineChecker → LineChecker → List Line → List ℕ → Type 0
 ChecksLineBytes None old new lines bytes = (line : Line) × SpellsLine bytes line × FollowsLines lines line × HasTakenLines new (line ∷ lines)
 ChecksLineBytes (Some why) old new lines bytes = IsAtFault lines bytes why × (new.lines ≡ old.lines)
@@ -35,8 +36,8 @@ ChecksLineBytes (Some why) old new lines bytes = IsAtFault lines bytes why × (n
 abbrev pub AcceptsLineBytes : List Line → List ℕ → Type 0
 AcceptsLineBytes lines bytes = (line : Line) × SpellsLine bytes line × FollowsLines lines line
 
--- That the text is a derivation, followed by the held proper prefix of the next line, which leads to the recorded place.
--- The checker has accepted the lines of the derivation.
+-- `HasRead c text` holds if the text is a derivation, followed by the held proper prefix of the next line, which leads
+-- to the recorded place. The checker has accepted the lines of the derivation.
 pub record HasRead (c : Checking) (text : List ℕ) : Type 0 where
   pub lines : List Line
   pub whole : text ≡ text_of lines ++ c.held.items
@@ -47,14 +48,15 @@ pub record HasRead (c : Checking) (text : List ℕ) : Type 0 where
   pub derivation : IsHintDerivation lines
   pub taken : HasTakenLines c.checker lines
 
--- That every text that begins with this one is at fault for this reason. The line at fault is the one after those that
--- the checker has counted.
+-- `HasFault c text why` holds if every text that begins with `text` is at fault for the reason `why`, in the line after
+-- those that the checker has counted.
 pub record HasFault (c : Checking) (text : List ℕ) (why : HintWhy) : Type 0 where
   pub count : ℕ
   pub number : c.checker.lines ≡ capped count
   pub bad : (rest : List ℕ) → VerdictHolds (Bad (capped (count + 1)) why) (text ++ rest)
 
--- that the text was read without a fault, or its first line at fault was found
+-- `HasReadOrFault why c text` holds if the text was read without a fault (`None`), or its first line at fault was
+-- found, with this reason.
 abbrev pub HasReadOrFault : Option HintWhy → Checking → List ℕ → Type 0
 HasReadOrFault None c text = HasRead c text
 HasReadOrFault (Some why) c text = HasFault c text why
@@ -70,12 +72,13 @@ abbrev pub HasRoomIf : Option HintWhy → Checking → Type 0
 HasRoomIf None c = HasRoomFor c piece_size
 HasRoomIf (Some why) c = Unit {0}
 
--- that the checker can check the next line, unless there is a fault
+-- `IsReadyIf why checker` holds if the checker can check the next line, unless there is a fault.
 abbrev pub IsReadyIf : Option HintWhy → LineChecker → Type 0
 IsReadyIf None checker = IsReadyChecker checker
 IsReadyIf (Some why) checker = Unit {0}
 
--- that `new` has read the bytes after every text that `old` may have read, or has found this fault
+-- `ReadsFurther why old bytes new` holds if for every text that `old` may have read, `new` has read this text and then
+-- the bytes, or has found this fault.
 abbrev pub ReadsFurther : Option HintWhy → Checking → List ℕ → Checking → Type 0
 ReadsFurther why old bytes new = (text : List ℕ) → HasRead old text → HasReadOrFault why new (text ++ bytes)
 
@@ -87,7 +90,8 @@ StopsReading old bytes = (text : List ℕ) → HasRead old text → StopsWithinL
 abbrev pub StopsAtEnd : Checking → List ℕ → Type 0
 StopsAtEnd old bytes = (text : List ℕ) → HasRead old text → StopsAtLine 1 (text ++ bytes)
 
--- that the next bytes were read without a fault, or the verdict is determined, whatever bytes follow
+-- `TakesPiece verdict old bytes new` holds if the next bytes were read without a fault (`None`), or the verdict holds,
+-- whatever bytes follow.
 abbrev pub TakesPiece : Option HintVerdict → Checking → List ℕ → Checking → Type 0
 TakesPiece None old bytes new = IsReadyChecker new.checker × HasRoomFor new piece_size × ((text : List ℕ) → HasRead old text → HasRead new (text ++ bytes))
 TakesPiece (Some verdict) old bytes new = (text : List ℕ) → HasRead old text → (rest : List ℕ) → VerdictHolds verdict ((text ++ bytes) ++ rest)
@@ -121,7 +125,8 @@ ChecksNext (Ok (Some verdict)) from to old new = GivesVerdict from to old verdic
 ChecksNext (Err Read) from to old new = FailsToGive from to
 ChecksNext (Err OutOfMemory) from to old new = (bytes : List ℕ) × GivesPiece from to bytes × (length bytes ≤ piece_size) × StopsReading old bytes
 
--- that a verdict is correct for the text; a fault says nothing about the text
+-- `IsRightIfVerdict result text` holds if the result is a verdict that holds of the text, or a fault, which says
+-- nothing about the text.
 abbrev pub IsRightIfVerdict : Result HintVerdict HintFault → List ℕ → Type 0
 IsRightIfVerdict (Ok verdict) text = VerdictHolds verdict text
 IsRightIfVerdict (Err fault) text = Unit {0}

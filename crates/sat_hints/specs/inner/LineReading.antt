@@ -9,37 +9,39 @@ use Rattle.sat_hints.specs.declared.line.HintLine.TheVariants as code
 use Rattle.sat_hints.specs.declared.reading.Head.{Head}
 use Rattle.sat_hints.specs.declared.reading.Head.TheVariants as head
 
--- that an id is below 2^64-1, so that its number in a text is below 2^64
+-- `IsId id` holds if the id is below 2^64-1, so that its number in a text is below 2^64.
 abbrev pub IsId : ℕ → Type 0
 IsId id = id < 2 ^ 64 - 1
 
--- that a variable is an index below the limit
+-- `IsVariableIndex v` holds if the variable is an index below the limit.
 abbrev pub IsVariableIndex : ℕ → Type 0
 IsVariableIndex v = v < var_limit
 
--- that a literal is a code whose variable is below the limit
+-- `IsLiteralCode l` holds if the literal is a code whose variable is below the limit.
 abbrev pub IsLiteralCode : ℕ → Type 0
 IsLiteralCode l = l < 2 * var_limit
 
--- that the bytes begin with these words, each followed by a space, and no further word follows
+-- `BeginsWithWords word P bytes xs rest` holds if the bytes begin with the words of `xs`, each followed by a space, and
+-- no further word follows: `rest` does not begin with one.
 pub record BeginsWithWords (word : ℕ → List ℕ) (P : ℕ → Type 0) (bytes xs rest : List ℕ) : Type 0 where
   pub are : AllByRecursion P xs
   pub whole : bytes ≡ spaced_words word xs ++ rest
   pub no_more : NoWord word P rest
 
--- that the bytes are `LITS 0` and LF
+-- `IsOne bytes ls` holds if the bytes are `LITS 0` and LF, with the literals `ls`.
 abbrev pub IsOne : List ℕ → List ℕ → Type 0
 IsOne bytes ls = AreLiteralCodes ls × (bytes ≡ literal_words ls ++ codes "0\n")
 
--- that the bytes are `LITS 0 IDS 0` and LF
+-- `IsBoth bytes ls ids` holds if the bytes are `LITS 0 IDS 0` and LF, with the literals `ls` and these ids.
 abbrev pub IsBoth : List ℕ → List ℕ → List ℕ → Type 0
 IsBoth bytes ls ids = AreLiteralCodes ls × AreIds ids × (bytes ≡ literal_words ls ++ (codes "0 " ++ (id_words ids ++ codes "0\n")))
 
--- that the bytes begin with `LITS 0` and LF
+-- `BeginsWithOne bytes ls rest` holds if the bytes are `LITS 0` and LF, with the literals `ls`, and then `rest`.
 abbrev pub BeginsWithOne : List ℕ → List ℕ → List ℕ → Type 0
 BeginsWithOne bytes ls rest = AreLiteralCodes ls × (bytes ≡ literal_words ls ++ (codes "0\n" ++ rest))
 
--- that the bytes begin with `LITS 0 IDS 0` and LF
+-- `BeginsWithBoth bytes ls ids rest` holds if the bytes are `LITS 0 IDS 0` and LF, with the literals `ls` and these
+-- ids, and then `rest`.
 abbrev pub BeginsWithBoth : List ℕ → List ℕ → List ℕ → List ℕ → Type 0
 BeginsWithBoth bytes ls ids rest = AreLiteralCodes ls × AreIds ids × (bytes ≡ literal_words ls ++ (codes "0 " ++ (id_words ids ++ (codes "0\n" ++ rest))))
 
@@ -59,10 +61,11 @@ line_with (head.Gone id) ls ids = Gone id
 line_with head.Core ls ids = Core ls ids
 line_with (head.Fresh var) ls ids = Fresh var
 
--- that the bytes begin with this line
+-- `BeginsWithHintLine bytes line rest` holds if the bytes are the text of this line, which is within its limits, and
+-- then `rest`.
 abbrev pub BeginsWithHintLine : List ℕ → Line → List ℕ → Type 0
 BeginsWithHintLine bytes line rest = IsLine line × (bytes ≡ line_text line ++ rest)
 
--- that the bytes do not begin with a line
+-- `BeginsWithNoLine bytes` holds if the bytes do not begin with a line.
 abbrev pub BeginsWithNoLine : List ℕ → Type 0
 BeginsWithNoLine bytes = (line : Line) (rest : List ℕ) → BeginsWithHintLine bytes line rest → ⊥

@@ -15,12 +15,14 @@ pub record Outlet : Type 0 where
 abbrev pub outlet : {W : Type 0} → (W → Writer) → LineWriter W → Outlet
 outlet seen w = record { sink = record { writer = seen w.writer; waiting = take w.len w.bytes }; failed = w.failed }
 
--- that the text was appended to the pending bytes; if the flag is true, a write failed instead
+-- `PutBy failed text old new` holds if the text was appended to the pending bytes, or, if `failed` is true, a write
+-- failed instead.
 abbrev pub PutBy : Bool → List ℕ → Sink → Sink → Type 0
 PutBy false text old new = AddsToSink old new text
 PutBy true text old new = SinkFails old new text
 
--- that nothing changed if a write had failed before; otherwise the text was appended, or a write failed
+-- `PutFrom failed text old new` holds if the text was appended or a write failed, or, if `failed` is true because a
+-- write failed before, nothing changed.
 abbrev pub PutFrom : Bool → List ℕ → Outlet → Outlet → Type 0
 PutFrom true text old new = new ≡ old
 PutFrom false text old new = PutBy new.failed text old.sink new.sink
@@ -29,10 +31,10 @@ PutFrom false text old new = PutBy new.failed text old.sink new.sink
 abbrev pub sign_text : ℕ → List ℕ
 sign_text l = if is_positive l then [] else codes "-"
 
--- `LITS 0 IDS 0` and LF
+-- the text of two lists: `LITS 0 IDS 0` and LF
 abbrev pub both_words : List ℕ → List ℕ → List ℕ
 both_words literals ids = literal_words literals ++ (codes "0 " ++ (id_words ids ++ codes "0\n"))
 
--- that the text was appended to the pending bytes, or a write failed, now or before
+-- `PutsText text old new` holds if the text was appended to the pending bytes, or a write failed, now or before.
 abbrev pub PutsText : List ℕ → Outlet → Outlet → Type 0
 PutsText text old new = PutFrom old.failed text old new

@@ -27,23 +27,25 @@ hint_of errors.CheckFailed = Refused errors.CheckFailed
 hint_of errors.CounterEnd = Refused errors.CounterEnd
 hint_of errors.HasFailed = Refused errors.HasFailed
 
--- that the text was appended to the pending bytes, and no write failed
+-- `SentAll old new text` holds if the text was appended to the pending bytes, and no write failed.
 pub record SentAll (old new : Outlet) (text : List ℕ) : Type 0 where
   pub well : new.failed ≡ false
   pub sent : AddsToSink old.sink new.sink text
 
--- that a prefix of the text was appended to the pending bytes, and no write failed
+-- `SentPrefix old new text` holds if a prefix of the text was appended to the pending bytes, and no write failed.
 pub record SentPrefix (old new : Outlet) (text : List ℕ) : Type 0 where
   pub front : List ℕ
   pub following : List ℕ
   pub whole : text ≡ front ++ following
   pub sent : SentAll old new front
 
--- that a write of the hint text of the steps failed, or of the text of these steps and one more accepted step
+-- `BrokenAfter old new step steps` holds if a write of the hint text of the steps failed, or of the hint text of these
+-- steps and `step`, which is accepted.
 abbrev pub BrokenAfter : Outlet → Outlet → Step → List Step → Type 0
 BrokenAfter old new step steps = SinkFails old.sink new.sink (hint_text steps) ⊎ (Accepts (ready_after steps) step × SinkFails old.sink new.sink (hint_text (step ∷ steps)))
 
--- what the result for a certificate means, as in `Converts`, when its lines are appended to the pending bytes
+-- `WritesLines result from to old new` holds if `Converts` holds of the result, except that the lines are appended to
+-- the pending bytes.
 abbrev pub WritesLines : Result (Unit {0}) HintError → Reader → Reader → Outlet → Outlet → Type 0
 WritesLines (Ok x) from to old new = (passed : List Step) × (rest : List ℕ) × IsAccepted from to passed rest
     × VerdictHolds (hint_verdict (End ∷ taken_after passed [])) (hint_text (End ∷ taken_after passed []))

@@ -9,7 +9,7 @@ use Rattle.sat_hints.specs.declared.prefixes.Part.TheVariants.{InputId, DerivedI
 use Rattle.sat_hints.specs.declared.prefixes.Place.{Place}
 use Rattle.sat_hints.specs.declared.prefixes.Place.TheVariants.{Letter, Space, Item, Digits, Over}
 
--- the largest number with which a part may begin; not used for `End`, which is `0`
+-- the largest number with which this part of a line may begin; not used for `End`, which is `0`
 abbrev pub limit_of : Part → ℕ
 limit_of InputId = 2 ^ 64 - 1
 limit_of DerivedId = 2 ^ 64 - 1
@@ -31,7 +31,8 @@ next_of Lists = Lists
 next_of Ids = Ids
 next_of End = End
 
--- that the digits so far and the bytes are a number up to the limit, a space, and a text of which `Rest` holds
+-- `Numbered limit Rest number bytes` holds if the digits of `number` so far and the bytes are a number up to the limit,
+-- a space, and a text of which `Rest` holds.
 pub record Numbered (limit : ℕ) (Rest : List ℕ → Type 0) (number : ℕ) (bytes : List ℕ) : Type 0 where
   pub value : ℕ
   pub rest : List ℕ
@@ -39,7 +40,7 @@ pub record Numbered (limit : ℕ) (Rest : List ℕ → Type 0) (number : ℕ) (b
   pub whole : digits_so_far number ++ bytes ≡ decimal value ++ (32 ∷ rest)
   pub following : Rest rest
 
--- that the bytes are this part of a line and its LF
+-- `IsPartOfLine part bytes` holds if the bytes are the rest of a line from this part.
 abbrev pub IsPartOfLine : Part → List ℕ → Type 0
 IsPartOfLine InputId bytes = Numbered (2 ^ 64 - 1) (λ rest. (ls : List ℕ) × IsOne rest ls) 0 bytes
 IsPartOfLine DerivedId bytes = Numbered (2 ^ 64 - 1) (λ rest. (ls : List ℕ) × (ids : List ℕ) × IsBoth rest ls ids) 0 bytes
@@ -50,7 +51,7 @@ IsPartOfLine Lists bytes = (ls : List ℕ) × (ids : List ℕ) × IsBoth bytes l
 IsPartOfLine Ids bytes = (ids : List ℕ) × AreIds ids × (bytes ≡ id_words ids ++ codes "0\n")
 IsPartOfLine End bytes = bytes ≡ codes "0\n"
 
--- that the bytes are the rest of a line from this place
+-- `IsRestOfLine place bytes` holds if the bytes are the rest of a line from this place.
 abbrev pub IsRestOfLine : Place → List ℕ → Type 0
 IsRestOfLine Letter bytes = (line : Line) × SpellsLine bytes line
 IsRestOfLine (Space part) bytes = (rest : List ℕ) × (bytes ≡ 32 ∷ rest) × IsPartOfLine part rest
@@ -58,7 +59,7 @@ IsRestOfLine (Item part) bytes = IsPartOfLine part bytes
 IsRestOfLine (Digits part number) bytes = Numbered (limit_of part) (IsPartOfLine (next_of part)) number bytes
 IsRestOfLine Over bytes = bytes ≡ codes "\n"
 
--- that there is a place, and the bytes are the rest of a line from it
+-- `IsLeftIf place bytes` holds if there is a place, and the bytes are the rest of a line from it.
 abbrev pub IsLeftIf : Option Place → List ℕ → Type 0
 IsLeftIf None bytes = ⊥
 IsLeftIf (Some place) bytes = IsRestOfLine place bytes
@@ -90,8 +91,8 @@ sign_place Lists = Some (Digits Lists 0)
 sign_place Ids = None
 sign_place End = None
 
--- That the bytes lead from one place to another: whatever completes a line after them completes it from the other
--- place. If the other place is `None`, no line continues with the bytes.
+-- `LeadsToPlace from bytes to` holds if whatever completes a line after the bytes, read from place `from`, completes it
+-- from place `to`. If `to` is `None`, no line continues with the bytes.
 abbrev pub LeadsToPlace : Place → List ℕ → Option Place → Type 0
 LeadsToPlace from bytes to = (more : List ℕ) → IsRestOfLine from (bytes ++ more) → IsLeftIf to more
 

@@ -21,7 +21,7 @@ pub record Db : Type 0 where
 abbrev pub no_clauses : Db
 no_clauses = record { refs = []; counts = 0 ∷ 0 ∷ 0 ∷ 0 ∷ []; garbage = 0 }
 
--- whether the clause at o is live, that is, not deleted
+-- `is_live words o` is true if the clause at `o` is not deleted.
 abbrev pub is_live : List ℕ → ℕ → Bool
 is_live words o = not (header_at words o).deleted
 
@@ -29,11 +29,11 @@ is_live words o = not (header_at words o).deleted
 abbrev pub live_refs : List ℕ → List ℕ → List ℕ
 live_refs words refs = filter (is_live words) refs
 
--- whether the clause at o is live and in this tier
+-- `is_live_in_tier words tier o` is true if the clause at `o` is live and in `tier`.
 abbrev pub is_live_in_tier : List ℕ → Tier → ℕ → Bool
 is_live_in_tier words tier o = is_live words o && (index_of (header_at words o).tier == index_of tier)
 
--- there is a clause at every one of these offsets
+-- `AreClausePlaces words refs` holds if there is a clause at every offset of `refs`.
 abbrev pub AreClausePlaces : List ℕ → List ℕ → Type 0
 AreClausePlaces words refs = (o : ℕ) → Contains refs o → IsClause words o
 
@@ -41,13 +41,13 @@ AreClausePlaces words refs = (o : ℕ) → Contains refs o → IsClause words o
 abbrev pub garbage_of : List ℕ → ℕ → ℕ
 garbage_of words o = if is_live words o then 0 else length (lits_at words o) + 3
 
--- every number is greater than those before it
+-- `AreStrictlyIncreasing xs` holds if every number of `xs` is greater than those before it.
 abbrev pub AreStrictlyIncreasing : List ℕ → Type 0
 AreStrictlyIncreasing xs = (j k : ℕ) → j < k → k < length xs → get_or xs j 0 < get_or xs k 0
 
--- The list has the clauses of the buffer. Every clause has three or more literals, no two clauses share words, and
--- offsets increase. `counts` are the numbers of live clauses by tier. `garbage` is the number of words of deleted
--- clauses (it saturates at 2^64 - 1).
+-- `DbMatchesBuffer words db` holds if `db` describes the clauses of the buffer `words`. There is a clause of three or
+-- more literals at every offset of `db.refs`; no two of them share words, and offsets increase. `counts` are the
+-- numbers of live clauses by tier. `garbage` is the number of words of deleted clauses (it saturates at 2^64 - 1).
 pub record DbMatchesBuffer (words : List ℕ) (db : Db) : Type 0 where
   pub holds_clauses : HoldsClauses words db.refs
   pub rising : AreStrictlyIncreasing db.refs
@@ -57,11 +57,11 @@ pub record DbMatchesBuffer (words : List ℕ) (db : Db) : Type 0 where
   pub few : length db.refs < 2 ^ 64
   pub long : (o : ℕ) → Contains db.refs o → 3 ≤ length (lits_at words o)
 
--- the numbers of clauses by tier, with one more clause of this tier
+-- the numbers of clauses by tier, with one more clause of `tier`
 abbrev pub tier_count_more : Tier → List ℕ → List ℕ
 tier_count_more tier counts = set counts (index_of tier) (get_or counts (index_of tier) 0 + 1)
 
--- the numbers of clauses by tier, with one fewer clause of this tier
+-- the numbers of clauses by tier, with one fewer clause of `tier`
 abbrev pub tier_count_less : Tier → List ℕ → List ℕ
 tier_count_less tier counts = set counts (index_of tier) (get_or counts (index_of tier) 0 - 1)
 
@@ -69,14 +69,16 @@ tier_count_less tier counts = set counts (index_of tier) (get_or counts (index_o
 abbrev pub without : ℕ → List ℕ → List ℕ
 without o refs = filter (λ p. not (p == o)) refs
 
--- a clause with these literals and this header, except for its length, was appended
+-- `AddsLongClause words db words' db' o header lits` holds if a clause with the literals `lits` and this header, except
+-- for its length, was appended at `o`, to the buffer and to the list.
 pub record AddsLongClause (words : List ℕ) (db : Db) (words' : List ℕ) (db' : Db) (o : ℕ) (header : Header) (lits : List ℕ) : Type 0 where
   pub added : AppendsClause words words' o header lits
   pub holds : DbMatchesBuffer words' db'
   pub refs : db'.refs ≡ db.refs ++ o ∷ []
   pub live : live_refs words' db'.refs ≡ live_refs words db.refs ++ o ∷ []
 
--- the clause at o now has this header, of the same length, and no other clause of the list changed
+-- `PutsHeader words words' refs o header` holds if the clause at `o` has this header in `words'`, with its literals,
+-- and no other clause of `refs` changed.
 pub record PutsHeader (words words' refs : List ℕ) (o : ℕ) (header : Header) : Type 0 where
   pub size : length words' ≡ length words
   pub holds_clauses : HoldsClauses words' refs
@@ -84,21 +86,22 @@ pub record PutsHeader (words words' refs : List ℕ) (o : ℕ) (header : Header)
   pub lits_there : lits_at words' o ≡ lits_at words o
   pub others : (p : ℕ) → Contains refs p → p ≢ o → SameClauseAt words words' p
 
--- the clause at o was marked as deleted, and no other clause changed
+-- `DeletesClause words db words' db' o` holds if the clause at `o` was marked as deleted, and no other clause changed.
 pub record DeletesClause (words : List ℕ) (db : Db) (words' : List ℕ) (db' : Db) (o : ℕ) : Type 0 where
   pub put : PutsHeader words words' db.refs o (record (header_at words o) { deleted = true })
   pub holds : DbMatchesBuffer words' db'
   pub refs : db'.refs ≡ db.refs
   pub live : live_refs words' db'.refs ≡ without o (live_refs words db.refs)
 
--- the clause at o is now in this tier, and no other clause changed
+-- `MovesClause words db words' db' o tier` holds if the clause at `o` was moved to `tier`, and no other clause changed.
 pub record MovesClause (words : List ℕ) (db : Db) (words' : List ℕ) (db' : Db) (o : ℕ) (tier : Tier) : Type 0 where
   pub put : PutsHeader words words' db.refs o (record (header_at words o) { tier = tier })
   pub holds : DbMatchesBuffer words' db'
   pub refs : db'.refs ≡ db.refs
   pub live : live_refs words' db'.refs ≡ live_refs words db.refs
 
--- the clause at o lost its literals from position `len` on, and no other clause changed
+-- `ShortensClause words db words' o len` holds if the clause at `o` lost its literals from position `len` on, and no
+-- other clause changed.
 pub record ShortensClause (words : List ℕ) (db : Db) (words' : List ℕ) (o len : ℕ) : Type 0 where
   pub size : length words' ≡ length words
   pub header_there : header_at words' o ≡ record (header_at words o) { len = len }
@@ -107,6 +110,7 @@ pub record ShortensClause (words : List ℕ) (db : Db) (words' : List ℕ) (o le
   pub holds : DbMatchesBuffer words' db
   pub live : live_refs words' db.refs ≡ live_refs words db.refs
 
--- the first literal of the clause at o is true, and the clause is its reason
+-- `IsLockedClause words values nodes o` holds if the first literal of the clause at `o` is true, and the clause is its
+-- reason.
 abbrev pub IsLockedClause : (words : List ℕ) (values : List (Option Bool)) (nodes : List ImplNode) (o : ℕ) → Type 0
 IsLockedClause words values nodes o = IsTrueLit values (get_or (lits_at words o) 0 0) × ((node_of nodes (variable (get_or (lits_at words o) 0 0))).reason ≡ Long o)

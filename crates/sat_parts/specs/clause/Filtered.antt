@@ -7,22 +7,26 @@ use Rattle.std.specs.List.Retain.{ReturnsInTurn}
 use Rattle.sat_store.specs.clause.Buffer.{SameClauseAt}
 use Rattle.sat_parts.specs.clause.Db.{is_live, live_refs}
 
--- the test can be called with every one of these clauses, each with the header and the literals that it has in these words
+-- `TakesEach g words live` holds if the test `g` can be called, in any state, with every clause of `live`, shown with
+-- the header and literals that it has in `words`.
 abbrev pub TakesEach : {F : Type 0} → Mut F (Bor (List ℕ) × (ℕ × Unit {0})) Bool → (words live : List ℕ) → Type 0
 TakesEach {F} g words live = (f : F) (shown : Bor (List ℕ)) (o : ℕ) → Contains live o → SameClauseAt words shown.now o → Takes g f (shown, (o, tt))
 
--- a call of the test with the clause at o, with the header and the literals that it has in these words, may return r
+-- `AnswersAt g words f o r f'` holds if a call of the test `g` in state `f` with the clause at `o`, shown with the
+-- header and literals that it has in `words`, may return `r` and leave the state `f'`.
 pub record AnswersAt {F : Type 0} (g : Mut F (Bor (List ℕ) × (ℕ × Unit {0})) Bool) (words : List ℕ) (f : F) (o : ℕ) (r : Bool) (f' : F) : Type 0 where
   pub shown : Bor (List ℕ)
   pub same : SameClauseAt words shown.now o
   pub called : Called g f (shown, (o, tt)) r f'
 
--- the headers and the literals of these clauses are unchanged
+-- `SameClausesAt old new live` holds if the headers and the literals of the clauses of `live` are the same in `new` as
+-- in `old`.
 abbrev pub SameClausesAt : (old new live : List ℕ) → Type 0
 SameClausesAt old new live = (o : ℕ) → Contains live o → SameClauseAt old new o
 
--- The invariant of the pass. The test R, at first in state f, was called for every live clause among the first `at`
--- clauses. A clause was deleted if the test returned false for it. All other clauses are unchanged.
+-- `FilterInvariant R f old new refs at f'` holds if the test `R`, from state `f` to state `f'`, was called for every
+-- live clause among the first `at` of `refs`, the clauses for which it returned false were deleted, and all other
+-- clauses are unchanged.
 pub record FilterInvariant {F : Type 0} (R : F → ℕ → Bool → F → Type 0) (f : F) (old new refs : List ℕ) (at : ℕ) (f' : F) : Type 0 where
   pub answers : List Bool
   pub size : length answers ≡ length (live_refs old (take at refs))

@@ -14,22 +14,22 @@ levels_of nodes ls = map (λ l. (node_of nodes (variable l)).level) ls
 abbrev pub count_distinct : List ℕ → ℕ
 count_distinct xs = distinct_count nat_eq xs
 
--- the variables of the literals are less than this number
+-- `VariablesBelow ls n` holds if the variables of the literals are less than `n`.
 abbrev pub VariablesBelow : List ℕ → ℕ → Type 0
 VariablesBelow ls n = (k : ℕ) → k < length ls → variable (get_or ls k 0) < n
 
--- the variable of every literal has a node
+-- `HaveNodes nodes ls` holds if the variable of every literal has a node.
 abbrev pub HaveNodes : List ImplNode → List ℕ → Type 0
 HaveNodes nodes ls = VariablesBelow ls (length nodes)
 
--- the level of every literal has a flag
+-- `HaveFlags nodes flags ls` holds if the level of every literal has a flag.
 abbrev pub HaveFlags : List ImplNode → List Bool → List ℕ → Type 0
 HaveFlags nodes flags ls = (k : ℕ) → k < length ls → (node_of nodes (variable (get_or ls k 0))).level < length flags
 
--- all flags are false
+-- `AreClear flags` holds if all flags are false.
 abbrev pub AreClear : List Bool → Type 0
 AreClear flags = (k : ℕ) → get_or flags k false ≡ false
 
--- exactly the flags of these levels are true
+-- `MarksLevels flags levels` holds if a flag is true exactly if its index is one of `levels`.
 abbrev pub MarksLevels : List Bool → List ℕ → Type 0
 MarksLevels flags levels = (k : ℕ) → k < length flags → get_or flags k false ≡ list_any (λ x. k == x) levels

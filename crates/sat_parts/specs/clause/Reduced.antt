@@ -9,6 +9,6 @@ use Rattle.sat_store.specs.declared.clause.tier.Tier.TheVariants.{Local}
 abbrev pub reduced : Header → Header
 reduced h = if not h.deleted && (index_of h.tier == 2) then (if h.active then record h { active = false } else record h { tier = Local }) else h
 
--- the header, with a mark if the clause is live and in this tier
+-- the header, with a mark if the clause is live and in `tier`
 abbrev pub with_mark : Tier → Header → Header
 with_mark tier h = if not h.deleted && (index_of h.tier == index_of tier) then record h { mark = true } else h

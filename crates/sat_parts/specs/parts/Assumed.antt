@@ -13,17 +13,18 @@ use Rattle.sat_parts.specs.declared.parts.assumptions.Assumptions.{Assumptions}
 use Rattle.sat_parts.specs.declared.parts.assumptions.EnqueueAssumption.{EnqueueAssumption}
 use Rattle.sat_parts.specs.declared.parts.assumptions.EnqueueAssumption.TheVariants.{Done, Enqueued, Conflict}
 
--- the variables of these literals, in order
+-- the variables of the literals, in order
 abbrev pub variables_of_lits : List ℕ → List ℕ
 variables_of_lits ls = map (λ l. variable l) ls
 
--- the variables of the literals exist
+-- `HaveVariablesIn ls p` holds if the variables of the literals exist in `p`.
 abbrev pub HaveVariablesIn : List ℕ → SearchState → Type 0
 HaveVariablesIn ls p = VariablesBelow ls (length p.assignment.current)
 
--- Which assumptions were considered: those before `place`. They are true at level 0 or at the levels that assumptions
--- began. For every level j before the last of these, `below` has the place reached there; the assumptions before that
--- place are true at level j or lower. Other levels begin only after all assumptions were considered.
+-- `IsPlaced ls below place s` holds if the assumptions `ls` before `place` were considered: they are true at level 0 or
+-- at the levels that assumptions began, which are the first levels, one for each item of `below`. The item at j is the
+-- place reached at level j: the assumptions before it are true at level j or lower. Other levels begin only after all
+-- assumptions were considered.
 pub record IsPlaced (ls below : List ℕ) (place : ℕ) (s : PropagationState) : Type 0 where
   pub levels : length below ≤ length s.trail.starts
   pub within : place ≤ length ls
@@ -33,28 +34,30 @@ pub record IsPlaced (ls below : List ℕ) (place : ℕ) (s : PropagationState) :
   pub begun : (j : ℕ) → j < length below → Contains ls (lit_at s (get_or s.trail.starts j 0))
   pub all : length below < length s.trail.starts → place ≡ length ls
 
--- the places that the assumptions record are right in this state (`IsPlaced`)
+-- `ArePlaced a s` holds if the places that the assumptions record are right in the state `s` (`IsPlaced`).
 abbrev pub ArePlaced : Assumptions → PropagationState → Type 0
 ArePlaced a s = IsPlaced a.lits.items a.below.items a.place s
 
--- the places of a' are right in every state that results from undoing the levels above this level, if those of a were
--- right before
+-- `AreCutTo level a a'` holds if the places of `a'` are right in every state that results from undoing the levels above
+-- `level`, if those of `a` were right before.
 abbrev pub AreCutTo : (level : ℕ) (a a' : Assumptions) → Type 0
 AreCutTo level a a' = (s s' : PropagationState) → ArePlaced a s → level ≤ length s.trail.starts → KeepsTo level s s' → length s'.trail.starts ≡ level → ArePlaced a' s'
 
--- the literals from position `from` up to `to`, exclusive, are true
+-- `AreTrueFromTo p ls from to` holds if the literals from position `from` up to `to`, exclusive, are true.
 abbrev pub AreTrueFromTo : SearchState → List ℕ → (from to : ℕ) → Type 0
 AreTrueFromTo p ls from to = (k : ℕ) → from ≤ k → k < to → IsTrueLit p.assignment.current (get_or ls k 0)
 
--- the literal is at this position, and is not true
+-- `IsUntrueAt p ls at l` holds if the literal at position `at` is `l`, and is not true.
 abbrev pub IsUntrueAt : SearchState → List ℕ → (at l : ℕ) → Type 0
 IsUntrueAt p ls at l = (at < length ls) × (get_or ls at 0 ≡ l) × (IsTrueLit p.assignment.current l → ⊥)
 
--- every literal on the trail above level 0 that has no clause as its reason is among these literals
+-- `AreDecided ls s` holds if every literal on the trail above level 0 that has no clause as its reason is one of `ls`.
 abbrev pub AreDecided : List ℕ → PropagationState → Type 0
 AreDecided ls s = (i : ℕ) → i < length s.trail.lits → 0 < level s (lit_at s i) → has_no_clause (node s (lit_at s i)).reason ≡ true → Contains ls (lit_at s i)
 
--- the effect of enqueueing an assumption, by its result
+-- `EnqueueAssumptionEffect result a p p'` holds if `result` says what enqueueing an assumption has done. With `Done`,
+-- nothing has changed, and all assumptions are true. With `Enqueued`, there is one more level. With a conflict, nothing
+-- has changed, an assumption is false, and all decisions are assumptions.
 abbrev pub EnqueueAssumptionEffect : EnqueueAssumption → Assumptions → SearchState → SearchState → Type 0
 EnqueueAssumptionEffect Done a p p' = (p' ≡ p) × (a.place ≡ length a.lits.items) × ((k : ℕ) → k < length a.lits.items → IsTrueLit p.assignment.current (get_or a.lits.items k 0))
 EnqueueAssumptionEffect Enqueued a p p' = OpensLevel p p'

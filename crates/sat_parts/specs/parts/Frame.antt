@@ -37,7 +37,7 @@ use Rattle.sat_parts.specs.declared.parts.SearchState.{SearchState}
 use Rattle.sat_parts.specs.parts.Whole.{state}
 use Rattle.sat_parts.specs.prop.Trails.{with_lit}
 
--- the literal is on the trail at level 0 and has no clause as its reason
+-- `IsBare s l` holds if the literal `l` is on the trail at level 0 and has no clause as its reason.
 pub record IsBare (s : PropagationState) (l : ℕ) : Type 0 where
   pub place : ℕ
   pub within : place < length s.trail.lits
@@ -45,34 +45,36 @@ pub record IsBare (s : PropagationState) (l : ℕ) : Type 0 where
   pub bottom : level s l ≡ 0
   pub none : has_no_clause (node s l).reason ≡ true
 
--- the literal is a unit: it is at level 0 and has no clause as its reason, or it was taken off the trail
+-- `IsUnitLit s l` holds if the literal `l` is a unit: it is at level 0 and has no clause as its reason, or it was taken
+-- off the trail.
 abbrev pub IsUnitLit : PropagationState → ℕ → Type 0
 IsUnitLit s l = IsRemoved s l ⊎ IsBare s l
 
--- no unit is new, and literals of level 0 stay true at level 0
+-- `AddsNoUnit s s'` holds if every unit of `s'` was one in `s`, and literals of level 0 stay true at level 0.
 pub record AddsNoUnit (s s' : PropagationState) : Type 0 where
   pub size : length s'.values ≡ length s.values
   pub units : (l : ℕ) → IsUnitLit s' l → IsUnitLit s l
   pub bottom : (l : ℕ) → IsTrueLit s.values l → level s l ≡ 0 → IsTrueLit s'.values l × (level s' l ≡ 0)
 
--- units were taken off the trail: every unit was a literal of level 0 before, and literals of level 0 stay true at
--- level 0
+-- `TakesOffUnits s s'` holds if every unit of `s'` was a true literal of level 0 in `s`, and literals of level 0 stay
+-- true at level 0.
 pub record TakesOffUnits (s s' : PropagationState) : Type 0 where
   pub size : length s'.values ≡ length s.values
   pub units : (l : ℕ) → IsUnitLit s' l → IsTrueLit s.values l × (level s l ≡ 0)
   pub bottom : (l : ℕ) → IsTrueLit s.values l → level s l ≡ 0 → IsTrueLit s'.values l × (level s' l ≡ 0)
 
--- the clauses are unchanged
+-- `SameClauses p p'` holds if the clauses are unchanged.
 abbrev pub SameClauses : SearchState → SearchState → Type 0
 SameClauses p p' = (p'.clauses ≡ p.clauses) × (p'.db ≡ p.db) × (p'.binary ≡ p.binary)
 
--- the clauses are unchanged except possibly for the order of their literals
+-- `ReordersLits p p'` holds if the clauses are unchanged except possibly for the order of their literals.
 pub record ReordersLits (p p' : SearchState) : Type 0 where
   pub live : live_refs p'.clauses p'.db.refs ≡ live_refs p.clauses p.db.refs
   pub kept : SameUpToOrder p.clauses p'.clauses (live_refs p.clauses p.db.refs)
   pub binary : p'.binary ≡ p.binary
 
--- a clause was learned, as a unit, a binary clause or a long one, and its first literal was enqueued
+-- `AddsLearnedClause p p' header ls` holds if the clause `ls` was learned, as a unit, a binary clause or a long one,
+-- and its first literal was enqueued.
 pub data AddsLearnedClause (p p' : SearchState) (header : Header) (ls : List ℕ) : Type 0 where
   learnt_unit : length ls ≡ 1 → SameClauses p p' → (r : Reason) → has_no_clause r ≡ true → state p' ≡ enqueued (get_or ls 0 0) r (state p) → AddsLearnedClause p p' header ls
   learnt_binary : length ls ≡ 2 → p'.clauses ≡ p.clauses → p'.db ≡ p.db → p'.binary ≡ with_binary (get_or ls 0 0) (get_or ls 1 0) p.binary →
@@ -80,69 +82,72 @@ pub data AddsLearnedClause (p p' : SearchState) (header : Header) (ls : List ℕ
   learnt_long : 3 ≤ length ls → (o : ℕ) → AddsLongClause p.clauses p.db p'.clauses p'.db o header ls → p'.binary ≡ p.binary →
       (r : Reason) → has_no_clause r ≡ false → state p' ≡ enqueued (get_or ls 0 0) r (state p) → AddsLearnedClause p p' header ls
 
--- literals that are true at level `top` or lower stay true at their levels, and these levels begin with the same
--- literals
+-- `KeepsTo top s s'` holds if literals that are true at level `top` or lower stay true at their levels, and the levels
+-- up to `top` begin with the same literals.
 pub record KeepsTo (top : ℕ) (s s' : PropagationState) : Type 0 where
   pub low : (l : ℕ) → IsTrueLit s.values l → level s l ≤ top → IsTrueLit s'.values l × (level s' l ≡ level s l)
   pub begun : (j : ℕ) → j < top → j < length s.trail.starts → (j < length s'.trail.starts) × (lit_at s' (get_or s'.trail.starts j 0) ≡ lit_at s (get_or s.trail.starts j 0))
 
--- values, reasons and trail are unchanged
+-- `SameState p p'` holds if values, reasons and trail are unchanged.
 abbrev pub SameState : SearchState → SearchState → Type 0
 SameState p p' = (p'.assignment ≡ p.assignment) × (p'.graph ≡ p.graph) × (p'.trail ≡ p.trail)
 
--- clauses, values, reasons and trail are unchanged
+-- `SameContents p p'` holds if clauses, values, reasons and trail are unchanged.
 abbrev pub SameContents : SearchState → SearchState → Type 0
 SameContents p p' = SameClauses p p' × SameState p p'
 
--- the trail and the queue of variables are unchanged
+-- `SameQueues p p'` holds if the trail and the queue of variables are unchanged.
 abbrev pub SameQueues : SearchState → SearchState → Type 0
 SameQueues p p' = (p'.vsids ≡ p.vsids) × (p'.trail ≡ p.trail)
 
--- the clauses are unchanged, no unit is new, and literals of level 0 stay true at level 0
+-- `AddsNothing p p'` holds if the clauses are unchanged, no unit is new, and literals of level 0 stay true at level 0.
 abbrev pub AddsNothing : SearchState → SearchState → Type 0
 AddsNothing p p' = SameClauses p p' × AddsNoUnit (state p) (state p')
 
--- true literals stay true at their levels, and the levels before begin with the same literals
+-- `KeepsLevels p p'` holds if true literals stay true at their levels, and the levels that there were begin with the
+-- same literals.
 abbrev pub KeepsLevels : SearchState → SearchState → Type 0
 KeepsLevels p p' = (top : ℕ) → KeepsTo top (state p) (state p')
 
--- there is one more level
+-- `OpensLevel p p'` holds if `p'` has one more level than `p`.
 abbrev pub OpensLevel : SearchState → SearchState → Type 0
 OpensLevel p p' = length p'.trail.starts ≡ length p.trail.starts + 1
 
--- the first of these literals was appended to the trail
+-- `EnqueuesFirst ls p p'` holds if the first literal of `ls` was appended to the trail.
 abbrev pub EnqueuesFirst : List ℕ → SearchState → SearchState → Type 0
 EnqueuesFirst ls p p' = p'.trail ≡ with_lit (get_or ls 0 0) p.trail
 
--- everything is unchanged except long clauses and watch lists
+-- `SameExceptLongClauses p p'` holds if values, reasons, trail, binary clauses and the queue of variables are
+-- unchanged.
 abbrev pub SameExceptLongClauses : SearchState → SearchState → Type 0
 SameExceptLongClauses p p' = SameState p p' × (p'.binary ≡ p.binary) × (p'.vsids ≡ p.vsids)
 
--- only headers of long clauses changed, and every clause stays original or learned
+-- `ChangesHeaders p p'` holds if only headers of long clauses changed, and every clause stays original or learned.
 pub record ChangesHeaders (p p' : SearchState) : Type 0 where
   pub live : live_refs p'.clauses p'.db.refs ≡ live_refs p.clauses p.db.refs
   pub lits : (o : ℕ) → Contains (live_refs p.clauses p.db.refs) o → lits_at p'.clauses o ≡ lits_at p.clauses o
   pub sides : (o : ℕ) → Contains (live_refs p.clauses p.db.refs) o → is_learned (header_at p'.clauses o).tier ≡ is_learned (header_at p.clauses o).tier
   pub same : SameExceptLongClauses p p'
 
--- a long clause was deleted
+-- `DropsLongClause p p' o` holds if the long clause at `o` was deleted.
 pub record DropsLongClause (p p' : SearchState) (o : ℕ) : Type 0 where
   pub deletes : DeletesClause p.clauses p.db p'.clauses p'.db o
   pub same : SameExceptLongClauses p p'
 
--- a long clause lost its literals from position `len` on
+-- `ShortensLongClause p p' o len` holds if the long clause at `o` lost its literals from position `len` on.
 pub record ShortensLongClause (p p' : SearchState) (o len : ℕ) : Type 0 where
   pub shortens : ShortensClause p.clauses p.db p'.clauses o len
   pub db : p'.db ≡ p.db
   pub same : SameExceptLongClauses p p'
 
--- two literals of a long clause were swapped
+-- `SwapsLits p p' o i j` holds if the literals at positions `i` and `j` of the long clause at `o` were swapped.
 pub record SwapsLits (p p' : SearchState) (o i j : ℕ) : Type 0 where
   pub lits : lits_at p'.clauses o ≡ swapped (lits_at p.clauses o) i j
   pub moved : ReordersLits p p'
   pub same : SameExceptLongClauses p p'
 
--- the live long clauses have new references, in order, with the same headers and literals
+-- `MovesLongClauses p p'` holds if the live long clauses have new references, in order, with the same headers and
+-- literals.
 pub record MovesLongClauses (p p' : SearchState) : Type 0 where
   pub copies : Copies p.clauses (live_refs p.clauses p.db.refs) p'.clauses (live_refs p'.clauses p'.db.refs)
   pub binary : p'.binary ≡ p.binary
@@ -152,7 +157,7 @@ pub record MovesLongClauses (p p' : SearchState) : Type 0 where
   pub carries : AddsNoUnit (state p) (state p')
   pub keeps : KeepsLevels p p'
 
--- the binary clauses with an assigned variable were removed
+-- `RemovesBinaries p p'` holds if the binary clauses with an assigned variable were removed.
 pub record RemovesBinaries (p p' : SearchState) : Type 0 where
   pub removes : RemovesAssigned p.assignment.current p.binary p'.binary
   pub clauses : p'.clauses ≡ p.clauses
@@ -160,8 +165,8 @@ pub record RemovesBinaries (p p' : SearchState) : Type 0 where
   pub state : SameState p p'
   pub queue : p'.vsids ≡ p.vsids
 
--- there are now `count` variables; new variables are unassigned, may not be picked, and are in no clause; the levels
--- are unchanged
+-- `AddsVars p p' count` holds if `p'` has `count` variables; the values of the old ones, the clauses and the levels are
+-- unchanged, and new variables are unassigned, may not be picked, and are in no clause.
 pub record AddsVars (p p' : SearchState) (count : ℕ) : Type 0 where
   pub size : length p'.assignment.current ≡ count
   pub values : (v : ℕ) → value_of p'.assignment.current v ≡ value_of p.assignment.current v
@@ -173,7 +178,8 @@ pub record AddsVars (p p' : SearchState) (count : ℕ) : Type 0 where
   pub starts : p'.trail.starts ≡ p.trail.starts
   pub keeps : KeepsLevels p p'
 
--- a variable lost its value, and may not be picked
+-- `FreesVar p p' v` holds if the variable `v` lost its value and may not be picked, no unit is new, and literals of
+-- level 0 of other variables stay true at level 0.
 pub record FreesVar (p p' : SearchState) (v : ℕ) : Type 0 where
   pub clauses : SameClauses p p'
   pub values : p'.assignment ≡ with_value v None p.assignment
@@ -183,14 +189,16 @@ pub record FreesVar (p p' : SearchState) (v : ℕ) : Type 0 where
   pub units : (l : ℕ) → IsUnitLit (state p') l → IsUnitLit (state p) l × (variable l ≢ v)
   pub bottom : (l : ℕ) → variable l ≢ v → IsTrueLit p.assignment.current l → level (state p) l ≡ 0 → IsTrueLit p'.assignment.current l × (level (state p') l ≡ 0)
 
--- a literal became true at level 0; no other unit is new, and literals of level 0 stay true at level 0
+-- `GainsUnit l s s'` holds if the literal `l` is true at level 0, no other unit is new, and literals of level 0 stay
+-- true at level 0.
 pub record GainsUnit (l : ℕ) (s s' : PropagationState) : Type 0 where
   pub size : length s'.values ≡ length s.values
   pub units : (m : ℕ) → IsUnitLit s' m → IsUnitLit s m ⊎ (m ≡ l)
   pub bottom : (m : ℕ) → IsTrueLit s.values m → level s m ≡ 0 → IsTrueLit s'.values m × (level s' m ≡ 0)
   pub holds : IsTrueLit s'.values l × (level s' l ≡ 0)
 
--- an irredundant clause was stored, as a binary or a long one, and no unit is new
+-- `AddsOriginalClause p p' ls` holds if the irredundant clause `ls` was stored, as a binary or a long one, and no unit
+-- is new.
 pub data AddsOriginalClause (p p' : SearchState) (ls : List ℕ) : Type 0 where
   stores_binary : length ls ≡ 2 → p'.clauses ≡ p.clauses → p'.db ≡ p.db → p'.binary ≡ with_binary (get_or ls 0 0) (get_or ls 1 0) p.binary → AddsNoUnit (state p) (state p') → AddsOriginalClause p p' ls
   stores_long : 3 ≤ length ls → (o : ℕ) → AddsLongClause p.clauses p.db p'.clauses p'.db o no_header ls → p'.binary ≡ p.binary → AddsNoUnit (state p) (state p') → AddsOriginalClause p p' ls

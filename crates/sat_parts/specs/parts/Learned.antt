@@ -7,8 +7,9 @@ use Rattle.sat_parts.specs.prop.Values.{IsFalseLit, IsUnassignedLit}
 use Rattle.sat_parts.specs.prop.State.{PropagationState, level, current_level}
 use Rattle.sat_parts.specs.prop.Ready.{AreAllFalse}
 
--- The result of conflict analysis. All literals are false and above level 0. Only the first is at the current level.
--- The second is at level `to`, the highest level of the others, to which the search backtracks.
+-- `IsAnalyzedClause s ls to` holds if `ls` can be the result of conflict analysis. All literals are different, false
+-- and above level 0. Only the first is at the current level. The second is at level `to`, the highest level of the
+-- others (0 if there are none), to which the search backtracks.
 pub record IsAnalyzedClause (s : PropagationState) (ls : List ℕ) (to : ℕ) : Type 0 where
   pub some : 1 ≤ length ls
   pub fits : length ls < 2 ^ 32
@@ -21,8 +22,9 @@ pub record IsAnalyzedClause (s : PropagationState) (ls : List ℕ) (to : ℕ) : 
   pub second : 1 < length ls → level s (get_or ls 1 0) ≡ to
   pub unit : length ls ≡ 1 → to ≡ 0
 
--- The learned clause after backtracking. The first literal is unassigned, and its variable may be picked. The others
--- are false, and the second is at the current level.
+-- `IsUnitAfterBacktracking s q ls` holds if `ls` is a learned clause after backtracking. Its literals are different.
+-- The first is unassigned, and its variable may be picked. The others are false, and the second is at the current
+-- level. A clause of one literal is learned at level 0.
 pub record IsUnitAfterBacktracking (s : PropagationState) (q : Queue) (ls : List ℕ) : Type 0 where
   pub some : 1 ≤ length ls
   pub fits : length ls < 2 ^ 32

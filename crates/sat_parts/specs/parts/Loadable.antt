@@ -6,8 +6,8 @@ use Rattle.sat_parts.specs.clause.Orders.{AreDistinct}
 use Rattle.sat_parts.specs.prop.Values.{value_of, seen_from, IsTrueLit, IsFalseLit, IsUnassignedLit}
 use Rattle.sat_parts.specs.prop.State.{PropagationState, HasLeftQueue}
 
--- The literals are different and have known variables. The first two are unassigned, true, or false by literals that
--- are still in the queue. Unassigned variables may be picked.
+-- `IsLoadable s q ls` holds if the literals are different and have known variables, the negations of the first two have
+-- not left the queue, and unassigned variables may be picked.
 pub record IsLoadable (s : PropagationState) (q : Queue) (ls : List ℕ) : Type 0 where
   pub distinct : AreDistinct ls
   pub below : (k : ℕ) → k < length ls → get_or ls k 0 < 2 * length s.values
@@ -54,19 +54,20 @@ abbrev pub left_false : Bool → List (Option Bool) → List ℕ → List ℕ
 left_false true values ls = []
 left_false false values ls = false_prefix values ls
 
--- the flag says whether one of these literals is true
+-- `IsFoundIn found values ls` holds if `found` says whether one of the literals is true.
 abbrev pub IsFoundIn : Bool → List (Option Bool) → List ℕ → Type 0
 IsFoundIn true values ls = (k : ℕ) × ((k < length ls) × IsTrueLit values (get_or ls k 0))
 IsFoundIn false values ls = (k : ℕ) → k < length ls → IsTrueLit values (get_or ls k 0) → ⊥
 
--- the flag after one more literal: whether a true literal was found so far
+-- `IsFoundNext found next values l` holds if `next` says whether `l` or a literal before it is true, and `found` says
+-- so of those before it.
 abbrev pub IsFoundNext : (found next : Bool) → List (Option Bool) → ℕ → Type 0
 IsFoundNext true next values l = next ≡ true
 IsFoundNext false true values l = IsTrueLit values l
 IsFoundNext false false values l = IsTrueLit values l → ⊥
 
--- The literals are different and have known variables. The first `kept` are unassigned and may be picked. The others
--- are false by literals that are still in the queue.
+-- `IsSorted s q ls kept` holds if the literals are different and have known variables. The first `kept` are unassigned
+-- and may be picked. The others are false, and their negations are still in the queue.
 pub record IsSorted (s : PropagationState) (q : Queue) (ls : List ℕ) (kept : ℕ) : Type 0 where
   pub distinct : AreDistinct ls
   pub below : (k : ℕ) → k < length ls → get_or ls k 0 < 2 * length s.values

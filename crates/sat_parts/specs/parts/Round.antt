@@ -17,24 +17,27 @@ use Rattle.sat_parts.specs.prop.Ready.{state_of}
 use Rattle.sat_parts.specs.prop.Propagation.{PropagationInvariant}
 use Rattle.sat_parts.specs.prop.TrailWord.{IsLevelled}
 
--- no clause contains the variable
+-- `IsUnused words live implied v` holds if no clause contains the variable `v`.
 pub record IsUnused (words live : List ℕ) (implied : List (List ℕ)) (v : ℕ) : Type 0 where
   pub long : (o k : ℕ) → Contains live o → k < size_of words o → variable (lit_of words o k) ≢ v
   pub binary : (l k : ℕ) → k < length (implied_by implied l) → (variable l ≢ v) × (variable (get_or (implied_by implied l) k 0) ≢ v)
 
--- every unassigned variable may be picked, unless no clause contains it
+-- `AreReady words live implied values q` holds if every unassigned variable may be picked, unless no clause contains
+-- it.
 abbrev pub AreReady : (words live : List ℕ) (implied : List (List ℕ)) (values : List (Option Bool)) (q : Queue) → Type 0
 AreReady words live implied values q = (v : ℕ) → v < length values → value_of values v ≡ None → (is_available q v ≡ true) ⊎ IsUnused words live implied v
 
--- the unassigned variables that could be picked still can, except possibly v
+-- `KeepsPicks values q q' v` holds if every unassigned variable that could be picked in `q` can be picked in `q'`,
+-- except possibly `v`.
 abbrev pub KeepsPicks : (values : List (Option Bool)) (q q' : Queue) (v : ℕ) → Type 0
 KeepsPicks values q q' v = (u : ℕ) → u ≢ v → value_of values u ≡ None → is_available q u ≡ true → is_available q' u ≡ true
 
--- the literals on the trail at level 0 have no clause as their reason
+-- `UnitsHaveNoReason s` holds if the literals on the trail at level 0 have no clause as their reason.
 abbrev pub UnitsHaveNoReason : PropagationState → Type 0
 UnitsHaveNoReason s = (i : ℕ) → i < length s.trail.lits → level s (lit_at s i) ≡ 0 → (node s (lit_at s i)).reason ≡ NoCause
 
--- the invariant of all parts, with complete propagation for the literals at levels below `top`
+-- `IsSoundBelow words db w b a g t q top` holds if all parts are consistent, with complete propagation for the literals
+-- at levels below `top`.
 pub record IsSoundBelow (words : List ℕ) (db : Db) (w : Watching) (b : Binaries) (a : Values) (g : List ImplNode) (t : Trailed) (q : Queue) (top : ℕ) : Type 0 where
   pub held : DbMatchesBuffer words db
   pub asks : PropagationInvariant words db.refs w b.implied (state_of a g t) top
@@ -43,13 +46,14 @@ pub record IsSoundBelow (words : List ℕ) (db : Db) (w : Watching) (b : Binarie
   pub queue : length q.available ≡ length a.current
   pub ready : AreReady words (live_refs words db.refs) b.implied a.current q
 
--- If the current level is above 0, the trail has no literals of level 0. Otherwise all literals on the trail are in
--- the queue.
+-- `LevelZeroInvariant t` holds if the trail has no literals of level 0 if the current level is above 0, and otherwise
+-- all its literals are in the queue.
 pub record LevelZeroInvariant (t : Trailed) : Type 0 where
   pub above : 0 < length t.starts → get_or t.starts 0 0 ≡ 0
   pub bottom : length t.starts ≡ 0 → t.head ≡ 0
 
--- the invariant between rounds
+-- `RoundInvariant words db w b a g t q` holds if the parts are as they are between rounds: `IsSoundBelow` for all
+-- levels, no unit has a clause as its reason, and `LevelZeroInvariant`.
 pub record RoundInvariant (words : List ℕ) (db : Db) (w : Watching) (b : Binaries) (a : Values) (g : List ImplNode) (t : Trailed) (q : Queue) : Type 0 where
   pub below : IsSoundBelow words db w b a g t q (length t.starts + 1)
   pub units : UnitsHaveNoReason (state_of a g t)

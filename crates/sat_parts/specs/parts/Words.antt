@@ -11,7 +11,7 @@ use Rattle.sat_parts.specs.prop.TrailWord.{Letter, P, letters, IsLowerWord}
 use Rattle.sat_parts.specs.declared.parts.SearchState.{SearchState}
 use Rattle.sat_parts.specs.parts.Whole.{state}
 
--- the first word is a prefix of the second
+-- `IsPrefix u v` holds if the word `u` is a prefix of `v`.
 abbrev pub IsPrefix : List Letter → List Letter → Type 0
 IsPrefix u v = (w : List Letter) × (v ≡ u ++ w)
 
@@ -19,62 +19,69 @@ IsPrefix u v = (w : List Letter) × (v ≡ u ++ w)
 abbrev pub trail_letters : Trailed → List Letter
 trail_letters t = letters t.starts t.lits 0
 
--- the variable is unassigned, may not be picked, and is not assumed
+-- `IsIdle assumed s q v` holds if the variable `v` is unassigned, may not be picked, and is not assumed.
 abbrev pub IsIdle : List ℕ → PropagationState → Queue → ℕ → Type 0
 IsIdle assumed s q v = (value_of s.values v ≡ None) × (is_available q v ≡ false) × (Contains assumed v → ⊥)
 
--- the variable may be picked, or is assumed
+-- `IsAwaited assumed q v` holds if the variable `v` may be picked, or is assumed.
 abbrev pub IsAwaited : List ℕ → Queue → ℕ → Type 0
 IsAwaited assumed q v = (is_available q v ≡ true) ⊎ Contains assumed v
 
--- the literal of the variable was taken off the trail as a unit, or the variable is idle
+-- `IsGone assumed s q v` holds if a literal of the variable `v` was taken off the trail as a unit, or `v` is idle.
 abbrev pub IsGone : List ℕ → PropagationState → Queue → ℕ → Type 0
 IsGone assumed s q v = (v < length s.values) × (((l : ℕ) × ((variable l ≡ v) × IsRemoved s l)) ⊎ IsIdle assumed s q v)
 
--- variables that are gone stay gone, idle variables stay idle, and the number of variables is unchanged
+-- `GoneAndIdleStay assumed s q s' q'` holds if variables that are gone in `s` are gone in `s'`, idle ones stay idle,
+-- and the number of variables is unchanged.
 pub record GoneAndIdleStay (assumed : List ℕ) (s : PropagationState) (q : Queue) (s' : PropagationState) (q' : Queue) : Type 0 where
   pub size : length s'.values ≡ length s.values
   pub gone : (v : ℕ) → IsGone assumed s q v → IsGone assumed s' q' v
   pub idle : (v : ℕ) → IsIdle assumed s q v → IsIdle assumed s' q' v
 
--- w is a word of the trail since an ask with these assumed variables began. It has a P for each of some variables
--- that are gone (units taken off since then), and then the letters of the trail.
+-- `IsWord assumed s q w` holds if `w` is a word of the trail since an ask with these assumed variables began. It has a
+-- P for each of some variables that are gone (units taken off since then), and then the letters of the trail.
 pub record IsWord (assumed : List ℕ) (s : PropagationState) (q : Queue) (w : List Letter) : Type 0 where
   pub gone : List ℕ
   pub distinct : AreDistinct gone
   pub each : (k : ℕ) → k < length gone → IsGone assumed s q (get_or gone k 0)
   pub is : w ≡ replicate (length gone) P ++ trail_letters s.trail
 
--- every word of the old trail is a prefix of a word of the new trail, and gone and idle variables stay so
+-- `WordExtends assumed s q s' q'` holds if every word of the trail of `s` is a prefix of a word of that of `s'`, and
+-- gone and idle variables stay so.
 abbrev pub WordExtends : (assumed : List ℕ) (s : PropagationState) (q : Queue) (s' : PropagationState) (q' : Queue) → Type 0
 WordExtends assumed s q s' q' =
     GoneAndIdleStay assumed s q s' q' × ((w : List Letter) → IsWord assumed s q w → (v : List Letter) × (IsWord assumed s' q' v × IsPrefix w v))
 
--- every word of the old trail is lower than a word of the new trail, and gone and idle variables stay so
+-- `WordRises assumed s q s' q'` holds if every word of the trail of `s` is lower than a word of that of `s'`, and gone
+-- and idle variables stay so.
 abbrev pub WordRises : (assumed : List ℕ) (s : PropagationState) (q : Queue) (s' : PropagationState) (q' : Queue) → Type 0
 WordRises assumed s q s' q' =
     GoneAndIdleStay assumed s q s' q' × ((w : List Letter) → IsWord assumed s q w → (v : List Letter) × (IsWord assumed s' q' v × IsLowerWord w v))
 
--- w is a word of the trail of these parts
+-- `IsTrailWord assumed p w` holds if `w` is a word of the trail of `p`.
 abbrev pub IsTrailWord : List ℕ → SearchState → List Letter → Type 0
 IsTrailWord assumed p w = IsWord assumed (state p) p.vsids w
 
--- with these assumed variables, every word of the old trail is a prefix of a word of the new trail
+-- `TrailWordExtendsFor assumed p p'` holds if with these assumed variables, every word of the trail of `p` is a prefix
+-- of a word of that of `p'`.
 abbrev pub TrailWordExtendsFor : List ℕ → SearchState → SearchState → Type 0
 TrailWordExtendsFor assumed p p' = WordExtends assumed (state p) p.vsids (state p') p'.vsids
 
--- whatever variables are assumed, gone and idle variables stay so
+-- `TrailWordStays p p'` holds if gone and idle variables stay so, whatever variables are assumed.
 abbrev pub TrailWordStays : SearchState → SearchState → Type 0
 TrailWordStays p p' = (assumed : List ℕ) → GoneAndIdleStay assumed (state p) p.vsids (state p') p'.vsids
 
--- whatever variables are assumed, every word of the old trail is a prefix of a word of the new trail
+-- `TrailWordExtends p p'` holds if every word of the trail of `p` is a prefix of a word of that of `p'`, whatever
+-- variables are assumed.
 abbrev pub TrailWordExtends : SearchState → SearchState → Type 0
 TrailWordExtends p p' = (assumed : List ℕ) → TrailWordExtendsFor assumed p p'
 
--- with these assumed variables, every word of the old trail is lower than a word of the new trail
+-- `TrailWordRisesFor assumed p p'` holds if with these assumed variables, every word of the trail of `p` is lower than
+-- a word of that of `p'`.
 abbrev pub TrailWordRisesFor : List ℕ → SearchState → SearchState → Type 0
 TrailWordRisesFor assumed p p' = WordRises assumed (state p) p.vsids (state p') p'.vsids
 
--- whatever variables are assumed, every word of the old trail is lower than a word of the new trail
+-- `TrailWordRises p p'` holds if every word of the trail of `p` is lower than a word of that of `p'`, whatever
+-- variables are assumed.
 abbrev pub TrailWordRises : SearchState → SearchState → Type 0
 TrailWordRises p p' = (assumed : List ℕ) → TrailWordRisesFor assumed p p'

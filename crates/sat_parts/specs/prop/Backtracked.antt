@@ -14,35 +14,38 @@ use Rattle.sat_parts.specs.prop.Reasons.{AreUnitInTurn}
 use Rattle.sat_parts.specs.prop.Ready.{state_of}
 use Rattle.sat_parts.specs.prop.Propagation.{PropagationInvariant, EnqueuePrecondition, PropagationPrecondition}
 
--- undoing the levels above this level establishes the precondition of propagation, if the invariant held for the
--- literals at levels below a higher `top`
+-- `BacktrackPreservesInvariant level a t a' t'` holds if undoing the levels above `level`, which leads to `a'` and
+-- `t'`, establishes the precondition of propagation, if the invariant held for the literals at levels below a `top`
+-- above `level`.
 abbrev pub BacktrackPreservesInvariant : (level : ℕ) (a : Values) (t : Trailed) (a' : Values) (t' : Trailed) → Type 0
 BacktrackPreservesInvariant level a t a' t' =
     (words refs : List ℕ) (w : Watching) (implied : List (List ℕ)) (nodes : List ImplNode) (top : ℕ) → level < top →
     PropagationInvariant words refs w implied (state_of a nodes t) top → PropagationPrecondition words refs w implied (state_of a' nodes t')
 
--- the reasons of the literals on the trail stay unit in the order of the trail
+-- `KeepsTurns a t a' t'` holds if the reasons of the literals on the trail stay unit in the order of the trail.
 abbrev pub KeepsTurns : (a : Values) (t : Trailed) (a' : Values) (t' : Trailed) → Type 0
 KeepsTurns a t a' t' =
     (words live : List ℕ) (implied : List (List ℕ)) (nodes : List ImplNode) (from : ℕ) → StateIsConsistent (state_of a nodes t) →
     AreUnitInTurn words live implied (state_of a nodes t) from → AreUnitInTurn words live implied (state_of a' nodes t') from
 
--- The invariant of propagation holds after `lit` became true by `reason`, if `EnqueuePrecondition` held before. If
--- the reason is a long clause, it must be live and have `lit` first.
+-- `EnqueuePreservesInvariant lit reason a nodes t a' nodes' t'` holds if the invariant of propagation holds after `lit`
+-- became true by `reason`, provided that `EnqueuePrecondition` held before and that a long clause as the reason is live
+-- and has `lit` first.
 abbrev pub EnqueuePreservesInvariant : (lit : ℕ) (reason : Reason) (a : Values) (nodes : List ImplNode) (t : Trailed) (a' : Values) (nodes' : List ImplNode) (t' : Trailed) → Type 0
 EnqueuePreservesInvariant lit reason a nodes t a' nodes' t' =
     (words refs : List ℕ) (w : Watching) (implied : List (List ℕ)) (top : ℕ) →
     ((o : ℕ) → reason ≡ Long o → Contains (live_refs words refs) o × (lit_of words o 0 ≡ lit)) →
     EnqueuePrecondition lit reason words refs w implied (state_of a nodes t) top → PropagationInvariant words refs w implied (state_of a' nodes' t') top
 
--- a new level preserves the invariant of propagation if the queue is empty
+-- `NewLevelPreservesInvariant t t'` holds if the new level of `t'` preserves the precondition of propagation, provided
+-- that the queue is empty.
 abbrev pub NewLevelPreservesInvariant : (t t' : Trailed) → Type 0
 NewLevelPreservesInvariant t t' =
     (a : Values) (words refs : List ℕ) (w : Watching) (implied : List (List ℕ)) (nodes : List ImplNode) → t.head ≡ length t.lits →
     PropagationPrecondition words refs w implied (state_of a nodes t) → PropagationPrecondition words refs w implied (state_of a nodes t')
 
--- The effect of undoing the levels above `top`. Exactly the literals that were true at `top` or lower stay true,
--- those on the trail at their positions. The others are unassigned.
+-- `BacktrackEffect top s s'` holds if undoing the levels above `top` has led from `s` to `s'`. Exactly the literals
+-- that were true at `top` or lower stay true, those on the trail at their positions. The others are unassigned.
 pub record BacktrackEffect (top : ℕ) (s s' : PropagationState) : Type 0 where
   pub agrees : StateIsConsistent s'
   pub low_kept : (l : ℕ) → IsTrueLit s.values l → level s l ≤ top → IsTrueLit s'.values l
@@ -55,6 +58,7 @@ pub record BacktrackEffect (top : ℕ) (s s' : PropagationState) : Type 0 where
   pub places : (i : ℕ) → i < length s'.trail.lits → lit_at s' i ≡ lit_at s i
   pub low_places : (i : ℕ) → i < length s.trail.lits → level s (lit_at s i) ≤ top → i < length s'.trail.lits
 
--- `BacktrackEffect` for these values and this trail, with any nodes that agree with them
+-- `BacktrackEffectOn top a t a' t'` holds if `BacktrackEffect` holds for these values and trails, with any nodes that
+-- agree with them.
 abbrev pub BacktrackEffectOn : (top : ℕ) (a : Values) (t : Trailed) (a' : Values) (t' : Trailed) → Type 0
 BacktrackEffectOn top a t a' t' = (nodes : List ImplNode) → StateIsConsistent (state_of a nodes t) → BacktrackEffect top (state_of a nodes t) (state_of a' nodes t')

@@ -32,7 +32,7 @@ with_binary a b x = record {
 abbrev pub with_binary_lists : ℕ → Binaries → Binaries
 with_binary_lists count x = record x { implied = take count x.implied ++ replicate (count - length x.implied) [] }
 
--- the unassigned literals among these, or none if the variable v is assigned
+-- the unassigned literals of `ls`, or none if the variable `v` is assigned
 abbrev pub unassigned_among : List (Option Bool) → (v : ℕ) → List ℕ → List ℕ
 unassigned_among values v ls = if is_unassigned_var values v then filter (λ l. is_unassigned_var values (variable l)) ls else []
 
@@ -40,7 +40,8 @@ unassigned_among values v ls = if is_unassigned_var values v then filter (λ l. 
 abbrev pub implications : List (List ℕ) → ℕ
 implications implied = min (sum_by (λ (ls : List ℕ). length ls) implied) (2 ^ 64 - 1)
 
--- the clauses with an assigned variable were removed, and the others are kept in order
+-- `RemovesAssigned values old new` holds if the clauses with an assigned variable were removed, and the others are kept
+-- in order.
 pub record RemovesAssigned (values : List (Option Bool)) (old new : Binaries) : Type 0 where
   pub size : length new.implied ≡ length old.implied
   pub implied : (l : ℕ) → implied_by new.implied l ≡ unassigned_among values (variable l) (implied_by old.implied l)

@@ -8,11 +8,12 @@ use Rattle.sat_parts.specs.clause.Stored.{lit_of}
 use Rattle.sat_parts.specs.prop.WatchLists.{no_watch, watches_of}
 use Rattle.sat_parts.specs.prop.Ready.{IsSoundWatch, HasWatch, AreWatched}
 
--- the lists watch the first two literals of the live clauses
+-- `WatchesLive words refs lists count` holds if the lists watch the first two literals of the live clauses of `refs`.
 abbrev pub WatchesLive : (words refs : List ℕ) (lists : List (List Watch)) (count : ℕ) → Type 0
 WatchesLive words refs lists count = AreWatched words (live_refs words refs) lists count
 
--- all watches are on live clauses, and the lists watch the first two literals of the live clauses among the first k
+-- `AreBuilt words refs lists count k` holds if all watches are on live clauses, and the lists watch the first two
+-- literals of the live clauses among the first `k`.
 pub record AreBuilt (words refs : List ℕ) (lists : List (List Watch)) (count k : ℕ) : Type 0 where
   pub room : length lists ≡ 2 * count
   pub good : (l p : ℕ) → p < length (watches_of lists l) → IsSoundWatch words (live_refs words refs) (get_or (watches_of lists l) p no_watch)

@@ -5,7 +5,7 @@ use Rattle.sat_parts.specs.declared.prop.graph.ImplNode.{ImplNode}
 use Rattle.sat_parts.specs.declared.prop.graph.Reason.{Reason}
 use Rattle.sat_parts.specs.declared.prop.graph.Reason.TheVariants.{Unit as NoCause, Binary, Long}
 
--- whether the reason is not a clause: the literal is a unit, a decision or an assumption
+-- `has_no_clause reason` is true if `reason` is not a clause: the literal is a unit, a decision or an assumption.
 abbrev pub has_no_clause : Reason → Bool
 has_no_clause NoCause = true
 has_no_clause (Binary _) = false
@@ -19,7 +19,7 @@ new_node = record { reason = NoCause; level = 0; depth = 0 }
 abbrev pub node_of : List ImplNode → ℕ → ImplNode
 node_of nodes v = get_or nodes v new_node
 
--- the node of a literal that is appended to this trail
+-- the node of a literal that is appended to the trail `t`
 abbrev pub node_at : Trailed → Reason → ImplNode
 node_at t reason = record { reason = reason; level = length t.starts; depth = length t.lits + 1 }
 
@@ -39,6 +39,6 @@ with_nodes count nodes = take count nodes ++ replicate (count - length nodes) ne
 abbrev pub removed_node : ImplNode
 removed_node = record { reason = NoCause; level = 0; depth = 4294967295 }
 
--- the clause at o is the reason for the variable's value
+-- `HasReason nodes v o` holds if the clause at `o` is the reason for the value of the variable `v`.
 abbrev pub HasReason : List ImplNode → (v o : ℕ) → Type 0
 HasReason nodes v o = (node_of nodes v).reason ≡ Long o

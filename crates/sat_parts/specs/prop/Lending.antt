@@ -6,6 +6,7 @@ use Rattle.sat_parts.specs.prop.WatchLists.{Watching}
 use Rattle.sat_parts.specs.contracts.prop.watch.WatchList as watch_list
 use Rattle.sat_parts.specs.contracts.prop.watch.Watchlists as watchlists
 
--- r lends the watches of literal l: the last list written through it becomes the watches of l, and the rest stays
+-- `LendsList w l r` holds if `r` lends the watches of literal `l`: the last list written through it becomes the watches
+-- of `l`, and the rest of `w` stays.
 abbrev pub LendsList : MutBor Watching → ℕ → MutBor (List Watch) → Fml
 LendsList w l r = Lends watchlists.the_row watch_list.the_row w r (λ list. record w.now { lists = set w.now.lists l list })

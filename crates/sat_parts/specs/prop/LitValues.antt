@@ -5,13 +5,13 @@ use Rattle.sat_parts.specs.prop.Values.{value_of}
 use Rattle.sat_parts.specs.declared.prop.lit_values.LitValue.{LitValue}
 use Rattle.sat_parts.specs.declared.prop.lit_values.LitValue.TheVariants.{Open, True, False}
 
--- the value of the literal of this sign, if its variable has this value
+-- the value of a literal, given the value of its variable and whether the literal is positive
 abbrev pub signed_value : Option Bool → Bool → LitValue
 signed_value None positive = Open
 signed_value (Some true) positive = if positive then True else False
 signed_value (Some false) positive = if positive then False else True
 
--- every literal has the value that its variable's value gives
+-- `MirrorsValues values codes` holds if `codes` has for every literal the value that its variable's value gives.
 pub record MirrorsValues (values : List (Option Bool)) (codes : List LitValue) : Type 0 where
   pub count : length codes ≡ 2 * length values
   pub each : (l : ℕ) → l < 2 * length values → get_or codes l Open ≡ signed_value (value_of values (variable l)) (is_positive l)

@@ -7,7 +7,7 @@ use Rattle.sat_parts.specs.declared.binary.Place.{Place}
 abbrev pub no_place : Place
 no_place = record { start = 0; len = 0; room = 0 }
 
--- the place of the list with this number
+-- the place of the list with number `l`
 abbrev pub place_at : List Place → ℕ → Place
 place_at places l = slice_index_or places l no_place
 
@@ -19,17 +19,19 @@ part_of lits p = take p.len (drop p.start lits)
 abbrev pub lists_of : List Place → List ℕ → List (List ℕ)
 lists_of places lits = map (part_of lits) places
 
--- the two rooms share no position
+-- `HaveNoCommonPlace p q` holds if the rooms of `p` and `q` share no position.
 abbrev pub HaveNoCommonPlace : Place → Place → Type 0
 HaveNoCommonPlace p q = (p.start + p.room ≤ q.start) ⊎ (q.start + q.room ≤ p.start)
 
--- the lists fit into their rooms, and the rooms are within the list of `size` literals and share no position
+-- `ArePlaces places size` holds if the lists fit into their rooms, and the rooms are within the list of `size` literals
+-- and share no position.
 pub record ArePlaces (places : List Place) (size : ℕ) : Type 0 where
   pub few : (l : ℕ) → (place_at places l).len ≤ (place_at places l).room
   pub within : (l : ℕ) → (place_at places l).start + (place_at places l).room ≤ size
   pub apart : (l m : ℕ) → l ≢ m → HaveNoCommonPlace (place_at places l) (place_at places m)
 
--- a part of the list was copied to its end, into a new room of this size
+-- `CopiesPadded start len room old new` holds if the part of `old` with `len` items from `start` on was copied to its
+-- end, into a new room of size `room`.
 pub record CopiesPadded (start len room : ℕ) (old new : List ℕ) : Type 0 where
   pub size : length new ≡ length old + room
   pub kept : (k : ℕ) → k < length old → slice_index new k ≡ slice_index old k

@@ -15,12 +15,13 @@ use Rattle.sat_parts.specs.prop.State.{PropagationState, level, current_level, H
 use Rattle.sat_parts.specs.prop.Reasons.{HaveFirsts, PropagatesOn}
 use Rattle.sat_parts.specs.prop.Ready.{AreWatched, AreSettled, AreImplied, AreLists, IsUnitFixpoint, IsConflict}
 
--- The invariant of propagation. No two clauses share words, and the live clauses contain only existing variables.
--- Enabled watch lists watch the first two literals of every live clause; disabled watch lists may have any content.
--- Values, nodes and trail agree, and literals in the queue are at the current level. A long clause that is a reason
--- has its literal first. Assume that one of the first two literals of a live clause is false by a literal that has
--- left the queue, at a level below `top`. Then the clause has a true literal at the same level or lower. Binary
--- clauses are propagated in the same way.
+-- `PropagationInvariant words refs w implied s top` holds if the parts are consistent, and the literals at levels below
+-- `top` that have left the queue are propagated. No two clauses share words, and the live clauses contain only existing
+-- variables. Enabled watch lists watch the first two literals of every live clause; disabled watch lists may have any
+-- content. Values, nodes and trail agree, and literals in the queue are at the current level. A long clause that is a
+-- reason has its literal first. If one of the first two literals of a live clause is false by a literal that has left
+-- the queue, at a level below `top`, the clause has a true literal at the same level or lower. Binary clauses are
+-- propagated in the same way.
 pub record PropagationInvariant (words refs : List ℕ) (w : Watching) (implied : List (List ℕ)) (s : PropagationState) (top : ℕ) : Type 0 where
   pub holds_clauses : HoldsClauses words refs
   pub clauses : AreClauses words (live_refs words refs) (length s.values)
@@ -33,20 +34,22 @@ pub record PropagationInvariant (words refs : List ℕ) (w : Watching) (implied 
   pub ranges : AreLists implied (length s.values)
   pub binary : AreImplied implied s (λ l. level s l < top)
 
--- the reason names the clause at o
+-- `IsOwnLong reason o` holds if `reason` is the clause at `o`.
 abbrev pub IsOwnLong : Reason → ℕ → Type 0
 IsOwnLong NoCause o = ⊥
 IsOwnLong (Binary ls) o = ⊥
 IsOwnLong (Long p) o = p ≡ o
 
--- the reason for lit names the clause by which l implies m
+-- `IsOwnBinary reason lit l m` holds if `reason`, which makes `lit` true, is the binary clause by which `l` implies
+-- `m`.
 abbrev pub IsOwnBinary : Reason → (lit l m : ℕ) → Type 0
 IsOwnBinary NoCause lit l m = ⊥
 IsOwnBinary (Binary ls) lit l m = (m ≡ lit) × (negated (get_or ls 0 0) ≡ l)
 IsOwnBinary (Long o) lit l m = ⊥
 
--- The invariant of propagation before the unassigned literal `lit` becomes true by `reason`. The clause of the reason
--- may be new and not propagated yet, if its false watched literals are at the current level.
+-- `EnqueuePrecondition lit reason words refs w implied s top` holds if the invariant of propagation holds before the
+-- unassigned literal `lit` becomes true by `reason`, except that the clause of the reason may be new and not propagated
+-- yet, if its false watched literals are at the current level.
 pub record EnqueuePrecondition (lit : ℕ) (reason : Reason) (words refs : List ℕ) (w : Watching) (implied : List (List ℕ)) (s : PropagationState) (top : ℕ) : Type 0 where
   pub holds_clauses : HoldsClauses words refs
   pub clauses : AreClauses words (live_refs words refs) (length s.values)
@@ -63,13 +66,15 @@ pub record EnqueuePrecondition (lit : ℕ) (reason : Reason) (words refs : List 
       (IsTrueLit s.values (get_or (implied_by implied l) k 0) × (level s (get_or (implied_by implied l) k 0) ≤ level s l))
       ⊎ (IsOwnBinary reason lit l (get_or (implied_by implied l) k 0) × (current_level s ≤ level s l))
 
--- the precondition of propagation: the invariant for literals of all levels
+-- `PropagationPrecondition words refs w implied s` holds if the invariant of propagation holds for literals of all
+-- levels.
 abbrev pub PropagationPrecondition : (words refs : List ℕ) (w : Watching) (implied : List (List ℕ)) (s : PropagationState) → Type 0
 PropagationPrecondition words refs w implied s = PropagationInvariant words refs w implied s (current_level s + 1)
 
--- The result of propagation. The literals that it assigned have reasons. Without a conflict, the invariant holds,
--- with an empty queue and no unit or falsified clause. After a conflict, a clause is falsified, and the invariant
--- holds once the current level is undone.
+-- `PropagationResult refs implied words s words' s' w r` holds if propagation with the result `r` has led from `words`
+-- and `s` to `words'` and `s'`. The literals that it assigned have reasons. Without a conflict, the invariant holds,
+-- with an empty queue and no unit or falsified clause. After a conflict, a clause is falsified, and the invariant holds
+-- once the current level is undone.
 pub record PropagationResult (refs : List ℕ) (implied : List (List ℕ)) (words : List ℕ) (s : PropagationState) (words' : List ℕ) (s' : PropagationState) (w : Watching) (r : Result (Unit {0}) Conflict) : Type 0 where
   pub moves : PropagatesOn (live_refs words refs) implied words s words' s'
   pub live : live_refs words' refs ≡ live_refs words refs

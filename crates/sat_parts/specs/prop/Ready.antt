@@ -19,38 +19,42 @@ use Rattle.sat_parts.specs.prop.Reasons.{HaveFirsts, PropagatesOn}
 abbrev pub state_of : Values → List ImplNode → Trailed → PropagationState
 state_of a g t = record { values = a.current; nodes = g; trail = t }
 
--- l is a literal of the clause at o
+-- `HasLit words o l` holds if `l` is a literal of the clause at `o`.
 abbrev pub HasLit : List ℕ → ℕ → ℕ → Type 0
 HasLit words o l = (k : ℕ) × ((k < size_of words o) × (lit_of words o k ≡ l))
 
--- the watch is on a live clause, and its blocking literal is a literal of that clause
+-- `IsSoundWatch words live x` holds if the watch `x` is on a live clause, and its blocking literal is a literal of that
+-- clause.
 abbrev pub IsSoundWatch : List ℕ → List ℕ → Watch → Type 0
 IsSoundWatch words live x = Contains live x.cref × HasLit words x.cref x.blocking
 
--- the list has a watch on the clause at o
+-- `HasWatch xs o` holds if a watch of `xs` is on the clause at `o`.
 abbrev pub HasWatch : List Watch → ℕ → Type 0
 HasWatch xs o = (p : ℕ) × ((p < length xs) × ((get_or xs p no_watch).cref ≡ o))
 
--- the lists watch the first two literals of every live clause, and have no watches on other clauses
+-- `AreWatched words live lists count` holds if the lists watch the first two literals of every live clause, and have no
+-- watches on other clauses.
 pub record AreWatched (words live : List ℕ) (lists : List (List Watch)) (count : ℕ) : Type 0 where
   pub room : length lists ≡ 2 * count
   pub good : (l p : ℕ) → p < length (watches_of lists l) → IsSoundWatch words live (get_or (watches_of lists l) p no_watch)
   pub both : (o i : ℕ) → Contains live o → i < 2 → HasWatch (watches_of lists (negated (lit_of words o i))) o
 
--- Assume that one of the first two literals of a live clause is false by a due literal that has left the queue. Then
--- the clause has a true literal at the same level or lower.
+-- `AreSettled words live s due` holds if every live clause one of whose first two literals is false by a due literal
+-- that has left the queue has a true literal at the same level or lower.
 abbrev pub AreSettled : (words live : List ℕ) (s : PropagationState) (due : ℕ → Type 0) → Type 0
 AreSettled words live s due =
     (o i : ℕ) → Contains live o → i < 2 → HasLeftQueue s (negated (lit_of words o i)) → due (negated (lit_of words o i)) →
     IsSatisfied s (lits_at words o) (level s (negated (lit_of words o i)))
 
--- every literal that is implied by a due literal that has left the queue is true at the same level or lower
+-- `AreImplied implied s due` holds if every literal that is implied by a due literal that has left the queue is true at
+-- the same level or lower.
 abbrev pub AreImplied : (implied : List (List ℕ)) (s : PropagationState) (due : ℕ → Type 0) → Type 0
 AreImplied implied s due =
     (l k : ℕ) → HasLeftQueue s l → due l → k < length (implied_by implied l) →
     IsTrueLit s.values (get_or (implied_by implied l) k 0) × (level s (get_or (implied_by implied l) k 0) ≤ level s l)
 
--- the long clauses and their watch lists, with the due literals propagated
+-- `LongReady words live lists s due` holds if the long clauses, their watch lists and the state are consistent, and the
+-- due literals that have left the queue are propagated over long clauses.
 pub record LongReady (words live : List ℕ) (lists : List (List Watch)) (s : PropagationState) (due : ℕ → Type 0) : Type 0 where
   pub clauses : AreClauses words live (length s.values)
   pub watches : AreWatched words live lists (length s.values)
@@ -58,38 +62,42 @@ pub record LongReady (words live : List ℕ) (lists : List (List Watch)) (s : Pr
   pub queue : IsQueueCurrent s
   pub settled : AreSettled words live s due
 
--- there is a list of implied literals for every literal, and all implied literals are in range
+-- `AreLists implied count` holds if there is a list of implied literals for each of 2 * `count` literals, and all
+-- implied literals are in this range.
 pub record AreLists (implied : List (List ℕ)) (count : ℕ) : Type 0 where
   pub room : length implied ≡ 2 * count
   pub below : (l k : ℕ) → k < length (implied_by implied l) → get_or (implied_by implied l) k 0 < 2 * count
 
--- The precondition of propagation for the literals at levels below `top`. If `top` is one more than the current
--- level, propagation can continue. If it is the current level, propagation can continue once that level is undone.
+-- `ReadyBelow words live lists implied s top` holds if the literals at levels below `top` that have left the queue are
+-- propagated. If `top` is one more than the current level, propagation can continue. If it is the current level,
+-- propagation can continue once that level is undone.
 pub record ReadyBelow (words live : List ℕ) (lists : List (List Watch)) (implied : List (List ℕ)) (s : PropagationState) (top : ℕ) : Type 0 where
   pub long : LongReady words live lists s (λ l. level s l < top)
   pub ranges : AreLists implied (length s.values)
   pub binary : AreImplied implied s (λ l. level s l < top)
   pub firsts : HaveFirsts words live s
 
--- the precondition of propagation, for literals of all levels
+-- `IsReadyToPropagate words live lists implied s` holds if `ReadyBelow` holds for literals of all levels, so that
+-- propagation can continue.
 abbrev pub IsReadyToPropagate : (words live : List ℕ) (lists : List (List Watch)) (implied : List (List ℕ)) (s : PropagationState) → Type 0
 IsReadyToPropagate words live lists implied s = ReadyBelow words live lists implied s (current_level s + 1)
 
--- all of these literals are false
+-- `AreAllFalse values ls` holds if all literals of `ls` are false.
 abbrev pub AreAllFalse : List (Option Bool) → List ℕ → Type 0
 AreAllFalse values ls = (k : ℕ) → k < length ls → IsFalseLit values (get_or ls k 0)
 
--- the literal at position k is unassigned, and the others are false
+-- `IsUnitAt values ls k` holds if the literal at position `k` is unassigned, and the others of `ls` are false.
 abbrev pub IsUnitAt : List (Option Bool) → List ℕ → ℕ → Type 0
 IsUnitAt values ls k = IsUnassignedLit values (get_or ls k 0) × ((j : ℕ) → j < length ls → j ≢ k → IsFalseLit values (get_or ls j 0))
 
--- no clause is falsified or unit
+-- `IsUnitFixpoint words live implied values` holds if no clause is falsified or unit.
 pub record IsUnitFixpoint (words live : List ℕ) (implied : List (List ℕ)) (values : List (Option Bool)) : Type 0 where
   pub not_falsified : (o : ℕ) → Contains live o → AreAllFalse values (lits_at words o) → ⊥
   pub not_unit : (o k : ℕ) → Contains live o → k < size_of words o → IsUnitAt values (lits_at words o) k → ⊥
   pub binary : (l k : ℕ) → k < length (implied_by implied l) → IsTrueLit values l → IsTrueLit values (get_or (implied_by implied l) k 0)
 
--- the conflict names a clause, and all its literals are false
+-- `IsConflict words live implied values conflict` holds if `conflict` names a clause, and all literals of this clause
+-- are false.
 abbrev pub IsConflict : (words live : List ℕ) (implied : List (List ℕ)) (values : List (Option Bool)) → Conflict → Type 0
 IsConflict words live implied values (Binary ls) =
     Contains (implied_by implied (negated (get_or ls 1 0))) (get_or ls 0 0)
@@ -97,7 +105,8 @@ IsConflict words live implied values (Binary ls) =
     × IsFalseLit values (get_or ls 1 0)
 IsConflict words live implied values (Long o) = Contains live o × AreAllFalse values (lits_at words o)
 
--- The result of propagation. The literals that it assigned have reasons. Without a conflict, its precondition holds
+-- `Propagated live implied words s words' s' lists r` holds if propagation with the result `r` has led from `words` and
+-- `s` to `words'` and `s'`. The literals that it assigned have reasons. Without a conflict, its precondition holds
 -- again, with an empty queue and no unit or falsified clause. After a conflict, a clause is falsified, and the
 -- precondition holds once the current level is undone.
 pub record Propagated (live : List ℕ) (implied : List (List ℕ)) (words : List ℕ) (s : PropagationState) (words' : List ℕ) (s' : PropagationState) (lists : List (List Watch)) (r : Result (Unit {0}) Conflict) : Type 0 where

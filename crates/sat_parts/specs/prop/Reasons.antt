@@ -10,12 +10,14 @@ use Rattle.sat_parts.specs.prop.Values.{IsTrueLit}
 use Rattle.sat_parts.specs.prop.Graphs.{has_no_clause}
 use Rattle.sat_parts.specs.prop.State.{PropagationState, node, lit_at, IsBefore, IsRemoved, TrailGrows}
 
--- the literal is false: its negation is on the trail before this position, or was taken off as a unit
+-- `IsFalseBefore s bound l` holds if the negation of the literal `l` is on the trail before position `bound`, or was
+-- taken off as a unit.
 abbrev pub IsFalseBefore : PropagationState → ℕ → ℕ → Type 0
 IsFalseBefore s bound l = IsBefore s bound (negated l) ⊎ IsRemoved s (negated l)
 
--- the clause of this reason implies the literal at position i of the trail, and its other literals were false before:
--- a binary clause of the lists of implied literals, or a live long clause that has the literal first
+-- `Implies words live implied s i reason` holds if `reason` has no clause, or its clause implies the literal at
+-- position `i` of the trail, and its other literals were false before: a binary clause of the lists of implied
+-- literals, or a live long clause that has the literal first.
 abbrev pub Implies : (words live : List ℕ) (implied : List (List ℕ)) (s : PropagationState) (i : ℕ) → Reason → Type 0
 Implies words live implied s i NoCause = Unit {0}
 Implies words live implied s i (Binary ls) =
@@ -23,21 +25,23 @@ Implies words live implied s i (Binary ls) =
 Implies words live implied s i (Long o) =
     Contains live o × (lit_of words o 0 ≡ lit_at s i) × ((k : ℕ) → 1 ≤ k → k < size_of words o → IsFalseBefore s i (lit_of words o k))
 
--- the reasons of the literals from this position on are unit in the order of the trail
+-- `AreUnitInTurn words live implied s from` holds if the reasons of the literals from position `from` on are unit in
+-- the order of the trail.
 abbrev pub AreUnitInTurn : (words live : List ℕ) (implied : List (List ℕ)) (s : PropagationState) (from : ℕ) → Type 0
 AreUnitInTurn words live implied s from =
     (i : ℕ) → from ≤ i → i < length s.trail.lits → Implies words live implied s i (node s (lit_at s i)).reason
 
--- the clause of every long reason on the trail is live and has the literal first
+-- `HaveFirsts words live s` holds if the clause of every long reason on the trail is live and has the literal first.
 abbrev pub HaveFirsts : (words live : List ℕ) (s : PropagationState) → Type 0
 HaveFirsts words live s = (i o : ℕ) → i < length s.trail.lits → (node s (lit_at s i)).reason ≡ Long o → Contains live o × (lit_of words o 0 ≡ lit_at s i)
 
--- the literal at position i of the trail is true and has a clause as its reason
+-- `HasClauseReason s i` holds if the literal at position `i` of the trail is true and has a clause as its reason.
 abbrev pub HasClauseReason : PropagationState → ℕ → Type 0
 HasClauseReason s i = IsTrueLit s.values (lit_at s i) × (has_no_clause (node s (lit_at s i)).reason ≡ false)
 
--- The effect of some propagation. Every literal that became true has a clause as its reason, and reasons stay unit in
--- the order of the trail. Clauses changed only in the order of their literals; a true first literal stays first.
+-- `PropagatesOn live implied words s words' s'` holds if some propagation has led from `words` and `s` to `words'` and
+-- `s'`. Every literal that became true has a clause as its reason, and reasons stay unit in the order of the trail.
+-- Clauses changed only in the order of their literals; a true first literal stays first.
 pub record PropagatesOn (live : List ℕ) (implied : List (List ℕ)) (words : List ℕ) (s : PropagationState) (words' : List ℕ) (s' : PropagationState) : Type 0 where
   pub grows : TrailGrows s s'
   pub reorders : PermutesClauses words words' live

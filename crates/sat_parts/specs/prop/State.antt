@@ -29,25 +29,25 @@ current_level s = length s.trail.starts
 abbrev pub lit_at : PropagationState → ℕ → ℕ
 lit_at s i = get_or s.trail.lits i 0
 
--- the literal is a unit, true at level 0, that was taken off the trail
+-- `IsRemoved s l` holds if the literal `l` is a unit, true at level 0, that was taken off the trail.
 pub record IsRemoved (s : PropagationState) (l : ℕ) : Type 0 where
   pub holds : IsTrueLit s.values l
   pub depth : (node s l).depth ≡ 4294967295
   pub bottom : level s l ≡ 0
 
--- the literal is on the trail before this position
+-- `IsBefore s bound l` holds if the literal `l` is on the trail before position `bound`.
 pub record IsBefore (s : PropagationState) (bound l : ℕ) : Type 0 where
   pub place : ℕ
   pub before : place < bound
   pub within : place < length s.trail.lits
   pub there : lit_at s place ≡ l
 
--- the literal has left the queue: it was propagated, or taken off the trail as a unit
+-- `HasLeftQueue s l` holds if the literal `l` has left the queue: it was propagated, or taken off the trail as a unit.
 abbrev pub HasLeftQueue : PropagationState → ℕ → Type 0
 HasLeftQueue s l = IsBefore s s.trail.head l ⊎ IsRemoved s l
 
--- Values, nodes and trail agree. The literals on the trail are true, and their nodes have their positions and levels.
--- Every other true literal was taken off the trail as a unit.
+-- `StateIsConsistent s` holds if values, nodes and trail agree. The literals on the trail are true, and their nodes
+-- have their positions and levels. Every other true literal was taken off the trail as a unit.
 pub record StateIsConsistent (s : PropagationState) : Type 0 where
   pub trail : IsTrail s.trail
   pub nodes : length s.nodes ≡ length s.values
@@ -57,7 +57,7 @@ pub record StateIsConsistent (s : PropagationState) : Type 0 where
   pub levels : (i : ℕ) → i < length s.trail.lits → LevelIs s.trail.starts i (level s (lit_at s i))
   pub known : (l : ℕ) → IsTrueLit s.values l → IsBefore s (length s.trail.lits) l ⊎ IsRemoved s l
 
--- every literal in the queue is at the current level
+-- `IsQueueCurrent s` holds if every literal in the queue is at the current level.
 abbrev pub IsQueueCurrent : PropagationState → Type 0
 IsQueueCurrent s = (i : ℕ) → s.trail.head ≤ i → i < length s.trail.lits → level s (lit_at s i) ≡ current_level s
 
@@ -69,7 +69,8 @@ enqueued l reason s = record {
   trail = with_lit l s.trail;
 }
 
--- only unassigned literals became true, and were appended to the trail
+-- `TrailGrows old new` holds if the trail of `new` is that of `old` with more literals, true literals stay true with
+-- their nodes, levels are unchanged, and no literal was taken off as a unit.
 pub record TrailGrows (old new : PropagationState) : Type 0 where
   pub size : length new.values ≡ length old.values
   pub starts : new.trail.starts ≡ old.trail.starts
@@ -81,7 +82,7 @@ pub record TrailGrows (old new : PropagationState) : Type 0 where
   pub nodes : (l : ℕ) → IsTrueLit old.values l → node new l ≡ node old l
   pub removed : (l : ℕ) → IsRemoved new l → IsRemoved old l
 
--- some literal of the list is true at this level or lower
+-- `IsSatisfied s ls bound` holds if some literal of `ls` is true at level `bound` or lower.
 pub record IsSatisfied (s : PropagationState) (ls : List ℕ) (bound : ℕ) : Type 0 where
   pub place : ℕ
   pub within : place < length ls

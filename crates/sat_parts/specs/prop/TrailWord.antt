@@ -17,16 +17,16 @@ pub data Letter : Type 0 where
   D : Letter
   P : Letter
 
--- whether a level begins with the literal at this position
+-- `begins starts i` is true if a level begins with the literal at position `i`.
 abbrev pub begins : List ℕ → ℕ → Bool
 begins [] i = false
 begins (k ∷ ks) i = (k == i) || begins ks i
 
--- the letter of the literal at position i of the trail
+-- the letter of the literal at position i of the trail, given where levels begin
 abbrev pub letter : List ℕ → ℕ → Letter
 letter starts i = if begins starts i then D else P
 
--- the letters of these literals, the first of which is at this position
+-- the letters of the literals `lits`, the first of which is at position `at`
 abbrev pub letters : (starts lits : List ℕ) (at : ℕ) → List Letter
 letters starts [] at = []
 letters starts (l ∷ ls) at = letter starts at ∷ letters starts ls (at + 1)
@@ -35,7 +35,8 @@ letters starts (l ∷ ls) at = letter starts at ∷ letters starts ls (at + 1)
 abbrev pub trail_word : Trailed → List Letter
 trail_word t = replicate t.cleared P ++ letters t.starts t.lits 0
 
--- the lexical order: D is lower than P, and a word is lower than its extensions
+-- `IsLowerWord u v` holds if the word `u` is lower than `v` in the lexical order: D is lower than P, and a word is
+-- lower than its extensions.
 abbrev pub IsLowerWord : List Letter → List Letter → Type 0
 IsLowerWord [] [] = ⊥
 IsLowerWord [] (y ∷ v) = Unit {0}
@@ -45,12 +46,13 @@ IsLowerWord (P ∷ u) (D ∷ v) = ⊥
 IsLowerWord (D ∷ u) (D ∷ v) = IsLowerWord u v
 IsLowerWord (P ∷ u) (P ∷ v) = IsLowerWord u v
 
--- no level begins at this position
+-- `BeginsNoLevel starts i` holds if no level begins at position `i`.
 abbrev pub BeginsNoLevel : List ℕ → ℕ → Type 0
 BeginsNoLevel starts i = (k : ℕ) → k < length starts → get_or starts k 0 ≢ i
 
--- Every level begins with a literal, after the literal that begins the level before. The literal that begins a level
--- has no clause as its reason, and every other literal above level 0 has a clause as its reason.
+-- `IsLevelled s` holds if every level begins with a literal, after the literal that begins the level before; the
+-- literal that begins a level has no clause as its reason, and every other literal above level 0 has a clause as its
+-- reason.
 pub record IsLevelled (s : PropagationState) : Type 0 where
   pub strict : (j k : ℕ) → j < k → k < length s.trail.starts → get_or s.trail.starts j 0 < get_or s.trail.starts k 0
   pub begun : (k : ℕ) → k < length s.trail.starts → get_or s.trail.starts k 0 < length s.trail.lits
@@ -62,8 +64,8 @@ pub record IsLevelled (s : PropagationState) : Type 0 where
 abbrev pub decided_on : ℕ → PropagationState → PropagationState
 decided_on l s = enqueued l NoCause (record s { trail = with_level s.trail })
 
--- `IsLevelled` holds without levels above 0. It is preserved when a literal is decided or becomes true by a clause,
--- in propagation, and when levels are undone.
+-- `LevelsStay` holds if `IsLevelled` holds without levels above 0, and is preserved when a literal is decided or
+-- becomes true by a clause, in propagation, and when levels are undone.
 pub record LevelsStay : Type 0 where
   pub none : (s : PropagationState) → s.trail.starts ≡ [] → IsLevelled s
   pub decides : (s : PropagationState) (l : ℕ) → StateIsConsistent s → IsUnassignedLit s.values l → variable l < length s.values → IsLevelled s → IsLevelled (decided_on l s)
@@ -72,7 +74,8 @@ pub record LevelsStay : Type 0 where
   pub undone : (a : Values) (nodes : List ImplNode) (t : Trailed) (level : ℕ) → StateIsConsistent (state_of a nodes t) → level < length t.starts →
       IsLevelled (state_of a nodes t) → IsLevelled (state_of (undone_to level t a) nodes (cut_to level t))
 
--- a new literal appends its letter to the word; if levels were undone before, the new word is higher than the old one
+-- `WordsRise` holds if a new literal appends its letter to the word and, if levels were undone before a literal was
+-- appended, the new word is higher than the old one.
 pub record WordsRise : Type 0 where
   pub decided : (s : PropagationState) (l : ℕ) → IsLevelled s → trail_word (with_lit l (with_level s.trail)) ≡ trail_word s.trail ++ D ∷ []
   pub caused : (s : PropagationState) (l : ℕ) → IsLevelled s → trail_word (with_lit l s.trail) ≡ trail_word s.trail ++ P ∷ []

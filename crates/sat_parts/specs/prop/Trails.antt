@@ -12,16 +12,17 @@ pub record Trailed : Type 0 where
   pub cleared : ℕ
   pub room : ℕ
 
--- the trail of these values, which the code has as separate fields
+-- the trail with the given parts, which the code has as separate fields
 abbrev pub trailed : (lits : List ℕ) (head : ℕ) (starts : List ℕ) (cleared room : ℕ) → Trailed
 trailed lits head starts cleared room = record { lits = lits; head = head; starts = starts; cleared = cleared; room = room }
 
--- levels begin in order, and none after the last literal
+-- `AreStarts starts len` holds if levels begin in order, and none after position `len`.
 pub record AreStarts (starts : List ℕ) (len : ℕ) : Type 0 where
   pub within : (k : ℕ) → k < length starts → get_or starts k 0 ≤ len
   pub rising : (j k : ℕ) → j ≤ k → k < length starts → get_or starts j 0 ≤ get_or starts k 0
 
--- the invariant of a trail
+-- `IsTrail t` holds if the trail is valid: no more literals have left the queue than there are, levels begin in order,
+-- the literals fit into the capacity, which is at most the limit of variables, and there are fewer than 2^32 levels.
 pub record IsTrail (t : Trailed) : Type 0 where
   pub queue : t.head ≤ length t.lits
   pub levels : AreStarts t.starts (length t.lits)
@@ -29,7 +30,7 @@ pub record IsTrail (t : Trailed) : Type 0 where
   pub small : t.room ≤ var_limit
   pub counted : length t.starts < 2 ^ 32
 
--- the literal at position i is at this level
+-- `LevelIs starts i level` holds if the literal at position `i` is at `level`.
 pub record LevelIs (starts : List ℕ) (i level : ℕ) : Type 0 where
   pub within : level ≤ length starts
   pub begun : (k : ℕ) → k < level → get_or starts k 0 ≤ i
@@ -43,7 +44,7 @@ no_trail = record { lits = []; head = 0; starts = []; cleared = 0; room = 0 }
 abbrev pub first_start : Trailed → ℕ
 first_start t = get_or t.starts 0 (length t.lits)
 
--- the next literal left the queue
+-- `PopsNext t l t'` holds if the next literal `l` left the queue.
 abbrev pub PopsNext : Trailed → ℕ → Trailed → Type 0
 PopsNext t l t' = (slice_get t.lits t.head ≡ Some l) × (t' ≡ record t { head = t.head + 1 })
 
@@ -59,6 +60,6 @@ with_level t = record t { starts = t.starts ++ length t.lits ∷ [] }
 abbrev pub with_cleared : Trailed → Trailed
 with_cleared t = record t { lits = []; head = 0; cleared = min (t.cleared + length t.lits) (2 ^ 64 - 1) }
 
--- the trail without the levels above this level, which is lower than the current level; the queue is empty
+-- the trail without the levels above `level`, which is lower than the current level; the queue is empty
 abbrev pub cut_to : ℕ → Trailed → Trailed
 cut_to level t = let len = get_or t.starts level 0 in record t { lits = take len t.lits; head = len; starts = take level t.starts }

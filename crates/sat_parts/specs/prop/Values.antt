@@ -11,23 +11,23 @@ pub record Values : Type 0 where
 abbrev pub value_of : List (Option Bool) → ℕ → Option Bool
 value_of values v = get_or values v None
 
--- whether the variable is unassigned
+-- `is_unassigned_var values v` is true if the variable `v` is unassigned.
 abbrev pub is_unassigned_var : List (Option Bool) → ℕ → Bool
 is_unassigned_var values v = is_none (value_of values v)
 
--- the literal is true
+-- `IsTrueLit values l` holds if the literal `l` is true.
 abbrev pub IsTrueLit : List (Option Bool) → ℕ → Type 0
 IsTrueLit values l = value_of values (variable l) ≡ Some (is_positive l)
 
--- the literal is false
+-- `IsFalseLit values l` holds if the literal `l` is false.
 abbrev pub IsFalseLit : List (Option Bool) → ℕ → Type 0
 IsFalseLit values l = value_of values (variable l) ≡ Some (not (is_positive l))
 
--- the literal is unassigned
+-- `IsUnassignedLit values l` holds if the literal `l` is unassigned.
 abbrev pub IsUnassignedLit : List (Option Bool) → ℕ → Type 0
 IsUnassignedLit values l = value_of values (variable l) ≡ None
 
--- the value of the literal of this sign, if its variable has this value
+-- the value of a literal, given whether it is positive and the value of its variable
 abbrev pub seen_from : Bool → Option Bool → Option Bool
 seen_from positive None = None
 seen_from positive (Some b) = Some (if positive then b else not b)

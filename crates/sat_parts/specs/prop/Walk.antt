@@ -16,16 +16,18 @@ use Rattle.sat_parts.specs.prop.State.{PropagationState, level, current_level, H
 use Rattle.sat_parts.specs.prop.Reasons.{PropagatesOn}
 use Rattle.sat_parts.specs.prop.Ready.{IsSoundWatch, HasWatch, LongReady, AreAllFalse, IsConflict}
 
--- a watch before position `kept`, or from position `at` on, is on the clause at o
+-- `HasWatchOutside xs kept at o` holds if a watch of `xs` before position `kept`, or from position `at` on, is on the
+-- clause at `o`.
 abbrev pub HasWatchOutside : List Watch → ℕ → ℕ → ℕ → Type 0
 HasWatchOutside xs kept at o = (p : ℕ) × ((p < length xs) × ((p < kept) ⊎ (at ≤ p)) × ((get_or xs p no_watch).cref ≡ o))
 
--- a watch from position `at` on is on the clause at o
+-- `HasWatchFrom xs at o` holds if a watch of `xs` from position `at` on is on the clause at `o`.
 abbrev pub HasWatchFrom : List Watch → ℕ → ℕ → Type 0
 HasWatchFrom xs at o = (p : ℕ) × ((p < length xs) × (at ≤ p) × ((get_or xs p no_watch).cref ≡ o))
 
--- The watches during the walk through those of `lit`, which were taken out as `list`. Watches from position `at` on
--- are still to be visited, and the first `kept` watches stay.
+-- `AreWalked words live lists list lit kept at count` holds if the watch lists are sound and complete during the walk
+-- through the watches of `lit`, which were taken out as `list`. Watches from position `at` on are still to be visited,
+-- and the first `kept` watches stay.
 pub record AreWalked (words live : List ℕ) (lists : List (List Watch)) (list : List Watch) (lit kept at count : ℕ) : Type 0 where
   pub room : length lists ≡ 2 * count
   pub good : (l p : ℕ) → p < length (watches_of lists l) → IsSoundWatch words live (get_or (watches_of lists l) p no_watch)
@@ -36,7 +38,8 @@ pub record AreWalked (words live : List ℕ) (lists : List (List Watch)) (list :
       ((negated (lit_of words o i) ≡ lit) × HasWatchOutside list kept at o)
       ⊎ ((negated (lit_of words o i) ≢ lit) × HasWatch (watches_of lists (negated (lit_of words o i))) o)
 
--- the invariant of the walk: every clause that is not yet propagated has a watch that is still to visit
+-- `WalkInvariant words live s lists list lit kept at` holds if every clause that is not yet propagated has a watch that
+-- is still to be visited, in a consistent state.
 pub record WalkInvariant (words live : List ℕ) (s : PropagationState) (lists : List (List Watch)) (list : List Watch) (lit kept at : ℕ) : Type 0 where
   pub clauses : AreClauses words live (length s.values)
   pub agrees : StateIsConsistent s
@@ -48,16 +51,19 @@ pub record WalkInvariant (words live : List ℕ) (s : PropagationState) (lists :
       IsSatisfied s (lits_at words o) (level s (negated (lit_of words o i)))
       ⊎ ((negated (lit_of words o i) ≡ lit) × HasWatchFrom list at o)
 
--- fl was one of the first two literals of the clause at o, and the other of these is now first
+-- `IsOther w v o fl` holds if `fl` was one of the first two literals of the clause at `o` in `w`, and the other of
+-- these is first in `v`.
 abbrev pub IsOther : List ℕ → List ℕ → ℕ → ℕ → Type 0
 IsOther w v o fl = ((lit_of w o 1 ≡ fl) × (lit_of v o 0 ≡ lit_of w o 0)) ⊎ ((lit_of w o 0 ≡ fl) × (lit_of v o 0 ≡ lit_of w o 1))
 
--- fl was one of the first two literals of the clause at o; the other of these is now first, and fl is second
+-- `WalkInvariantAtClause w v o fl` holds if `fl` was one of the first two literals of the clause at `o` in `w`; in `v`
+-- the other of these is first, and `fl` is second.
 pub record WalkInvariantAtClause (w v : List ℕ) (o fl : ℕ) : Type 0 where
   pub other : IsOther w v o fl
   pub second : lit_of v o 1 ≡ fl
 
--- the effect on words and lists of visiting the clause at o for the false literal fl
+-- `Visited w v a lists lists' o fl visit` holds if a visit to the clause at `o` for the false literal `fl`, with the
+-- result `visit`, has led from the words `w` and `lists` to `v` and `lists'`.
 abbrev pub Visited : (w v : List ℕ) (a : List (Option Bool)) (lists lists' : List (List Watch)) (o fl : ℕ) → Visit → Type 0
 Visited w v a lists lists' o fl Stale = (lit_of w o 0 ≢ fl) × (lit_of w o 1 ≢ fl) × (v ≡ w) × (lists' ≡ lists)
 Visited w v a lists lists' o fl Moved =
@@ -77,27 +83,31 @@ Visited w v a lists lists' o fl (Falsified n) =
     × (lists' ≡ lists)
     × ((k : ℕ) → k < size_of v o → IsFalseLit a (lit_of v o k))
 
--- the effect of visiting a clause, for an assignment and watch lists
+-- `VisitedIn w v a lists lists' o fl r` holds if `Visited` holds for the result `r`, an assignment and watch lists.
 abbrev pub VisitedIn : (w v : List ℕ) (a : Values) (lists lists' : Watching) (o fl : ℕ) → Visit → Type 0
 VisitedIn w v a lists lists' o fl r = Visited w v a.current lists.lists lists'.lists o fl r
 
--- the literal is due after a walk: any literal or, if a clause was falsified, a literal below the current level
+-- `due_after found s l` holds if the literal `l` is due after a walk: any literal or, if a clause was falsified, a
+-- literal below the current level.
 abbrev pub due_after : Option ℕ → PropagationState → ℕ → Type 0
 due_after found s l = MatchOption found (Unit {0}) (λ _. level s l < current_level s)
 
--- the effect of a walk on words and state, and on the lists once the walked list is put back
+-- `WatchWalkEffect live words s words' s' lists found` holds if a walk has led from `words` and `s` to `words'` and
+-- `s'`, with `lists` once the walked list is put back; `found` is the falsified clause, if there is one.
 pub record WatchWalkEffect (live : List ℕ) (words : List ℕ) (s : PropagationState) (words' : List ℕ) (s' : PropagationState) (lists : List (List Watch)) (found : Option ℕ) : Type 0 where
   pub moves : (implied : List (List ℕ)) → PropagatesOn live implied words s words' s'
   pub head : s'.trail.head ≡ s.trail.head
   pub ready : LongReady words' live lists s' (due_after found s')
   pub conflict : MatchOption found (Unit {0}) (λ o. Contains live o × AreAllFalse s'.values (lits_at words' o))
 
--- the effect of a walk over long clauses, with a falsified clause as a conflict
+-- `LongWalkEffect live words s words' s' lists r` holds if `WatchWalkEffect` holds for a walk over long clauses with
+-- the result `r`, whose conflict is the falsified clause.
 abbrev pub LongWalkEffect : (live : List ℕ) (words : List ℕ) (s : PropagationState) (words' : List ℕ) (s' : PropagationState) (lists : List (List Watch)) → Result (Unit {0}) Conflict → Type 0
 LongWalkEffect live words s words' s' lists r =
     MatchResult r (λ _. WatchWalkEffect live words s words' s' lists None) (λ e. (o : ℕ) × ((e ≡ Long o) × WatchWalkEffect live words s words' s' lists (Some o)))
 
--- the state during the walk through the literals that lit implies: those before position `at` are true
+-- `BinaryWalkInvariant implied lit s s' at` holds if the walk through the literals that `lit` implies has led from `s`
+-- to `s'`, and those before position `at` are true.
 pub record BinaryWalkInvariant (implied : List (List ℕ)) (lit : ℕ) (s s' : PropagationState) (at : ℕ) : Type 0 where
   pub agrees : StateIsConsistent s'
   pub queue : IsQueueCurrent s'
@@ -108,7 +118,8 @@ pub record BinaryWalkInvariant (implied : List (List ℕ)) (lit : ℕ) (s s' : P
   pub done : (k : ℕ) → k < at → k < length (implied_by implied lit) →
       IsTrueLit s'.values (get_or (implied_by implied lit) k 0) × (level s' (get_or (implied_by implied lit) k 0) ≤ level s' lit)
 
--- the effect of propagation over binary clauses
+-- `BinaryWalkEffect implied lit s s' r` holds if propagation of `lit` over binary clauses with the result `r` has led
+-- from `s` to `s'`.
 abbrev pub BinaryWalkEffect : (implied : List (List ℕ)) (lit : ℕ) (s s' : PropagationState) → Result (Unit {0}) Conflict → Type 0
 BinaryWalkEffect implied lit s s' r =
     MatchResult r (λ _. BinaryWalkInvariant implied lit s s' (length (implied_by implied lit))) (λ e. BinaryWalkInvariant implied lit s s' 0 × IsConflict [] [] implied s'.values e)

@@ -24,7 +24,7 @@ watches_of lists l = get_or lists l []
 abbrev pub more_at : ℕ → Watch → List (List Watch) → List (List Watch)
 more_at l watch lists = set lists l (watches_of lists l ++ watch ∷ [])
 
--- one more watch for literal l, whether the lists are enabled or not
+-- the watch lists with one more watch for literal l, whether they are enabled or not
 abbrev pub with_watch : ℕ → Watch → Watching → Watching
 with_watch l watch w = record w { lists = more_at l watch w.lists }
 
@@ -32,7 +32,8 @@ with_watch l watch w = record w { lists = more_at l watch w.lists }
 abbrev pub without_last_watch : ℕ → List (List Watch) → List (List Watch)
 without_last_watch l lists = set lists l (take (length (watches_of lists l) - 1) (watches_of lists l))
 
--- two more watches for two literals of a clause if the lists are enabled; each is the blocking literal of the other's watch
+-- the watch lists with two more watches, for literals a and b of the clause at o, if they are enabled; each of the two
+-- is the blocking literal of the other's watch
 abbrev pub with_clause_watches : ℕ → ℕ → ℕ → Watching → Watching
 with_clause_watches o a b w = if w.enabled then with_watch (negated b) (watch_on o a) (with_watch (negated a) (watch_on o b) w) else w
 
@@ -48,7 +49,7 @@ with_lists count w = record w { lists = take count w.lists ++ replicate (count -
 abbrev pub widened : ℕ → List (List Watch) → List (List Watch)
 widened count lists = lists ++ replicate (count - length lists) []
 
--- there are at most `count` lists, and capacity for `count`
+-- `HasListRoom count capacity lists` holds if there are at most `count` lists, and `capacity` is at least `count`.
 pub record HasListRoom (count capacity : ℕ) (lists : List (List Watch)) : Type 0 where
   pub few : length lists ≤ count
   pub room : count ≤ capacity

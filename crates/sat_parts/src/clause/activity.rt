@@ -1,4 +1,4 @@
-//! Activities of clauses. These are integers, which are rescaled before they grow too large.
+//! Activities of clauses, which are integers and are rescaled before they grow too large.
 ghost use Rattle.std.specs.Prelude.{◌≡◌, ◌+◌, ◌*◌, ◌/◌, ◌^◌, ◌<◌, ◌≤◌};
 ghost use Rattle.std.specs.List.{Contains};
 ghost use Rattle.sat_store.specs.clause.Buffer.{header_at};

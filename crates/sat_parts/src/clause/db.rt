@@ -126,7 +126,8 @@ pub(crate) fn put_header(clauses: &mut ClauseAlloc, cref: ClauseRef, header: Cla
     clauses.set_header(cref, header);
 }
 
-/// Stores a clause, and watches its first two literals if the watch lists are enabled.
+/// Stores a clause, and watches its first two literals if the watch lists are enabled. Returns the reference to the
+/// clause.
 fn store_clause(
     clauses: &mut ClauseAlloc,
     watchlists: &mut Watchlists,
@@ -152,7 +153,8 @@ fn store_clause(
     Ok(cref)
 }
 
-/// Adds a clause to the tier in its header, and watches its first two literals if the watch lists are enabled.
+/// Adds a clause to the tier in its header, and watches its first two literals if the watch lists are enabled. Returns
+/// the reference to the clause.
 ///
 /// The length of the clause is the number of literals, whatever the header says. If there is an error, nothing changes.
 /// The error is `StoreFull` if references can't represent the next offset, and `OutOfMemory` otherwise.
@@ -223,7 +225,7 @@ pub fn delete_clause(
     put_header(clauses, cref, header);
 }
 
-/// Whether the first literal of the clause is true and the clause is the reason for that literal.
+/// Returns `true` if the first literal of the clause is true and the clause is the reason for that literal.
 fn is_asserting(
     clauses: &ClauseAlloc,
     graph: &ImplGraph,

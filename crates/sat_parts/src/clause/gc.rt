@@ -112,7 +112,7 @@ struct Copied {
     refs: Vec<ClauseRef>,
 }
 
-/// Copies the live clauses into a new buffer.
+/// Copies the live clauses into a new buffer, and returns the copies.
 fn copy_all(alloc: Global, clauses: &ClauseAlloc, db: &ClauseDb) -> Result<Copied, StoreError>
     requires { DbMatchesBuffer clauses.now db.now }
     ensures copied { IfOk result (λ x. CopyInvariant clauses.now db.now.refs x.clauses x.refs.items (length db.now.refs)) }

@@ -50,7 +50,7 @@ pub fn reduce_mids(clauses: &mut ClauseAlloc, db: &mut ClauseDb)
     }
 }
 
-/// Whether a clause is live and in the tier `tier`.
+/// Returns `true` if a clause is live and in `tier`.
 fn is_of_tier(clauses: &ClauseAlloc, cref: ClauseRef, tier: Tier) -> bool
     requires { IsClause clauses.now cref }
     ensures { result ≡ is_live_in_tier clauses.now tier cref }
@@ -82,7 +82,7 @@ fn clauses_of_tier(
     Ok(list)
 }
 
-/// Marks a clause if it is live and in the tier `tier`.
+/// Marks a clause if it is live and in `tier`.
 fn mark_one(clauses: &mut ClauseAlloc, _db: &ClauseDb, cref: ClauseRef, tier: Tier)
     requires db { DbMatchesBuffer clauses.old _db.now }
     requires there { Contains _db.now.refs cref }

@@ -132,7 +132,8 @@ fn begin_level(
     assume(parts, lit)
 }
 
-/// Assigns the next assumption that is not true yet, at a new level, unless it is false or there is none.
+/// Assigns the next assumption that is not true yet, at a new level, unless it is false or there is none. Returns which
+/// of these three was the case.
 pub fn enqueue_assumption(
     parts: &mut SearchState,
     assumptions: &mut Assumptions,

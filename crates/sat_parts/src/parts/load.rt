@@ -136,7 +136,8 @@ fn load_some(parts: &mut SearchState, lits: &[Lit]) -> Result<(), StoreError>
     load_long(parts, lits)
 }
 
-/// Loads a clause without true literals. The false literals must be at the end, from position `kept` on.
+/// Loads a clause without true literals, and returns how it was loaded. The false literals must be at the end, from
+/// position `kept` on.
 fn load_sorted(parts: &mut SearchState, lits: &[Lit], kept: usize) -> Result<Loaded, StoreError>
     requires holds { SearchStateInvariant parts.old }
     requires bottom { parts.old.trail.starts ≡ [] }
@@ -158,7 +159,7 @@ fn load_sorted(parts: &mut SearchState, lits: &[Lit], kept: usize) -> Result<Loa
     Ok(Loaded::Unit)
 }
 
-/// Loads a clause at level 0.
+/// Loads a clause at level 0, and returns how it was loaded.
 ///
 /// The false literals before the first true literal move to the end, in order, and the units that falsify them are
 /// moved back to the queue. The clause is stored in this order, unless one of its literals is true or the clause has

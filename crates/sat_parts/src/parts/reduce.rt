@@ -12,7 +12,7 @@ use crate::parts::SearchState;
 use sat_store::{ClauseAlloc, ClauseRef, Tier};
 use std::alloc::{AllocError, Global};
 
-/// Whether a clause is live and in tier Local.
+/// Returns `true` if a clause is live and in tier Local.
 fn is_local(clauses: &ClauseAlloc, cref: ClauseRef) -> bool
     requires { IsClause clauses.now cref }
     ensures { result ≡ is_live_in_tier clauses.now Tier.Local cref }

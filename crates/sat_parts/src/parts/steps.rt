@@ -27,8 +27,8 @@ use sat_base::{Lit, Var};
 use sat_store::{ClauseHeader, StoreError, Vsids};
 use std::alloc::{AllocError, Global};
 
-/// Propagates all literals in the queue. After a conflict, the invariant holds again only once the current level has
-/// been undone.
+/// Propagates all literals in the queue. Returns `Ok(Err(conflict))` if a clause is falsified. After a conflict, the
+/// invariant holds again only once the current level has been undone.
 pub fn propagate_all(
     alloc: Global,
     parts: &mut SearchState,

@@ -38,7 +38,7 @@ impl Model for Assignment {
         × MirrorsValues a.values.items a.lit_values.codes.items };
 }
 
-/// Whether both are the same value, or both are `None`.
+/// Returns `true` if both are the same value, or both are `None`.
 #[inline(always)] // called for each literal that an inner loop looks at
 pub fn fast_option_eq(a: Option<bool>, b: Option<bool>) -> bool
     ensures { IsTrue result ↔ (a ≡ b) }
@@ -111,7 +111,7 @@ impl Assignment {
         }
     }
 
-    /// Whether a literal is true.
+    /// Returns `true` if a literal is true.
     #[inline(always)] // called for each literal that an inner loop looks at
     pub fn lit_is_true(&self, lit: Lit) -> bool
         requires { variable lit < length self.now.current }
@@ -120,7 +120,7 @@ impl Assignment {
         self.lit_values.is_true(lit)
     }
 
-    /// Whether a literal is false.
+    /// Returns `true` if a literal is false.
     #[inline(always)] // called for each literal that an inner loop looks at
     pub fn lit_is_false(&self, lit: Lit) -> bool
         requires { variable lit < length self.now.current }
@@ -129,7 +129,7 @@ impl Assignment {
         self.lit_values.is_false(lit)
     }
 
-    /// Whether a literal is unassigned.
+    /// Returns `true` if a literal is unassigned.
     #[inline(always)] // called for each literal that an inner loop looks at
     pub fn lit_is_unk(&self, lit: Lit) -> bool
         requires { variable lit < length self.now.current }

@@ -41,7 +41,7 @@ impl<'a> CauseLits<'a> {
         }
     }
 
-    /// Whether there are no literals.
+    /// Returns `true` if there are no literals.
     pub fn is_empty(&self) -> bool
         ensures { IsTrue result ↔ self.now ≡ [] }
     {

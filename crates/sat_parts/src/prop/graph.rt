@@ -19,7 +19,7 @@ pub enum Reason {
 }
 
 impl Reason {
-    /// Whether the reason is not a clause: the literal is a unit, a decision or an assumption.
+    /// Returns `true` if the reason is not a clause: the literal is a unit, a decision or an assumption.
     pub fn is_unit(&self) -> bool
         ensures { result ≡ has_no_clause self.now }
     {
@@ -133,7 +133,7 @@ impl ImplGraph {
         };
     }
 
-    /// Whether a variable is marked as one whose unit was removed from the trail.
+    /// Returns `true` if a variable is marked as one whose unit was removed from the trail.
     pub fn is_removed_unit(&self, var: Var) -> bool
         requires { var < length self.now }
         ensures { IsTrue result ↔ ((node_of self.now var).depth ≡ 4294967295) }

@@ -80,7 +80,7 @@ impl LitValues {
         Ok(())
     }
 
-    /// Whether a literal is true.
+    /// Returns `true` if a literal is true.
     #[inline(always)] // called for each literal that an inner loop looks at
     pub(crate) fn is_true(&self, lit: Lit) -> bool
         requires { lit < length self.now.codes.items }
@@ -89,7 +89,7 @@ impl LitValues {
         is_true(self.codes[lit.code()])
     }
 
-    /// Whether a literal is false.
+    /// Returns `true` if a literal is false.
     #[inline(always)] // called for each literal that an inner loop looks at
     pub(crate) fn is_false(&self, lit: Lit) -> bool
         requires { lit < length self.now.codes.items }
@@ -102,7 +102,7 @@ impl LitValues {
         }
     }
 
-    /// Whether a literal is unassigned.
+    /// Returns `true` if a literal is unassigned.
     #[inline(always)] // called for each literal that an inner loop looks at
     pub(crate) fn is_open(&self, lit: Lit) -> bool
         requires { lit < length self.now.codes.items }

@@ -106,7 +106,7 @@ fn swap_second(clauses: &mut ClauseAlloc, cref: ClauseRef, second: Lit, at: usiz
     found
 }
 
-/// Visits a clause after a literal that it may watch became false.
+/// Visits a clause after a literal that it may watch became false, and returns the result of the visit.
 fn visit_clause(
     clauses: &mut ClauseAlloc,
     watchlists: &mut Watchlists,

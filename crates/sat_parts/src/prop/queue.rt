@@ -15,7 +15,8 @@ use std::alloc::{AllocError, Global};
 
 /// Propagates all literals in the queue, each over the binary clauses and then over the long clauses.
 ///
-/// The list of clauses is not read. If memory runs out, the state may be inconsistent and must not be used again.
+/// Returns `Ok(Err(conflict))` if a clause is falsified. The list of clauses is not read. If memory runs out, the state
+/// may be inconsistent and must not be used again.
 pub(crate) fn propagate_queue(
     alloc: Global,
     clauses: &mut ClauseAlloc,

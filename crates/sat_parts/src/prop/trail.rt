@@ -166,7 +166,7 @@ impl Trail {
         end.saturating_add(self.units_removed)
     }
 
-    /// Whether the queue is empty.
+    /// Returns `true` if the queue is empty.
     pub fn fully_propagated(&self) -> bool
         ensures { IsTrue result ↔ (self.now.head ≡ length self.now.lits) }
     {

@@ -192,7 +192,7 @@ impl Watchlists {
         Ok(())
     }
 
-    /// Whether the lists are enabled.
+    /// Returns `true` if the lists are enabled.
     pub fn enabled(&self) -> bool
         ensures { result ≡ self.now.enabled }
     {

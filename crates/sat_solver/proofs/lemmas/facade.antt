@@ -3,3 +3,5 @@ pub mod Seen
 pub mod SeenChecker
 pub mod SeenFormula
 pub mod SeenProof
+pub mod Recorded
+pub mod Steps

@@ -13,28 +13,32 @@ use Rattle.sat_solver.specs.analyze_conflict.AnalysisState.{AnalysisState}
 use Rattle.sat_solver.specs.analyze_conflict.Derivation.{AreLevelZeroLits, AnalysisResult}
 use Rattle.sat_solver.specs.analyze_conflict.Marks.{PropagationInvariantBelow}
 
--- a clause of two different literals, each implied by the negation of the other
+-- `IsPair implied a b` holds if the literals `a` and `b` are different, and each is implied by the negation of the
+-- other
 abbrev pub IsPair : List (List ℕ) → ℕ → ℕ → Type 0
 IsPair implied a b = (a ≢ b) × Contains (implied_by implied (negated b)) a × Contains (implied_by implied (negated a)) b
 
--- the clause is a live long clause or a stored binary clause
+-- `IsStored words live implied c` holds if `c` is a live long clause or a stored binary clause
 pub data IsStored (words live : List ℕ) (implied : List (List ℕ)) (c : List ℕ) : Type 0 where
   stored_long : (o : ℕ) → Contains live o → c ≡ lits_at words o → IsStored words live implied c
   stored_pair : (a b : ℕ) → IsPair implied a b → c ≡ a ∷ b ∷ [] → IsStored words live implied c
 
--- the clauses are unit in turn, and these literals are assumed after them
+-- `UnitPropagateTo assumed picked reached` holds if the picked clauses are unit in turn under the assumed literals,
+-- and `reached` is the literals that they imply, the last one first, and then the assumed ones
 abbrev pub UnitPropagateTo : (assumed : List ℕ) (picked : List (List ℕ)) (reached : List ℕ) → Type 0
 UnitPropagateTo assumed [] reached = reached ≡ assumed
 UnitPropagateTo assumed (c ∷ cs) reached = (o : ℕ) × IsUnit assumed c o × UnitPropagateTo (o ∷ assumed) cs reached
 
--- the reached literals neither satisfy nor falsify the literal, and falsify no stored clause
+-- `StaysUnassigned words live implied l reached` holds if the reached literals neither satisfy nor falsify the
+-- literal `l`, and falsify no stored clause
 pub record StaysUnassigned (words live : List ℕ) (implied : List (List ℕ)) (l : ℕ) (reached : List ℕ) : Type 0 where
   pub not_true : is_among reached l ≡ false
   pub not_false : is_among reached (negated l) ≡ false
   pub no_conflict : (c : List ℕ) → IsStored words live implied c → IsFalsified reached c → ⊥
 
--- Let stored clauses be unit in turn under the units and the negations of a learned clause's other literals. Then
--- its first literal stays open, and no stored clause is falsified.
+-- `LearnedIsEmpowering` holds if every learned clause is empowering: let stored clauses be unit in turn under the
+-- units and the negations of its other literals; then its first literal has no value, and no stored clause is
+-- falsified
 abbrev pub LearnedIsEmpowering : Type 0
 LearnedIsEmpowering =
     (words refs : List ℕ) (watching : Watching) (implied : List (List ℕ)) (s : PropagationState) (conflict : List ℕ) (w : AnalysisState) (back : ℕ) (units : List ℕ) (picked : List (List ℕ)) (reached : List ℕ) →

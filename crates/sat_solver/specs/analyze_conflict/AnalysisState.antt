@@ -10,9 +10,9 @@ use Rattle.sat_parts.specs.declared.prop.graph.Conflict.TheVariants as conflicts
 use Rattle.sat_parts.specs.prop.Graphs.{node_of}
 
 -- The state of an analysis. `clause`: the false literals of lower levels. `used`: the true literals whose reasons
--- were used. `seen`: the variables that were met. `antecedents`: the long clauses that took part. `core`: the
--- assumptions of a core. `flags`: a flag for each variable. `pending`: the number of flagged literals that are still
--- to be resolved.
+-- were used. `seen`: the variables of the literals that were seen. `antecedents`: the long clauses that took part.
+-- `core`: the assumptions of a core. `flags`: a flag for each variable. `pending`: the number of flagged literals
+-- that are still to be resolved.
 pub record AnalysisState : Type 0 where
   pub clause : List ℕ
   pub used : List ℕ
@@ -26,8 +26,9 @@ pub record AnalysisState : Type 0 where
 abbrev pub analysis_state : (clause used seen antecedents core : List ℕ) (flags : List Bool) (pending : ℕ) → AnalysisState
 analysis_state clause used seen antecedents core flags pending = record { clause = clause; used = used; seen = seen; antecedents = antecedents; core = core; flags = flags; pending = pending }
 
--- Meets a false literal. Nothing changes if it is of level 0 or flagged. Otherwise its variable is flagged and
--- listed as met. If its level is `top` or above, it is counted as pending; otherwise it is added to the clause.
+-- `with_seen_literal nodes top r w` is the state after the false literal `r` is seen. Nothing changes if the literal
+-- is of level 0 or flagged. Otherwise its variable is flagged and listed as seen. If its level is `top` or above, it
+-- is counted as pending; otherwise it is added to the clause.
 abbrev pub with_seen_literal : (nodes : List ImplNode) (top r : ℕ) → AnalysisState → AnalysisState
 with_seen_literal nodes top r w =
     if (node_of nodes (variable r)).level == 0 then w
@@ -36,12 +37,12 @@ with_seen_literal nodes top r w =
     then record w { flags = set w.flags (variable r) true; seen = w.seen ++ variable r ∷ []; clause = w.clause ++ r ∷ [] }
     else record w { flags = set w.flags (variable r) true; seen = w.seen ++ variable r ∷ []; pending = min (w.pending + 1) (2 ^ 64 - 1) }))
 
--- meets these literals one after another
+-- the state after these literals are seen one after another
 abbrev pub with_seen_literals : (nodes : List ImplNode) (top : ℕ) → List ℕ → AnalysisState → AnalysisState
 with_seen_literals nodes top [] w = w
 with_seen_literals nodes top (r ∷ rs) w = with_seen_literals nodes top rs (with_seen_literal nodes top r w)
 
--- unflags a true literal, which no longer has to be resolved
+-- the state after the variable of a literal is unflagged, and one literal less is pending
 abbrev pub unflagged : ℕ → AnalysisState → AnalysisState
 unflagged l w = record w { flags = set w.flags (variable l) false; pending = w.pending - 1 }
 
@@ -56,11 +57,12 @@ abbrev pub long_falsified : Conflict → List ℕ
 long_falsified (conflicts.Binary ls) = []
 long_falsified (conflicts.Long o) = o ∷ []
 
--- uses the reason of a literal, which is thereby resolved
+-- `with_reason_used r l w` is the state after the literal `l`, which is no longer pending, was resolved with its
+-- reason `r`: it is listed as used, and a long reason as an antecedent
 abbrev pub with_reason_used : (r : Reason) (l : ℕ) → AnalysisState → AnalysisState
 with_reason_used r l w = record (unflagged l w) { used = w.used ++ l ∷ []; antecedents = w.antecedents ++ long_of r }
 
--- adds a literal to the core, which no longer has to be resolved
+-- the state after a literal, which is no longer pending, was added to the core
 abbrev pub with_core_literal : ℕ → AnalysisState → AnalysisState
 with_core_literal l w = record (unflagged l w) { core = w.core ++ l ∷ [] }
 
@@ -68,10 +70,11 @@ with_core_literal l w = record (unflagged l w) { core = w.core ++ l ∷ [] }
 abbrev pub begun_analysis : Conflict → AnalysisState → AnalysisState
 begun_analysis e w = record w { clause = []; used = []; seen = []; antecedents = long_falsified e; core = []; pending = 0 }
 
--- the state when the analysis of a failed assumption begins, which is the first literal of the core
+-- the state when the analysis of a failed assumption begins; the assumption is the first literal of the core, and
+-- flags are unchanged
 abbrev pub begun_core : ℕ → AnalysisState → AnalysisState
 begun_core l w = record w { clause = []; used = []; seen = []; antecedents = []; core = l ∷ []; pending = 0 }
 
--- adds a literal at the front of the clause
+-- the state after a literal was added to the clause and swapped with its first literal
 abbrev pub with_first : ℕ → AnalysisState → AnalysisState
 with_first r w = record w { clause = swap (w.clause ++ r ∷ []) 0 (length w.clause) }

@@ -15,28 +15,30 @@ use Rattle.sat_solver.specs.analyze_conflict.Marks.{causes_at, IsReasoned, depth
 use Rattle.sat_parts.specs.declared.prop.graph.Conflict.{Conflict}
 use Rattle.sat_parts.specs.prop.Causes.{falsified}
 
--- the clause that implies a true literal
+-- the clause that is the reason of a true literal: the literal, and then the false literals of its reason
 abbrev pub clause_of : List ℕ → PropagationState → ℕ → List ℕ
 clause_of words s l = l ∷ causes_at words s l
 
--- the list has exactly the true literals of level 0
+-- `AreLevelZeroLits s units` holds if `units` has exactly the true literals of level 0
 pub record AreLevelZeroLits (s : PropagationState) (units : List ℕ) : Type 0 where
   pub all : (l : ℕ) → IsTrueLit s.values l → level s l ≡ 0 → is_among units l ≡ true
   pub only : (l : ℕ) → is_among units l ≡ true → IsTrueLit s.values l × (level s l ≡ 0)
 
--- how a false literal is explained: it is of level 0, in the learned clause, or the negation of a used literal
+-- `HasKnownCause s learned used r` holds if the literal `r` is explained: it is of level 0, in the learned clause, or
+-- the negation of a used literal
 pub data HasKnownCause (s : PropagationState) (learned used : List ℕ) (r : ℕ) : Type 0 where
   grounded_unit : level s r ≡ 0 → HasKnownCause s learned used r
   grounded_clause : Contains learned r → HasKnownCause s learned used r
   grounded_reason : Contains used (negated r) → HasKnownCause s learned used r
 
--- all these literals are explained this way
+-- `HaveKnownCauses s learned used rs` holds if each of the literals `rs` is of level 0, in the learned clause, or the
+-- negation of a used literal
 abbrev pub HaveKnownCauses : PropagationState → (learned used rs : List ℕ) → Type 0
 HaveKnownCauses s learned used rs = (k : ℕ) → k < length rs → HasKnownCause s learned used (get_or rs k 0)
 
--- A derivation in any order. Every used literal has a clause as its reason. The other literals of these reasons, and
--- the literals of the falsified clause, are explained. No used literal occurs twice, or is the negation of a learned
--- one.
+-- `IsUnorderedDerivation words s conflict learned used` holds if the used literals derive the learned clause, in any
+-- order: every used literal has a clause as its reason, the other literals of these reasons and those of the conflict
+-- clause are explained as by `HasKnownCause`, and no used literal occurs twice or is the negation of a learned one
 pub record IsUnorderedDerivation (words : List ℕ) (s : PropagationState) (conflict learned used : List ℕ) : Type 0 where
   pub reasons : (l : ℕ) → Contains used l → IsReasoned s 0 l
   pub causes : (l : ℕ) → Contains used l → HaveKnownCauses s learned used (causes_at words s l)
@@ -44,23 +46,25 @@ pub record IsUnorderedDerivation (words : List ℕ) (s : PropagationState) (conf
   pub apart : (l : ℕ) → Contains used l → Contains learned (negated l) → ⊥
   pub distinct : AreDistinct used
 
--- the clause learned from a conflict has such a derivation, by its used literals
+-- `HasUnorderedDerivation words s e w` holds if the clause learned from the conflict `e` has a derivation by its used
+-- literals, in any order
 abbrev pub HasUnorderedDerivation : (words : List ℕ) (s : PropagationState) (e : Conflict) (w : AnalysisState) → Type 0
 HasUnorderedDerivation words s e w = IsUnorderedDerivation words s (falsified words e) w.clause w.used
 
--- such a derivation, with the used literals in trail order
+-- `IsDerivation words s conflict learned used` holds if the used literals derive the learned clause and are in trail
+-- order
 pub record IsDerivation (words : List ℕ) (s : PropagationState) (conflict learned used : List ℕ) : Type 0 where
   pub grounds : IsUnorderedDerivation words s conflict learned used
   pub rising : (j k : ℕ) → j < k → k < length used → depth s (get_or used j 0) < depth s (get_or used k 0)
 
--- the checker accepts the derivation: under the negated clause and the units, the used clauses are unit in turn, and
--- the conflict clause is falsified
+-- `IsAcceptable words s conflict learned used` holds if the checker accepts the derivation: under the negated learned
+-- clause and the units, the reasons of the used literals are unit in turn, and the conflict clause is falsified
 abbrev pub IsAcceptable : (words : List ℕ) (s : PropagationState) (conflict learned used : List ℕ) → Type 0
 IsAcceptable words s conflict learned used =
     (units : List ℕ) → AreLevelZeroLits s units → UnitInTurn (map negated learned ++ units) (map (clause_of words s) used ++ conflict ∷ [])
 
--- The shape of a learned clause: its first literal is of the current level, the others are of lower levels above 0.
--- All literals are false, and none occurs twice.
+-- `IsAsserting s learned` holds if the first literal of the learned clause is of the current level, and the others
+-- are of lower levels above 0; all are false, and none occurs twice
 pub record IsAsserting (s : PropagationState) (learned : List ℕ) : Type 0 where
   pub some : 0 < length learned
   pub fails : (k : ℕ) → k < length learned → IsFalseLit s.values (get_or learned k 0)
@@ -68,16 +72,17 @@ pub record IsAsserting (s : PropagationState) (learned : List ℕ) : Type 0 wher
   pub lower : (k : ℕ) → 0 < k → k < length learned → (0 < level s (get_or learned k 0)) × (level s (get_or learned k 0) < current_level s)
   pub distinct : AreDistinct learned
 
--- only variables of the clause are flagged
+-- `OnlyFlags flags ls` holds if only variables of the literals `ls` are flagged
 abbrev pub OnlyFlags : List Bool → List ℕ → Type 0
 OnlyFlags flags ls = (v : ℕ) → get_or flags v false ≡ true → HasVariable ls v
 
--- only variables of the clause or of used literals are flagged
+-- `FlagsAmong w` holds if only variables of the clause or of used literals are flagged
 abbrev pub FlagsAmong : AnalysisState → Type 0
 FlagsAmong w = (v : ℕ) → get_or w.flags v false ≡ true → HasVariable w.clause v ⊎ HasVariable w.used v
 
--- The result of resolution: an asserting clause and its derivation. The used literals are of the current level, the
--- last on the trail first. Only variables of the clause are flagged, and all of them except possibly the first.
+-- `ResolutionResult words s conflict w` holds if resolution has ended: the clause is asserting and has a derivation.
+-- The used literals are of the current level, the last on the trail first. Only variables of the clause are flagged,
+-- and all of them except possibly the first.
 pub record ResolutionResult (words : List ℕ) (s : PropagationState) (conflict : List ℕ) (w : AnalysisState) : Type 0 where
   pub size : length w.flags ≡ length s.values
   pub asserting : IsAsserting s w.clause
@@ -87,12 +92,13 @@ pub record ResolutionResult (words : List ℕ) (s : PropagationState) (conflict 
   pub only : OnlyFlags w.flags w.clause
   pub flagged : (k : ℕ) → 0 < k → k < length w.clause → get_or w.flags (variable (get_or w.clause k 0)) false ≡ true
 
--- resolution of a conflict has reached the first unique implication point
+-- `IsUipClause words s e w` holds if resolution of the conflict `e` has ended at the first unique implication point
 abbrev pub IsUipClause : (words : List ℕ) (s : PropagationState) (e : Conflict) (w : AnalysisState) → Type 0
 IsUipClause words s e w = ResolutionResult words s (falsified words e) w
 
--- The clause was reordered: its first literal stays, and its second has the highest level among the others. `level`
--- is that level, or 0 if the clause has no second literal.
+-- `PutsSecond nodes clause clause' level` holds if `clause'` is a reordering of `clause` with the same first literal,
+-- and its second has the highest level among the others. `level` is that level, or 0 if the clause has no second
+-- literal.
 pub record PutsSecond (nodes : List ImplNode) (clause clause' : List ℕ) (level : ℕ) : Type 0 where
   pub lits : IsReordering clause clause'
   pub first : get_or clause' 0 0 ≡ get_or clause 0 0
@@ -100,8 +106,9 @@ pub record PutsSecond (nodes : List ImplNode) (clause clause' : List ℕ) (level
   pub second : 2 ≤ length clause → level ≡ (node_of nodes (variable (get_or clause' 1 0))).level
   pub highest : (k : ℕ) → 0 < k → k < length clause → (node_of nodes (variable (get_or clause' k 0))).level ≤ level
 
--- The result of analysis: a clause that asserts its first literal once the levels above `back` are undone, and used literals. The reasons
--- of these, in trail order, and then the falsified clause lead the checker to a conflict. Every used literal has a clause as its reason.
+-- `AnalysisResult words s conflict w back` holds if the clause is asserting, and asserts its first literal once the
+-- levels above `back` are undone. The reasons of the used literals, in trail order, and then the conflict clause lead
+-- the checker to a conflict. No flag is set.
 pub record AnalysisResult (words : List ℕ) (s : PropagationState) (conflict : List ℕ) (w : AnalysisState) (back : ℕ) : Type 0 where
   pub asserting : IsAsserting s w.clause
   pub reasons : (k : ℕ) → k < length w.used → IsReasoned s 0 (get_or w.used k 0)
@@ -113,6 +120,7 @@ pub record AnalysisResult (words : List ℕ) (s : PropagationState) (conflict : 
   pub below : back < current_level s
   pub clear : AreClear w.flags
 
--- the result of the analysis of a conflict
+-- `AnalysisResultOf words s e w back` holds if `w` is the result of the analysis of the conflict `e`, which
+-- backtracks to the level `back`
 abbrev pub AnalysisResultOf : (words : List ℕ) (s : PropagationState) (e : Conflict) (w : AnalysisState) (back : ℕ) → Type 0
 AnalysisResultOf words s e w back = AnalysisResult words s (falsified words e) w back

@@ -21,9 +21,9 @@ use Rattle.sat_parts.specs.prop.Propagation.{PropagationInvariant}
 abbrev pub causes_at : List ℕ → PropagationState → ℕ → List ℕ
 causes_at words s l = causes words (node s l).reason
 
--- What analysis requires: values, nodes and trail agree, a level is open, and every level begins with a decision.
--- Above level 0, the other literals of a reason were false before the literal that it implies, and a long reason is
--- a stored clause.
+-- `CanAnalyze words s` holds if a conflict can be analyzed: values, nodes and trail agree, a level is open, and every
+-- level begins with a decision. Above level 0, the other literals of a reason were false before the literal that it
+-- implies, and a long reason is a stored clause.
 pub record CanAnalyze (words : List ℕ) (s : PropagationState) : Type 0 where
   pub agrees : StateIsConsistent s
   pub levelled : IsLevelled s
@@ -32,43 +32,48 @@ pub record CanAnalyze (words : List ℕ) (s : PropagationState) : Type 0 where
       IsFalseBefore s p (get_or (causes_at words s (lit_at s p)) k 0)
   pub valid : (p o : ℕ) → get_or s.trail.starts 0 0 ≤ p → p < length s.trail.lits → (node s (lit_at s p)).reason ≡ Long o → IsClause words o × (0 < length (lits_at words o))
 
--- what holds after propagation has found a conflict: its invariant, for literals below the current level
+-- `PropagationInvariantBelow words refs w implied s` is the invariant after propagation has found a conflict: that of
+-- propagation, for literals below the current level
 abbrev pub PropagationInvariantBelow : (words refs : List ℕ) (w : Watching) (implied : List (List ℕ)) (s : PropagationState) → Type 0
 PropagationInvariantBelow words refs w implied s = PropagationInvariant words refs w implied s (current_level s)
 
--- the reasons of the literals above level 0 are unit in turn
+-- `AreInTurnAbove words refs implied s` holds if the reasons of the literals above level 0 are unit in turn
 abbrev pub AreInTurnAbove : (words refs : List ℕ) (implied : List (List ℕ)) (s : PropagationState) → Type 0
 AreInTurnAbove words refs implied s = AreUnitInTurn words (live_refs words refs) implied s (get_or s.trail.starts 0 0)
 
--- whether a true literal is flagged and of level `top` or above, and so must be resolved
+-- `is_open_flagged s top flags l` is true if the true literal `l` is flagged and of level `top` or above, and so must
+-- be resolved
 abbrev pub is_open_flagged : PropagationState → ℕ → List Bool → ℕ → Bool
 is_open_flagged s top flags l = get_or flags (variable l) false && not (nat_lt (level s l) top)
 
--- the number of such literals before a position of the trail
+-- `open_below s top flags i` is the number of literals before position `i` of the trail that are flagged and of level
+-- `top` or above
 abbrev pub open_below : PropagationState → ℕ → List Bool → ℕ → ℕ
 open_below s top flags zero = 0
 open_below s top flags (suc i) = (if is_open_flagged s top flags (lit_at s i) then 1 else 0) + open_below s top flags i
 
--- the clause has a literal of this variable
+-- `HasVariable clause v` holds if the clause has a literal of the variable `v`
 abbrev pub HasVariable : List ℕ → ℕ → Type 0
 HasVariable clause v = (k : ℕ) × ((k < length clause) × (variable (get_or clause k 0) ≡ v))
 
--- a literal of this variable is before this position of the trail, at level `top` or above
+-- `IsOpenAt s top at v` holds if a literal of the variable `v` is before position `at` of the trail and of level
+-- `top` or above
 pub record IsOpenAt (s : PropagationState) (top at v : ℕ) : Type 0 where
   pub place : ℕ
   pub before : place < at
   pub there : variable (lit_at s place) ≡ v
   pub high : top ≤ level s (lit_at s place)
 
--- a false, flagged literal of a level between 0 and `top`
+-- `IsLower s top flags r` holds if the literal `r` is false, flagged, and of a level between 0 and `top`
 pub record IsLower (s : PropagationState) (top : ℕ) (flags : List Bool) (r : ℕ) : Type 0 where
   pub fails : IsFalseLit s.values r
   pub above : 0 < level s r
   pub below : level s r < top
   pub flagged : get_or flags (variable r) false ≡ true
 
--- Every flagged variable is in the clause, or has a literal of level `top` or above before this position; `pending`
--- counts the latter. The literals of the clause are different, false, flagged, and of levels between 0 and `top`.
+-- `AreFlagsAt s top clause flags pending at` holds if every flagged variable is in the clause, or has a literal of
+-- level `top` or above before position `at`; `pending` counts the latter. The literals of the clause are different,
+-- false, flagged, and of levels between 0 and `top`.
 pub record AreFlagsAt (s : PropagationState) (top : ℕ) (clause : List ℕ) (flags : List Bool) (pending at : ℕ) : Type 0 where
   pub size : length flags ≡ length s.values
   pub within : at ≤ length s.trail.lits
@@ -77,18 +82,20 @@ pub record AreFlagsAt (s : PropagationState) (top : ℕ) (clause : List ℕ) (fl
   pub distinct : AreDistinct clause
   pub counted : pending ≡ open_below s top flags at
 
--- the same for the work of an analysis
+-- `MarksWork s top w at` holds if the clause, the flags and the pending count of the analysis `w` are as by
+-- `AreFlagsAt`
 abbrev pub MarksWork : PropagationState → ℕ → AnalysisState → ℕ → Type 0
 MarksWork s top w at = AreFlagsAt s top w.clause w.flags w.pending at
 
--- a flagged false literal of level `top` or above, whose negation is before this position
+-- `IsWaiting s top flags at r` holds if the literal `r` is flagged and of level `top` or above, and its negation is
+-- before position `at` of the trail
 pub record IsWaiting (s : PropagationState) (top : ℕ) (flags : List Bool) (at r : ℕ) : Type 0 where
   pub flagged : get_or flags (variable r) false ≡ true
   pub high : top ≤ level s r
   pub before : IsBefore s at (negated r)
 
--- How a false literal is explained: it is of level 0, in the learned clause, or still to be resolved. Or its
--- negation is a used literal or a core literal.
+-- `IsCovered s top w at r` holds if the literal `r` is explained: it is of level 0, in the learned clause, or still
+-- to be resolved, or its negation is a used literal or a core literal
 pub data IsCovered (s : PropagationState) (top : ℕ) (w : AnalysisState) (at r : ℕ) : Type 0 where
   covered_unit : level s r ≡ 0 → IsCovered s top w at r
   covered_clause : Contains w.clause r → IsCovered s top w at r
@@ -96,11 +103,12 @@ pub data IsCovered (s : PropagationState) (top : ℕ) (w : AnalysisState) (at r 
   covered_core : Contains w.core (negated r) → IsCovered s top w at r
   covered_open : IsWaiting s top w.flags at r → IsCovered s top w at r
 
--- all these literals are explained this way
+-- `AreCovered s top w at rs` holds if each of the literals `rs` is explained as by `IsCovered`
 abbrev pub AreCovered : PropagationState → ℕ → AnalysisState → ℕ → List ℕ → Type 0
 AreCovered s top w at rs = (k : ℕ) → k < length rs → IsCovered s top w at (get_or rs k 0)
 
--- a true literal of the trail, above level 0, at this position or later, that has a clause as its reason
+-- `IsReasoned s at l` holds if the true literal `l` is on the trail at position `at` or later, above level 0, and has
+-- a clause as its reason
 pub record IsReasoned (s : PropagationState) (at l : ℕ) : Type 0 where
   pub place : ℕ
   pub from : at ≤ place
@@ -113,14 +121,15 @@ pub record IsReasoned (s : PropagationState) (at l : ℕ) : Type 0 where
 abbrev pub depth : PropagationState → ℕ → ℕ
 depth s l = (node s l).depth
 
--- The used literals are at this position or later, of level `top` or above, and the last on the trail comes first.
--- The other literals of their reasons are explained.
+-- `AreUsed words s top w at` holds if the used literals are at position `at` of the trail or later, of level `top` or
+-- above, and the last on the trail comes first. The other literals of their reasons are explained as by `IsCovered`.
 pub record AreUsed (words : List ℕ) (s : PropagationState) (top : ℕ) (w : AnalysisState) (at : ℕ) : Type 0 where
   pub reasons : (k : ℕ) → k < length w.used → IsReasoned s at (get_or w.used k 0) × (top ≤ level s (get_or w.used k 0))
   pub falling : (j k : ℕ) → j < k → k < length w.used → depth s (get_or w.used k 0) < depth s (get_or w.used j 0)
   pub causes : (k : ℕ) → k < length w.used → AreCovered s top w at (causes_at words s (get_or w.used k 0))
 
--- the invariant while a clause is resolved with the reasons of used literals
+-- `ResolutionInvariant words s ls w at` is the invariant while the clause `ls` is resolved with the reasons of used
+-- literals, down to position `at` of the trail
 pub record ResolutionInvariant (words : List ℕ) (s : PropagationState) (ls : List ℕ) (w : AnalysisState) (at : ℕ) : Type 0 where
   pub marks : MarksWork s (current_level s) w at
   pub some : 0 < w.pending
@@ -128,14 +137,16 @@ pub record ResolutionInvariant (words : List ℕ) (s : PropagationState) (ls : L
   pub uses : AreUsed words s (current_level s) w at
   pub start : AreCovered s (current_level s) w at ls
 
--- the resolvent of the falsified clause with the reasons starting at this position of the trail
+-- `IsResolvent words s e w at` holds if the state is that of the resolvent of the falsified clause with the reasons
+-- of used literals at position `at` of the trail or later
 abbrev pub IsResolvent : (words : List ℕ) (s : PropagationState) (e : Conflict) (w : AnalysisState) (at : ℕ) → Type 0
 IsResolvent words s e w at = ResolutionInvariant words s (falsified words e) w at
 
--- the falsified clause itself, before the first resolution
+-- `IsFirstResolvent words s e w` holds if the state is that of the falsified clause itself, before the first
+-- resolution
 abbrev pub IsFirstResolvent : (words : List ℕ) (s : PropagationState) (e : Conflict) (w : AnalysisState) → Type 0
 IsFirstResolvent words s e w = IsResolvent words s e w (length s.trail.lits)
 
--- some literal is of the current level
+-- `HasCurrentLevelLit s ls` holds if one of the literals `ls` is of the current level
 abbrev pub HasCurrentLevelLit : PropagationState → List ℕ → Type 0
 HasCurrentLevelLit s ls = (k : ℕ) × ((k < length ls) × (level s (get_or ls k 0) ≡ current_level s))

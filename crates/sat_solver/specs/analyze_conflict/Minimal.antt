@@ -12,25 +12,27 @@ use Rattle.sat_solver.specs.analyze_conflict.Marks.{causes_at, IsReasoned, IsLow
 use Rattle.sat_parts.specs.declared.prop.graph.Conflict.{Conflict}
 use Rattle.sat_parts.specs.prop.Causes.{falsified}
 
--- how a false literal is explained: it is of level 0, the first of the clause, or flagged, or its negation is a used
--- literal
+-- `IsMarked s first w r` holds if the literal `r` is explained: it is of level 0, the literal `first`, or flagged, or
+-- its negation is a used literal
 pub data IsMarked (s : PropagationState) (first : ℕ) (w : AnalysisState) (r : ℕ) : Type 0 where
   marked_unit : level s r ≡ 0 → IsMarked s first w r
   marked_first : first ≡ r → IsMarked s first w r
   marked_flag : get_or w.flags (variable r) false ≡ true → IsMarked s first w r
   marked_reason : Contains w.used (negated r) → IsMarked s first w r
 
--- all these literals are explained this way
+-- `AreMarked s first w rs` holds if each of the literals `rs` is explained as by `IsMarked`
 abbrev pub AreMarked : PropagationState → ℕ → AnalysisState → List ℕ → Type 0
 AreMarked s first w rs = (k : ℕ) → k < length rs → IsMarked s first w (get_or rs k 0)
 
--- the used literal at position k: of the current level if k is below `low`, otherwise flagged and of a lower level
+-- `IsUse s low flags k l` holds if the used literal `l` at position `k` is of the current level and `k` is below
+-- `low`, or it is flagged and of a lower level and `k` is `low` or above
 pub data IsUse (s : PropagationState) (low : ℕ) (flags : List Bool) (k l : ℕ) : Type 0 where
   use_top : k < low → level s l ≡ current_level s → IsUse s low flags k l
   use_low : low ≤ k → level s l < current_level s → get_or flags (variable l) false ≡ true → IsUse s low flags k l
 
--- Every used literal has a clause as its reason. The reasons of those before position `at`, and the falsified
--- clause, are explained.
+-- `MinimizationInvariant words s conflict first low w at` holds if every used literal has a clause as its reason and
+-- is as by `IsUse`, and none occurs twice. The reasons of those before position `at`, and the conflict clause, are
+-- explained as by `IsMarked`.
 pub record MinimizationInvariant (words : List ℕ) (s : PropagationState) (conflict : List ℕ) (first low : ℕ) (w : AnalysisState) (at : ℕ) : Type 0 where
   pub size : length w.flags ≡ length s.values
   pub within : at ≤ length w.used
@@ -41,14 +43,15 @@ pub record MinimizationInvariant (words : List ℕ) (s : PropagationState) (conf
   pub causes : (k : ℕ) → k < at → AreMarked s first w (causes_at words s (get_or w.used k 0))
   pub start : AreMarked s first w conflict
 
--- a used literal at this position or later has this variable
+-- `IsNewUse used from v` holds if a used literal at position `from` or later has the variable `v`
 pub record IsNewUse (used : List ℕ) (from v : ℕ) : Type 0 where
   pub place : ℕ
   pub following : from ≤ place
   pub within : place < length used
   pub there : variable (get_or used place 0) ≡ v
 
--- more literals were marked: they are used and were not flagged before
+-- `MarksMore w w'` holds if literals that were not flagged before were appended to the used ones, and every new flag
+-- is that of one of them; no flag was removed
 pub record MarksMore (w w' : AnalysisState) : Type 0 where
   pub clause : w'.clause ≡ w.clause
   pub seen : w'.seen ≡ w.seen
@@ -62,11 +65,11 @@ pub record MarksMore (w w' : AnalysisState) : Type 0 where
   pub fresh : (k : ℕ) → length w.used ≤ k → k < length w'.used → get_or w.flags (variable (get_or w'.used k 0)) false ≡ false
   pub raised : (v : ℕ) → get_or w'.flags v false ≡ true → (get_or w.flags v false ≡ true) ⊎ IsNewUse w'.used (length w.used) v
 
--- marks a false literal: its negation is used
+-- the state after a false literal is marked: its variable is flagged, and its negation is used
 abbrev pub marked : ℕ → AnalysisState → AnalysisState
 marked r w = record w { flags = set w.flags (variable r) true; used = w.used ++ negated r ∷ [] }
 
--- appends a true literal to the used ones; sets no flag
+-- the state with a true literal appended to the used ones; no flag is set
 abbrev pub used_up : ℕ → AnalysisState → AnalysisState
 used_up l w = record w { used = w.used ++ l ∷ [] }
 
@@ -75,25 +78,26 @@ pub record Followed : Type 0 where
   pub work : AnalysisState
   pub whole : Bool
 
--- whether a false literal may follow: its reason is a clause and the filter admits its level
+-- `can_follow nodes filter r` is true if the reason of the false literal `r` is a clause and the filter admits its
+-- level, so that it may follow from others
 abbrev pub can_follow : (nodes : List ImplNode) (filter r : ℕ) → Bool
 can_follow nodes filter r = not (has_no_clause (node_of nodes (variable r)).reason) && level_passes filter (node_of nodes (variable r)).level
 
--- whether a false literal needs no explanation: it is of level 0 or flagged
+-- `is_settled nodes r w` is true if the false literal `r` is of level 0 or flagged, and so needs no explanation
 abbrev pub is_settled : (nodes : List ImplNode) (r : ℕ) → AnalysisState → Bool
 is_settled nodes r w = (node_of nodes (variable r)).level == 0 || get_or w.flags (variable r) false
 
--- Marks these literals one after another, and stops at the first that is neither settled nor able to follow. `whole`
--- says whether there was none.
+-- `followed nodes filter rs w` is the result of marking the literals `rs` one after another until the first that is
+-- neither settled nor able to follow. `whole` says whether there was none.
 abbrev pub followed : (nodes : List ImplNode) (filter : ℕ) → List ℕ → AnalysisState → Followed
 followed nodes filter [] w = record { work = w; whole = true }
 followed nodes filter (r ∷ rs) w =
     if is_settled nodes r w then followed nodes filter rs w
     else (if can_follow nodes filter r then followed nodes filter rs (marked r w) else record { work = w; whole = false })
 
--- The invariant while the clause is minimized: its first literal is of the current level. Every other literal is
--- false, flagged, and of a level between 0 and that one. Flagged variables are in the clause or used, and no used
--- literal is the negation of a literal of the clause.
+-- `Minimal words s conflict first low rest w` is the invariant while the clause is minimized: the literal `first` is
+-- of the current level. Every other literal of `rest` is false, flagged, and of a level between 0 and that one.
+-- Flagged variables are in the clause or used, and no used literal is the negation of a literal of the clause.
 pub record Minimal (words : List ℕ) (s : PropagationState) (conflict : List ℕ) (first low : ℕ) (rest : List ℕ) (w : AnalysisState) : Type 0 where
   pub searching : MinimizationInvariant words s conflict first low w (length w.used)
   pub distinct : AreDistinct rest
@@ -103,7 +107,8 @@ pub record Minimal (words : List ℕ) (s : PropagationState) (conflict : List �
   pub only : (v : ℕ) → get_or w.flags v false ≡ true → HasVariable rest v ⊎ IsNewUse w.used low v
   pub apart : (l : ℕ) → Contains w.used l → Contains rest (negated l) → ⊥
 
--- undoes the marks of a search: the used literals starting at position `top` are removed, and all but the first of them are unflagged
+-- `Undoes top w w'` holds if the marks of a search were undone: the used literals starting at position `top` are
+-- removed, and all but the first of them are unflagged
 pub record Undoes (top : ℕ) (w w' : AnalysisState) : Type 0 where
   pub clause : w'.clause ≡ w.clause
   pub seen : w'.seen ≡ w.seen
@@ -115,7 +120,7 @@ pub record Undoes (top : ℕ) (w w' : AnalysisState) : Type 0 where
   pub cleared : (k : ℕ) → top < k → k < length w.used → get_or w'.flags (variable (get_or w.used k 0)) false ≡ false
   pub others : (v : ℕ) → (IsNewUse w.used (top + 1) v → ⊥) → get_or w'.flags v false ≡ get_or w.flags v false
 
--- the same work, but possibly with flags in another representation
+-- `SameWork w w'` holds if `w` and `w'` have equal fields
 pub record SameWork (w w' : AnalysisState) : Type 0 where
   pub clause : w'.clause ≡ w.clause
   pub seen : w'.seen ≡ w.seen
@@ -125,7 +130,8 @@ pub record SameWork (w w' : AnalysisState) : Type 0 where
   pub used : w'.used ≡ w.used
   pub flags : w'.flags ≡ w.flags
 
--- a search may begin at the negation of a flagged literal
+-- `MayStart s w c` holds if a search may begin at the negation of the flagged literal `c`: it has a clause as its
+-- reason, is of a level below the current one, and is not used yet
 pub record MayStart (s : PropagationState) (w : AnalysisState) (c : ℕ) : Type 0 where
   pub flagged : get_or w.flags (variable c) false ≡ true
   pub reasoned : IsReasoned s 0 (negated c)
@@ -141,7 +147,7 @@ unset (b ∷ bs) = (if b then 0 else 1) + unset bs
 abbrev pub depth_in : List ImplNode → ℕ → ℕ
 depth_in nodes l = (node_of nodes (variable l)).depth
 
--- the sort key of a literal: first its depth, then its code, which is below 2^29
+-- the sort key of a literal: its depth times 2^29, plus its code
 abbrev pub depth_key : List ImplNode → ℕ → ℕ
 depth_key nodes l = depth_in nodes l * 2 ^ 29 + l
 
@@ -149,19 +155,21 @@ depth_key nodes l = depth_in nodes l * 2 ^ 29 + l
 abbrev pub keyed_lit : ℕ → ℕ
 keyed_lit key = key % 2 ^ 29
 
--- the first literals of the list are sorted by descending depth, and no later one is deeper than any of these
+-- `FallsBefore nodes ls resolved` holds if the first `resolved` literals of the list are sorted by descending depth,
+-- and no later one is deeper than any of these
 pub record FallsBefore (nodes : List ImplNode) (ls : List ℕ) (resolved : ℕ) : Type 0 where
   pub within : resolved ≤ length ls
   pub falling : (j k : ℕ) → j ≤ k → k < resolved → depth_in nodes (get_or ls k 0) ≤ depth_in nodes (get_or ls j 0)
   pub lower : (j k : ℕ) → j < resolved → resolved ≤ k → k < length ls → depth_in nodes (get_or ls k 0) ≤ depth_in nodes (get_or ls j 0)
 
--- the reasons of all used literals are explained after a search for literals that follow from the others of the
--- clause
+-- `MinimizationIsDone words s e low w` holds if the invariant of minimization holds with the reasons of all used
+-- literals explained
 abbrev pub MinimizationIsDone : (words : List ℕ) (s : PropagationState) (e : Conflict) (low : ℕ) (w : AnalysisState) → Type 0
 MinimizationIsDone words s e low w = MinimizationInvariant words s (falsified words e) (get_or w.clause 0 0) low w (length w.used)
 
--- Whether a literal follows from the others. If so, its negation is used, and so are the literals that it follows
--- from; otherwise nothing has changed.
+-- `MinimizationResult words s e low r w w' b` is the result of a search for literals from which `r` follows. If `b`
+-- is true, its negation is used, and so are those literals, and all their reasons are explained. Otherwise nothing
+-- has changed.
 abbrev pub MinimizationResult : (words : List ℕ) (s : PropagationState) (e : Conflict) (low r : ℕ) (w w' : AnalysisState) → Bool → Type 0
 MinimizationResult words s e low r w w' b = MatchBool b
     (MarksMore (used_up (negated r) w) w' × MinimizationInvariant words s (falsified words e) (get_or w.clause 0 0) low w' (length w'.used))

@@ -20,7 +20,8 @@ use Rattle.sat_solver.specs.cdcl.Joint.{global_in, SearchInvariant, SameVarsAndA
 use Rattle.sat_solver.specs.analyze_conflict.AnalysisState.{AnalysisState}
 use Rattle.sat_solver.specs.assumptions.Failing.{IsFailedAssumption}
 
--- why the assumption fails, by the clauses of the search
+-- `FailsBy p failed w` holds if the assumption `failed` fails by the clauses of the search `p`, with the core and the
+-- used literals of `w`
 abbrev pub FailsBy : SearchState → (failed : ℕ) → AnalysisState → Type 0
 FailsBy p failed w = IsFailedAssumption p.clauses (state p) failed w.core w.used
 
@@ -28,18 +29,19 @@ FailsBy p failed w = IsFailedAssumption p.clauses (state p) failed w.core w.used
 abbrev pub causes_hashes : SearchState → List ℕ → List ℕ
 causes_hashes p used = map (λ l. hash_of (clause_of p.clauses (state p) l)) used
 
--- whether the step is a failed core
+-- `is_core step` is true if the step is a failed core
 abbrev pub is_core : Step → Bool
 is_core (FailedAssumptions core hashes) = true
 is_core step = false
 
--- the core begins with the assumption that failed, and has only assumptions
+-- `AreFailed assumed failed core` holds if the core begins with the assumption that failed, and has only assumptions
 pub record AreFailed (assumed : List ℕ) (failed : ℕ) (core : List ℕ) : Type 0 where
   pub some : 0 < length core
   pub first : get_or core 0 0 ≡ failed
   pub among : (k : ℕ) → k < length core → Contains assumed (get_or core k 0)
 
--- exactly one step was made, which wrote the core; the parts are unchanged
+-- `CoreWasWritten steps s c c'` holds if exactly one step was made, which wrote the core; the core begins with the
+-- failed assumption and has only assumptions. The parts are unchanged, and the invariant of the search holds.
 pub record CoreWasWritten (steps : List Step) (s : Session) (c c' : Search) : Type 0 where
   pub is : steps ≡ FailedAssumptions (map (with_var (global_in c)) c'.analysis.core) (causes_hashes c.parts c'.analysis.used) ∷ []
   pub failed : AreFailed c.assumptions.lits.items c.failed c'.analysis.core
@@ -47,7 +49,7 @@ pub record CoreWasWritten (steps : List Step) (s : Session) (c c' : Search) : Ty
   pub moved : SameVarsAndAssumptions c c'
   pub same : c'.parts ≡ c.parts
 
--- the step of a core was written, or the call failed
+-- `WritesCoreStep seen result old new c c'` holds if the step of a core was written, or the call failed
 pub record WritesCoreStep {W L : Type 0} {G : Ghosts L} (seen : W → Writer) (result : Result (Unit {0}) SolverError) (old new : Proof W L G) (c c' : Search) : Type 0 where
   pub steps : List Step
   pub went : EmitsUpToFault seen result steps old new

@@ -10,8 +10,8 @@ use Rattle.sat_solver.specs.analyze_conflict.AnalysisState.{AnalysisState}
 use Rattle.sat_solver.specs.analyze_conflict.Marks.{depth, MarksWork, AreUsed}
 use Rattle.sat_solver.specs.analyze_conflict.Derivation.{clause_of, AreLevelZeroLits, IsUnorderedDerivation, IsDerivation}
 
--- A true literal of the trail, above level 0, at this position or later, whose reason is not a clause. It is a
--- decision or an assumption.
+-- `IsChosen s at l` holds if the true literal `l` is on the trail at position `at` or later, above level 0, and its
+-- reason is not a clause: it is a decision or an assumption
 pub record IsChosen (s : PropagationState) (at l : ℕ) : Type 0 where
   pub place : ℕ
   pub from : at ≤ place
@@ -20,22 +20,23 @@ pub record IsChosen (s : PropagationState) (at l : ℕ) : Type 0 where
   pub above : 0 < level s l
   pub free : has_no_clause (node s l).reason ≡ true
 
--- the assumption that failed, and then chosen literals at this position of the trail or later, the last on the trail
--- first
+-- `IsCoreFrom s failed core at` holds if the core is the assumption that failed, and then chosen literals at position
+-- `at` of the trail or later, the last on the trail first
 pub record IsCoreFrom (s : PropagationState) (failed : ℕ) (core : List ℕ) (at : ℕ) : Type 0 where
   pub some : 0 < length core
   pub first : get_or core 0 0 ≡ failed
   pub chosen : (k : ℕ) → 0 < k → k < length core → IsChosen s at (get_or core k 0)
   pub falling : (j k : ℕ) → 0 < j → j < k → k < length core → depth s (get_or core k 0) < depth s (get_or core j 0)
 
--- the same for the complete trail, and no literal occurs twice
+-- `IsDistinctCore s failed core` holds if the core is the assumption that failed, and then chosen literals, the last
+-- on the trail first, and no literal occurs twice
 pub record IsDistinctCore (s : PropagationState) (failed : ℕ) (core : List ℕ) : Type 0 where
   pub lits : IsCoreFrom s failed core 0
   pub distinct : AreDistinct core
 
--- The reasons of the used literals, in trail order, derive the negation of the core; the last of them falsifies the
--- assumption. The checker accepts this: under the core and the units, they are unit in turn, and the last one is
--- falsified.
+-- `IsRefutation words s failed core used` holds if the reasons of the used literals, in trail order, derive the
+-- negation of the core; the last of them falsifies the assumption. The checker accepts this: under the core and the
+-- units, they are unit in turn, and the last one is falsified.
 pub record IsRefutation (words : List ℕ) (s : PropagationState) (failed : ℕ) (core used : List ℕ) : Type 0 where
   pub lits : IsDistinctCore s failed core
   pub derivation : IsDerivation words s (clause_of words s (negated failed)) (map negated core) used
@@ -43,13 +44,15 @@ pub record IsRefutation (words : List ℕ) (s : PropagationState) (failed : ℕ)
   pub last : get_or used (length used - 1) 0 ≡ negated failed
   pub acceptable : (units : List ℕ) → AreLevelZeroLits s units → UnitInTurn (core ++ units) (map (clause_of words s) used)
 
--- how a false assumption fails: it is false at level 0, its negation was chosen before it, or clauses refute it
+-- `IsFailedAssumption words s failed core used` holds if the assumption fails: it is false at level 0, its negation
+-- was chosen before it, or clauses refute it
 pub data IsFailedAssumption (words : List ℕ) (s : PropagationState) (failed : ℕ) (core used : List ℕ) : Type 0 where
   fails_bottom : level s failed ≡ 0 → core ≡ failed ∷ [] → used ≡ [] → IsFailedAssumption words s failed core used
   fails_signs : IsChosen s 0 (negated failed) → core ≡ failed ∷ negated failed ∷ [] → used ≡ [] → IsFailedAssumption words s failed core used
   fails_clauses : IsRefutation words s failed core used → IsFailedAssumption words s failed core used
 
--- the invariant while reasons are traced back: flagged literals above level 0 that are before this position are still to be resolved
+-- `TraceInvariant words s failed w at` is the invariant while reasons are traced back: flagged literals above level 0
+-- that are before position `at` of the trail are still to be resolved
 pub record TraceInvariant (words : List ℕ) (s : PropagationState) (failed : ℕ) (w : AnalysisState) (at : ℕ) : Type 0 where
   pub marks : MarksWork s 1 w at
   pub uses : AreUsed words s 1 w at
@@ -57,7 +60,8 @@ pub record TraceInvariant (words : List ℕ) (s : PropagationState) (failed : �
   pub some : 0 < length w.used
   pub head : get_or w.used 0 0 ≡ negated failed
 
--- what holds when no literal is flagged any more
+-- `TraceResult words s failed w` holds if reasons were traced back until no literal is flagged: the used literals,
+-- the last on the trail first, derive the negation of the core from the reason for which the assumption is false
 pub record TraceResult (words : List ℕ) (s : PropagationState) (failed : ℕ) (w : AnalysisState) : Type 0 where
   pub size : length w.flags ≡ length s.values
   pub clear : AreClear w.flags

@@ -17,14 +17,16 @@ use Rattle.sat_solver.specs.unit_simplify.Freed.{KeepsAsked}
 use Rattle.sat_parts.specs.parts.Full.{IsFull}
 use Rattle.sat_solver.specs.unit_simplify.Passes.{PassFailsOr}
 
--- names and search share their indices, unless the outcome is that unsat was recorded
+-- `RoundShares outcome n c` holds if names and search share their indices, unless the outcome is that unsat was
+-- recorded
 abbrev pub RoundShares : RoundOutcome → Variables → Search → Type 0
 RoundShares outcomes.Learned n c = SharesIndices n c
 RoundShares outcomes.Model n c = SharesIndices n c
 RoundShares outcomes.Unsat n c = Unit {0}
 RoundShares outcomes.Failed n c = SharesIndices n c
 
--- The outcome of a round, and how the round changed names, proof and search. The judge's state is unchanged.
+-- `RoundEnds seen outcome n n' p p' c c'` holds if a round has this outcome, and what it changed of names, proof and
+-- search is as the outcome requires; the judge's state is unchanged
 pub record RoundEnds {W L : Type 0} {G : Ghosts L} (seen : W → Writer) (outcome : RoundOutcome) (n n' : Variables) (p p' : Proof W L G) (c c' : Search) : Type 0 where
   pub steps : List Step
   pub adds : EmitsChecked seen steps p p'
@@ -34,6 +36,7 @@ pub record RoundEnds {W L : Type 0} {G : Ghosts L} (seen : W → Writer) (outcom
   pub says : RoundResult outcome (steps_of p) steps (session_of p') c c'
   pub shares : RoundShares outcome n' c'
 
--- the result of a round: an outcome or an error; `StoreFull` only if the clause buffer is full
+-- `EndsRound seen r n n' p p' c c'` is the result of a round: an outcome or an error; `StoreFull` only if the clause
+-- buffer is full
 abbrev pub EndsRound : {W L : Type 0} {G : Ghosts L} → (W → Writer) → Result RoundOutcome SolverError → Variables → Variables → Proof W L G → Proof W L G → Search → Search → Type 0
 EndsRound seen r n n' p p' c c' = MatchResult r (λ o. RoundEnds seen o n n' p p' c c') (λ e. PassFailsOr (IsFull c'.parts) seen e p p')

@@ -18,14 +18,14 @@ reported_error kinds.StoreFull = errors.StoreFull
 reported_error kinds.VariableLimit = errors.VariableLimit
 reported_error kinds.CounterEnd = errors.CounterEnd
 
--- the proof stores the underlying error, if this error has one
+-- `IsKept e p` holds if the proof `p` stores the underlying error of `e`, if `e` has one
 abbrev pub IsKept : {W L : Type 0} {G : Ghosts L} → SolverError → Proof W L G → Type 0
 IsKept (errors.ProofIoError cause) p = p.cause ≡ Some cause
 IsKept (errors.ProofProcessorError cause) p = p.made.complaint ≡ Some cause
 IsKept e p = Unit {0}
 
--- The checker misses further steps only if this error reports a failed call of the target or of the checker. When
--- memory runs out, it misses none, unless the checker itself ran out of memory.
+-- `NamesLoss e old new` holds if the checker misses further steps only if the error `e` reports a failed call of the
+-- target or of the checker. When memory runs out, it misses none, unless the checker itself ran out of memory.
 abbrev pub NamesLoss : {W L : Type 0} {G : Ghosts L} → SolverError → Proof W L G → Proof W L G → Type 0
 NamesLoss (errors.ProofIoError cause) old new = Unit {0}
 NamesLoss (errors.ProofProcessorError cause) old new = Unit {0}

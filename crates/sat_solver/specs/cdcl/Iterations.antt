@@ -17,31 +17,34 @@ use Rattle.sat_solver.specs.declared.cdcl.find_conflict.FoundConflict.TheVariant
 use Rattle.sat_solver.specs.declared.context.Search.{Search}
 use Rattle.sat_solver.specs.cdcl.Joint.{global_in, assumed_indices, IsReadySearch, SearchInvariant, SameVarsAndAssumptions}
 
--- all assumptions are true
+-- `AllTrue ls p` holds if all literals `ls` are true
 abbrev pub AllTrue : List ℕ → SearchState → Type 0
 AllTrue ls p = (k : ℕ) → k < length ls → IsTrueLit p.assignment.current (get_or ls k 0)
 
--- nothing is left to propagate, every variable of a clause has a value, and the assumptions are true
+-- `IsComplete ls p` holds if nothing is left to propagate, every variable of a clause has a value, and the
+-- assumptions `ls` are true
 pub record IsComplete (ls : List ℕ) (p : SearchState) : Type 0 where
   pub done : IsFullyPropagated p
   pub all : AllAssigned p
   pub assumed : AllTrue ls p
 
--- the assumption l is false, and only assumptions were decided
+-- `IsFailing ls p l` holds if the literal `l` is one of the assumptions `ls` and false, and only assumptions were
+-- decided
 pub record IsFailing (ls : List ℕ) (p : SearchState) (l : ℕ) : Type 0 where
   pub among : Contains ls l
   pub fails : IsFalseLit p.assignment.current l
   pub decided : AreDecided ls (state p)
 
--- how a turn ends if propagation finds no conflict: a level was opened, or the search stops
+-- `OpensLevelOrStops found ls p p'` is what holds after a turn in which propagation found no conflict: if `found` is
+-- `None`, a level was opened; otherwise the assignment is complete, or an assumption has failed
 abbrev pub OpensLevelOrStops : Option FoundConflict → List ℕ → SearchState → SearchState → Type 0
 OpensLevelOrStops None ls p p' = length p'.trail.starts ≡ length p.trail.starts + 1
 OpensLevelOrStops (Some (Falsified e)) ls p p' = ⊥
 OpensLevelOrStops (Some Complete) ls p p' = IsComplete ls p'
 OpensLevelOrStops (Some (Failed l)) ls p p' = IsFailing ls p' l
 
--- the effect of a turn after propagation: a level was opened, or the search stops; clauses and assumptions are
--- unchanged, and no unit is new
+-- `GoesDeeper found a a' p p'` is the effect of a turn after propagation: a level was opened, or the search stops as
+-- by `OpensLevelOrStops`; clauses and assumptions are unchanged, and no unit is new
 pub record GoesDeeper (found : Option FoundConflict) (a a' : Assumptions) (p p' : SearchState) : Type 0 where
   pub holds : SearchStateInvariant p'
   pub lits : a'.lits ≡ a.lits
@@ -51,7 +54,8 @@ pub record GoesDeeper (found : Option FoundConflict) (a a' : Assumptions) (p p' 
   pub carries : AddsNoUnit (state p) (state p')
   pub stops : OpensLevelOrStops found a.lits.items p p'
 
--- everything is propagated, and no clause is falsified
+-- `IsPropagated s c` holds if everything is propagated and no clause is falsified; the session `s` matches the search
+-- `c`
 pub record IsPropagated (s : Session) (c : Search) : Type 0 where
   pub holds : SearchStateInvariantBelow (length c.parts.trail.starts + 1) c.parts
   pub done : IsFullyPropagated c.parts
@@ -59,30 +63,33 @@ pub record IsPropagated (s : Session) (c : Search) : Type 0 where
   pub fits : SessionMatchesParts c.parts s (global_in c)
   pub ready : IsReadySearch s c
 
--- a clause is falsified
+-- `IsStopped s c e` holds if the conflict `e` is a falsified clause; the session `s` matches the search `c`
 pub record IsStopped (s : Session) (c : Search) (e : Conflict) : Type 0 where
   pub refuted : IsRefuted c.parts e
   pub fits : SessionMatchesParts c.parts s (global_in c)
   pub ready : IsReadySearch s c
 
--- what holds when a search stops: a falsified clause, a complete assignment, or a failed assumption
+-- `StopResult stop s c` is what holds when a search stops: a clause is falsified, the assignment is complete, or an
+-- assumption has failed
 abbrev pub StopResult : FoundConflict → Session → Search → Type 0
 StopResult (Falsified e) s c = IsStopped s c e
 StopResult Complete s c = SearchInvariant s c × IsComplete c.assumptions.lits.items c.parts
 StopResult (Failed l) s c = SearchInvariant s c × IsFailing c.assumptions.lits.items c.parts l
 
--- what holds after a turn: one more level, or the search stopped
+-- `IterationResult found s c c'` is what holds after a turn: one more level is open, or the search has stopped
 abbrev pub IterationResult : Option FoundConflict → Session → Search → Search → Type 0
 IterationResult None s c c' = SearchInvariant s c' × (length c'.parts.trail.starts ≡ length c.parts.trail.starts + 1)
 IterationResult (Some stop) s c c' = StopResult stop s c'
 
--- how a turn changes a search
+-- `IterationEffect found s c c'` holds if a turn with this result changed the search from `c` to `c'`; variables and
+-- assumptions are unchanged, and the word of the trail is unchanged or extended
 pub record IterationEffect (found : Option FoundConflict) (s : Session) (c c' : Search) : Type 0 where
   pub says : IterationResult found s c c'
   pub moved : SameVarsAndAssumptions c c'
   pub word : TrailWordExtendsFor (assumed_indices c) c.parts c'.parts
 
--- the search stopped
+-- `StopsSearch stop s c c'` holds if the search stopped with the result `stop`; variables and assumptions are
+-- unchanged, and the word of the trail is unchanged or extended
 pub record StopsSearch (stop : FoundConflict) (s : Session) (c c' : Search) : Type 0 where
   pub says : StopResult stop s c'
   pub moved : SameVarsAndAssumptions c c'

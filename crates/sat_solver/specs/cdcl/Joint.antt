@@ -19,7 +19,8 @@ global_in c = global_of_index c.globals.items
 abbrev pub assumed_indices : Search → List ℕ
 assumed_indices c = variables_of_lits c.assumptions.lits.items
 
--- every variable of the search has a proof variable, and no flag is set
+-- `IsFree c` holds if every variable of the search has a proof variable, there are flags for all variables, and none
+-- is set
 pub record IsFree (c : Search) : Type 0 where
   pub names : length c.parts.assignment.current ≤ length c.globals.items
   pub size : length c.analysis.flags ≡ length c.parts.assignment.current
@@ -27,20 +28,20 @@ pub record IsFree (c : Search) : Type 0 where
   pub flags_size : 2 * length c.parts.assignment.current ≤ length c.flags.flags.items
   pub flags_clear : AreClear c.flags.flags.items
 
--- the assumptions of the session are those of the search
+-- `AreAsked s c` holds if the assumptions of the session are those of the search, over proof variables
 abbrev pub AreAsked : Session → Search → Type 0
 AreAsked s c = s.assumed ≡ map (with_var (global_in c)) c.assumptions.lits.items
 
--- the same assumptions and indices
+-- `SameAssumedAndNames s t` holds if the sessions have the same assumptions and indices
 pub record SameAssumedAndNames (s t : Session) : Type 0 where
   pub assumed : t.assumed ≡ s.assumed
   pub names : (v : ℕ) → t.solver_names v ≡ s.solver_names v
 
--- every index is that of its proof variable, or is idle
+-- `AreNamedOrIdle s c` holds if every index of the search is that of its proof variable in the session, or is idle
 abbrev pub AreNamedOrIdle : Session → Search → Type 0
 AreNamedOrIdle s c = (v : ℕ) → v < length c.parts.assignment.current → (s.solver_names (global_in c v) ≡ Some v) ⊎ IsIdle (assumed_indices c) (state c.parts) c.parts.vsids v
 
--- the invariant of everything besides the parts: flags, assumptions and indices
+-- `IsReadySearch s c` is the invariant of everything besides the parts: flags, assumptions and indices
 pub record IsReadySearch (s : Session) (c : Search) : Type 0 where
   pub free : IsFree c
   pub placed : ArePlaced c.assumptions (state c.parts)
@@ -48,12 +49,12 @@ pub record IsReadySearch (s : Session) (c : Search) : Type 0 where
   pub asked : AreAsked s c
   pub used : AreNamedOrIdle s c
 
--- the invariant of a search between turns
+-- `SearchInvariant s c` is the invariant of a search between turns, with the session of its steps
 pub record SearchInvariant (s : Session) (c : Search) : Type 0 where
   pub valid : SearchStateSessionInvariant c.parts s (global_in c)
   pub ready : IsReadySearch s c
 
--- the same variables and assumptions
+-- `SameVarsAndAssumptions c c'` holds if both searches have the same variables and assumptions
 pub record SameVarsAndAssumptions (c c' : Search) : Type 0 where
   pub globals : c'.globals ≡ c.globals
   pub lits : c'.assumptions.lits ≡ c.assumptions.lits

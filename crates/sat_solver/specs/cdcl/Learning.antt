@@ -29,7 +29,8 @@ use Rattle.sat_solver.specs.clause.Assessed.{learned_header, clause_level_count,
 use Rattle.sat_solver.specs.cdcl.Joint.{SearchInvariant, SameVarsAndAssumptions}
 use Rattle.sat_solver.specs.unit_simplify.Left.{SameSize}
 
--- the newest of these steps derives an empowering clause after all earlier steps; the others learn nothing
+-- `LastIsEmpowering earlier steps` holds if the newest of these steps derives a clause that is empowering after all
+-- earlier ones, and the others learn nothing
 pub record LastIsEmpowering (earlier steps : List Step) : Type 0 where
   pub redundant : Bool
   pub clause : List ℕ
@@ -39,14 +40,16 @@ pub record LastIsEmpowering (earlier steps : List Step) : Type 0 where
   pub advances : IsEmpowering (session_after (rest ++ earlier)) clause
   pub quiet : AreQuiet rest
 
--- a clause was learned and stored, and the word of the trail rose
+-- `LearnsAndRises earlier steps s c c'` holds if a clause was learned by the newest of these steps, the word of the
+-- trail rose, and the invariant of the search holds
 pub record LearnsAndRises (earlier steps : List Step) (s : Session) (c c' : Search) : Type 0 where
   pub search : SearchInvariant s c'
   pub moved : SameVarsAndAssumptions c c'
   pub rises : TrailWordRises c.parts c'.parts
   pub last : LastIsEmpowering earlier steps
 
--- a clause was learned by these steps, or the call failed; `StoreFull` only if the buffer is full
+-- `LearnsClause seen r p p' c c'` holds if a clause was learned, or the call failed; `StoreFull` only if the buffer
+-- is full
 abbrev pub LearnsClause : {W L : Type 0} {G : Ghosts L} → (W → Writer) → Result (Unit {0}) SolverError → Proof W L G → Proof W L G → Search → Search → Type 0
 LearnsClause seen r p p' c c' = EmitsStepsOr (IsFull c'.parts) seen r p p' (λ _ steps. LearnsAndRises (steps_of p) steps (session_of p') c c')
 
@@ -54,7 +57,8 @@ LearnsClause seen r p p' c c' = EmitsStepsOr (IsFull c'.parts) seen r p p' (λ _
 abbrev pub learned_hashes : SearchState → AnalysisState → Conflict → List ℕ
 learned_hashes p w e = named_hashes p.clauses (state p) w.used e
 
--- the levels above `level` were undone, and the learned clause was stored with this header
+-- `UndoesAndLearns p p' header ls level` holds if the levels above `level` were undone, and the learned clause `ls`
+-- was stored with this header
 pub record UndoesAndLearns (p p' : SearchState) (header : Header) (ls : List ℕ) (level : ℕ) : Type 0 where
   pub holds : SearchStateInvariant p'
   pub fits : FitsAfterLearning p p' header ls
@@ -63,19 +67,22 @@ pub record UndoesAndLearns (p p' : SearchState) (header : Header) (ls : List ℕ
   pub keeps : KeepsTo level (state p) (state p')
   pub starts : length p'.trail.starts ≡ level
 
--- The activity of every long clause that took part was bumped, the falsified one first, and its glue improved by the
--- levels before backtracking. Then activities decayed, and a clause with this header was stored, at activity 0.
+-- `BumpsAntecedents p s w header p' s'` holds if the activity of every antecedent was bumped, the falsified clause
+-- first, and its glue updated by the levels before backtracking; then activities decayed, and a clause with this
+-- header was stored
 pub record BumpsAntecedents (p : SearchState) (s : Scale) (w : AnalysisState) (header : Header) (p' : SearchState) (s' : Scale) : Type 0 where
   pub between : SearchState
   pub take : BumpsClauses (clause_level_count p) p.db.refs w.antecedents p.clauses s between.clauses s'
   pub refs : between.db.refs ≡ p.db.refs
   pub learnt : AddsLearnedClause between p' header w.clause
 
--- the same for a search: the glue of the learned clause counts its levels
+-- `SearchBumpsAntecedents c c'` holds if antecedents were bumped as by `BumpsAntecedents`, and the header of the
+-- learned clause has the number of its levels
 abbrev pub SearchBumpsAntecedents : Search → Search → Type 0
 SearchBumpsAntecedents c c' = BumpsAntecedents c.parts c.activity c'.analysis (learned_header (count_distinct (levels_of c.parts.graph c'.analysis.clause))) c'.parts c'.activity
 
--- then every variable that was met was bumped, and activities decayed; clauses are unchanged
+-- `BumpsSeenVars c c'` holds if antecedents were bumped and the learned clause stored, then every seen variable was
+-- bumped, and activities of variables decayed; the latter changes no clause
 pub record BumpsSeenVars (c c' : Search) : Type 0 where
   pub following : Search
   pub rated : SearchBumpsAntecedents c following

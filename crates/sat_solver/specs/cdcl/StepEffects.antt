@@ -16,25 +16,26 @@ use Rattle.sat_solver.specs.declared.proof.ProofError.TheVariants.{Write, OutOfM
 use Rattle.sat_solver.specs.declared.error.SolverError.{SolverError}
 use Rattle.sat_solver.specs.declared.error.SolverError.TheVariants as errors
 
--- whether the search makes steps of this kind by itself
+-- `is_searched step` is true if the search makes steps of this kind by itself
 abbrev pub is_searched : Step → Bool
 is_searched (AtClause redundant clause hashes) = true
 is_searched (UnitClauses units) = true
 is_searched (DeleteClause clause proof) = true
 is_searched step = false
 
--- every literal is over a variable that has an index
+-- `HaveSolverNames names ls` holds if every literal of `ls` is over a variable that has an index
 abbrev pub HaveSolverNames : (ℕ → Option ℕ) → List ℕ → Type 0
 HaveSolverNames names = AllByRecursion (λ l. (x : ℕ) × (names (variable l) ≡ Some x))
 
--- a step that the search makes by itself; derived clauses and units are over variables that have indices
+-- `IsSearched names step` holds if the search makes such steps by itself; the literals of derived clauses and units
+-- are over variables that have indices
 abbrev pub IsSearched : (ℕ → Option ℕ) → Step → Type 0
 IsSearched names (AtClause redundant clause hashes) = HaveSolverNames names clause
 IsSearched names (UnitClauses units) = HaveSolverNames names (map (λ u. u.0) units)
 IsSearched names (DeleteClause clause proof) = Unit {0}
 IsSearched names step = ⊥
 
--- all these steps are of that kind
+-- `AreSearched names steps` holds if each of the steps is as by `IsSearched`
 abbrev pub AreSearched : (ℕ → Option ℕ) → List Step → Type 0
 AreSearched names = AllByRecursion (IsSearched names)
 
@@ -50,7 +51,7 @@ proof_fault (Write cause) = errors.ProofIoError cause
 proof_fault OutOfMemory = errors.OutOfMemory
 proof_fault (Check fault) = check_fault_of fault
 
--- the errors of a search; `StoreFull` only if `full` holds
+-- `IsFaultOr full e` holds if `e` is an error of a search; `StoreFull` only if `full` holds
 abbrev pub IsFaultOr : (full : Type 0) → SolverError → Type 0
 IsFaultOr full errors.OutOfMemory = Unit {0}
 IsFaultOr full errors.StoreFull = full
@@ -59,12 +60,12 @@ IsFaultOr full (errors.ProofProcessorError cause) = Unit {0}
 IsFaultOr full errors.CounterEnd = Unit {0}
 IsFaultOr full e = ⊥
 
--- the errors of a search that stores no clause
+-- `IsFault e` holds if `e` is an error of a search that stores no clause
 abbrev pub IsFault : SolverError → Type 0
 IsFault = IsFaultOr ⊥
 
--- These steps were made. If a call of the target failed, it failed while their text was written. `CounterEnd` and a
--- listener's fault come only from the solver's own checker.
+-- `EmitsUpToFault seen result steps old new` holds if these steps were made. If a call of the target failed, it
+-- failed while their text was written. `CounterEnd` and a listener's fault come only from the solver's own checker.
 abbrev pub EmitsUpToFault : {A W L : Type 0} {G : Ghosts L} → (W → Writer) → Result A SolverError → List Step → Proof W L G → Proof W L G → Type 0
 EmitsUpToFault seen (Ok x) steps old new = EmitsChecked seen steps old new
 EmitsUpToFault seen (Err (errors.ProofIoError cause)) steps old new = FailsToEmit seen steps old new
@@ -72,13 +73,14 @@ EmitsUpToFault seen (Err (errors.ProofProcessorError cause)) steps old new = Fai
 EmitsUpToFault seen (Err errors.CounterEnd) steps old new = FailsCheck seen checks.CounterEnd steps old new
 EmitsUpToFault seen (Err e) steps old new = EmitsExactly seen steps old new
 
--- all these steps are quiet, unless the flag is set
+-- `AreQuietUnless learns steps` holds if all these steps are quiet, unless the flag is set
 abbrev pub AreQuietUnless : Bool → List Step → Type 0
 AreQuietUnless true steps = Unit {0}
 AreQuietUnless false steps = AreQuiet steps
 
--- The steps of a search were made, and its answer satisfies `Answers`, or the call failed. `StoreFull` occurs only
--- if `full` holds. Unless `learns` is set, no step learns anything.
+-- `EmitsStepsWith full learns seen result old new Answers` holds if steps of the search were made, and the answer
+-- satisfies `Answers`, or the call failed. `StoreFull` occurs only if `full` holds. Unless `learns` is set, the steps
+-- of a call that succeeds learn nothing.
 pub record EmitsStepsWith {A W L : Type 0} {G : Ghosts L} (full : Type 0) (learns : Bool) (seen : W → Writer) (result : Result A SolverError) (old new : Proof W L G) (Answers : A → List Step → Type 0) : Type 0 where
   pub steps : List Step
   pub went : EmitsUpToFault seen result steps old new
@@ -89,10 +91,11 @@ pub record EmitsStepsWith {A W L : Type 0} {G : Ghosts L} (full : Type 0) (learn
   pub loss : IfErr result (λ e. NamesLoss e old new)
   pub ends : MatchResult result (λ x. Answers x steps) (IsFaultOr full)
 
--- the same, and clauses may be learned
+-- `EmitsStepsOr full seen result old new Answers` is `EmitsStepsWith` for a call that may learn clauses
 abbrev pub EmitsStepsOr : {A W L : Type 0} {G : Ghosts L} → (full : Type 0) → (W → Writer) → Result A SolverError → Proof W L G → Proof W L G → (A → List Step → Type 0) → Type 0
 EmitsStepsOr full seen result old new Answers = EmitsStepsWith full true seen result old new Answers
 
--- the same, and no clause is learned or stored
+-- `EmitsSteps seen result old new Answers` is `EmitsStepsWith` for a call that learns nothing and never fails with
+-- `StoreFull`
 abbrev pub EmitsSteps : {A W L : Type 0} {G : Ghosts L} → (W → Writer) → Result A SolverError → Proof W L G → Proof W L G → (A → List Step → Type 0) → Type 0
 EmitsSteps seen result old new Answers = EmitsStepsWith ⊥ false seen result old new Answers

@@ -8,11 +8,11 @@ use Rattle.sat_solver.specs.session.Session.{Session}
 use Rattle.sat_solver.specs.declared.context.Search.{Search}
 use Rattle.sat_solver.specs.cdcl.Joint.{SearchInvariant, SameVarsAndAssumptions}
 
--- all these variables are below n
+-- `AreBelow vars n` holds if all variables `vars` are below `n`
 abbrev pub AreBelow : List ℕ → ℕ → Type 0
 AreBelow vars n = (v : ℕ) → Contains vars v → v < n
 
--- the decays are 500 to 999 thousandths
+-- `AreDecays c` holds if both decays of the parameters are 500 to 999 thousandths
 abbrev pub AreDecays : SolverConfig → Type 0
 AreDecays c = (500 ≤ c.vsids_decay) × (c.vsids_decay ≤ 999) × (500 ≤ c.clause_activity_decay) × (c.clause_activity_decay ≤ 999)
 
@@ -21,8 +21,8 @@ abbrev pub all_bumped : List ℕ → Queue → Queue
 all_bumped [] q = q
 all_bumped (v ∷ vs) q = all_bumped vs (bumped v q)
 
--- the invariant of the search holds, variables and assumptions are unchanged, and the word of the trail is unchanged
--- or extended
+-- `BumpEffect s c c'` holds if the invariant of the search holds after a bump, variables and assumptions are
+-- unchanged, and the word of the trail is unchanged or extended
 pub record BumpEffect (s : Session) (c c' : Search) : Type 0 where
   pub search : SearchInvariant s c'
   pub moved : SameVarsAndAssumptions c c'

@@ -25,8 +25,8 @@ with_glue glue h = record h { glue = min glue 63; tier = tier_for glue }
 abbrev pub learned_header : ℕ → Header
 learned_header levels = with_glue (levels - 1) no_header
 
--- The header of a clause that took part: it is active. A learned clause whose literals have fewer levels than its
--- glue also gets a smaller glue, and the tier for it.
+-- `with_updated_glue levels h` is the header of an antecedent, which is active. A learned clause whose literals have
+-- fewer levels than its glue also gets this number as its glue, and the tier for it.
 abbrev pub with_updated_glue : ℕ → Header → Header
 with_updated_glue levels h = if is_learned h.tier && nat_lt levels h.glue then with_glue levels (record h { active = true }) else record h { active = true }
 
@@ -34,31 +34,36 @@ with_updated_glue levels h = if is_learned h.tier && nat_lt levels h.glue then w
 abbrev pub clause_level_count : SearchState → ℕ → ℕ
 clause_level_count p o = count_distinct (levels_of p.graph (lits_at p.clauses o))
 
--- the activity of the clause at o was bumped, and then its header improved
+-- `BumpsClause levels words words' refs o s s'` holds if the activity of the clause at `o` was bumped, and then its
+-- header updated for this number of levels
 pub record BumpsClause (levels : ℕ) (words words' refs : List ℕ) (o : ℕ) (s s' : Scale) : Type 0 where
   pub raised : List ℕ
   pub one : BumpsBelow words raised refs o s s'
   pub all : BumpsPast words raised refs o s s'
   pub improves : PutsHeader raised words' refs o (with_updated_glue levels (header_at raised o))
 
--- the bump grew by a decay; if it reached 2^30, all activities were rescaled
+-- `DecaysActivities words words' refs s s'` holds if the bump grew by a decay and, if it reached 2^30, all activities
+-- were rescaled
 pub record DecaysActivities (words words' refs : List ℕ) (s s' : Scale) : Type 0 where
   pub later : later_bump s < 2 ^ 30 → (s' ≡ later_scale s) × (words' ≡ words)
   pub rescaled : 2 ^ 30 ≤ later_bump s → DecaysAll words words' refs s s'
 
--- all these clauses took part, one after another, and then activities decayed
+-- `BumpsClauses levels refs os words s words' s'` holds if the clauses at `os` were bumped one after another, and
+-- then activities decayed
 abbrev pub BumpsClauses : (levels : ℕ → ℕ) (refs os words : List ℕ) (s : Scale) (words' : List ℕ) (s' : Scale) → Type 0
 BumpsClauses levels refs [] words s words' s' = DecaysActivities words words' refs s s'
 BumpsClauses levels refs (o ∷ os) words s words' s' = (mid : List ℕ) × (t : Scale) × BumpsClause (levels o) words mid refs o s t × BumpsClauses levels refs os mid t words' s'
 
--- only headers of long clauses changed
+-- `ChangesOnlyHeaders p p'` holds if only headers of long clauses changed, and the word of the trail is unchanged or
+-- extended
 pub record ChangesOnlyHeaders (p p' : SearchState) : Type 0 where
   pub holds : SearchStateInvariant p'
   pub headed : ChangesHeaders p p'
   pub refs : p'.db.refs ≡ p.db.refs
   pub word : TrailWordExtends p p'
 
--- the clauses are live, there is a flag for the level of each of their literals, and no flag is set
+-- `AreAntecedents p flags os` holds if the clauses at `os` are live, there is a flag for the level of each of their
+-- literals, and no flag is set
 pub record AreAntecedents (p : SearchState) (flags : List Bool) (os : List ℕ) : Type 0 where
   pub live : (o : ℕ) → Contains os o → Contains (live_refs p.clauses p.db.refs) o
   pub levels : (o : ℕ) → Contains os o → HaveFlags p.graph flags (lits_at p.clauses o)

@@ -23,21 +23,23 @@ use Rattle.sat_solver.specs.declared.context.Search.{Search}
 use Rattle.sat_solver.specs.cdcl.StepEffects.{EmitsSteps}
 use Rattle.sat_solver.specs.cdcl.Joint.{assumed_indices, SearchInvariant, SameVarsAndAssumptions}
 
--- a live long learned clause
+-- `IsLearnedLong p o` holds if the clause at `o` is a live long learned clause
 pub record IsLearnedLong (p : SearchState) (o : ℕ) : Type 0 where
   pub live : Contains (live_refs p.clauses p.db.refs) o
   pub learned : is_redundant p.clauses o ≡ true
 
--- the clause at o is the reason of its first literal
+-- `IsReason p o` holds if the clause at `o` is the reason of its first literal
 abbrev pub IsReason : SearchState → ℕ → Type 0
 IsReason p o = IsLockedClause p.clauses p.assignment.current p.graph o
 
--- the clause at o was deleted, and was not a reason; or it is a reason, and nothing changed
+-- `DeletesUnlessReason deleted o p p'` holds if the clause at `o` was deleted, and was not a reason; or it is a
+-- reason, and nothing changed
 abbrev pub DeletesUnlessReason : (deleted : Bool) (o : ℕ) → SearchState → SearchState → Type 0
 DeletesUnlessReason true o p p' = (IsReason p o → ⊥) × DropsLongClause p p' o
 DeletesUnlessReason false o p p' = IsReason p o × (p' ≡ p)
 
--- the clause at o was deleted, or nothing changed; the invariant of the search holds
+-- `DeletesIf deleted o s c c'` holds if the clause at `o` was deleted unless it is a reason, other long learned
+-- clauses are still there, and the invariant of the search holds
 pub record DeletesIf (deleted : Bool) (o : ℕ) (s : Session) (c c' : Search) : Type 0 where
   pub search : SearchInvariant s c'
   pub moved : SameVarsAndAssumptions c c'
@@ -45,35 +47,38 @@ pub record DeletesIf (deleted : Bool) (o : ℕ) (s : Session) (c c' : Search) : 
   pub others : (p : ℕ) → p ≢ o → IsLearnedLong c.parts p → IsLearnedLong c'.parts p
   pub tried : DeletesUnlessReason deleted o c.parts c'.parts
 
--- the invariant of the search holds, variables and assumptions are unchanged, and the word of the trail is unchanged
--- or extended
+-- `ReductionEffect s c c'` holds if the invariant of the search holds after a reduction, variables and assumptions
+-- are unchanged, and the word of the trail is unchanged or extended
 pub record ReductionEffect (s : Session) (c c' : Search) : Type 0 where
   pub search : SearchInvariant s c'
   pub moved : SameVarsAndAssumptions c c'
   pub word : TrailWordExtendsFor (assumed_indices c) c.parts c'.parts
 
--- a change of this kind was made by proof steps, with this effect
+-- `ReductionBySteps Changes seen r p p' c c'` holds if the parts changed as `Changes` says, by steps that learn
+-- nothing and with the effect of a reduction, or the call failed
 abbrev pub ReductionBySteps : {W L : Type 0} {G : Ghosts L} → (Changes : SearchState → SearchState → Type 0) → (W → Writer) → Result (Unit {0}) SolverError → Proof W L G → Proof W L G → Search → Search → Type 0
 ReductionBySteps Changes seen r p p' c c' = EmitsSteps seen r p p' (λ _ _. ReductionEffect (session_of p') c c' × Changes c.parts c'.parts)
 
 -- TIER LOCAL
 
--- the first n clauses of the list, in order, that are not reasons; all of these if there are fewer
+-- `AreFirstFree p list n free` holds if `free` is the first `n` clauses of the list, in order, that are not reasons;
+-- all of these if there are fewer
 abbrev pub AreFirstFree : SearchState → (list : List ℕ) (n : ℕ) (free : List ℕ) → Type 0
 AreFirstFree p [] n free = free ≡ []
 AreFirstFree p (o ∷ os) zero free = free ≡ []
 AreFirstFree p (o ∷ os) (suc n) free =
     (IsReason p o × AreFirstFree p os (suc n) free) ⊎ ((IsReason p o → ⊥) × (rest : List ℕ) × (free ≡ o ∷ rest) × AreFirstFree p os n rest)
 
--- exactly these live clauses were deleted; the others are unchanged
+-- `DeletesJustThese p p' gone` holds if exactly the live clauses at `gone` were deleted; the others are unchanged
 pub record DeletesJustThese (p p' : SearchState) (gone : List ℕ) : Type 0 where
   pub deleted : (o : ℕ) → Contains gone o → Contains (live_refs p.clauses p.db.refs) o × (Contains (live_refs p'.clauses p'.db.refs) o → ⊥)
   pub others : (o : ℕ) → Contains (live_refs p.clauses p.db.refs) o → Contains gone o ⊎ Contains (live_refs p'.clauses p'.db.refs) o
   pub stay : (o : ℕ) → Contains (live_refs p'.clauses p'.db.refs) o → Contains (live_refs p.clauses p.db.refs) o × SameClauseAt p.clauses p'.clauses o
   pub same : SameExceptLongClauses p p'
 
--- Live clauses of tier Local were deleted: those of lowest activity, the earlier one first among equals, but none
--- that is a reason. Their number is half of these clauses, rounded down, or less if fewer of them are not reasons.
+-- `HalvesLocals p p'` holds if live clauses of tier Local were deleted: those of lowest activity, the earlier one
+-- first among equals, but none that is a reason. Their number is half of these clauses, rounded down, or less if
+-- fewer of them are not reasons.
 pub record HalvesLocals (p p' : SearchState) : Type 0 where
   pub locals : List ℕ
   pub all : IsPermutation (filter (is_live_in_tier p.clauses Local) p.db.refs) locals
@@ -82,34 +87,36 @@ pub record HalvesLocals (p p' : SearchState) : Type 0 where
   pub first : AreFirstFree p locals (length locals / 2) gone
   pub deletes : DeletesJustThese p p' gone
 
--- the reduction of tier Local, if it is due
+-- `ReducesLocals due p p'` holds if the flag is set and tier Local was reduced, or it is not set and nothing changed
 abbrev pub ReducesLocals : Bool → SearchState → SearchState → Type 0
 ReducesLocals true p p' = HalvesLocals p p'
 ReducesLocals false p p' = p' ≡ p
 
 -- TIER MID
 
--- inactive clauses of tier Mid moved to tier Local, the others were made inactive, and nothing else changed
+-- `MovesMids p p'` holds if inactive clauses of tier Mid moved to tier Local, the others were made inactive, and
+-- nothing else changed
 pub record MovesMids (p p' : SearchState) : Type 0 where
   pub headers : PutsHeaders p.clauses p'.clauses p.db.refs (λ o. reduced (header_at p.clauses o))
   pub headed : ChangesHeaders p p'
 
--- the reduction of tier Mid, if it is due
+-- `ReducesMids due p p'` holds if the flag is set and tier Mid was reduced, or it is not set and nothing changed
 abbrev pub ReducesMids : Bool → SearchState → SearchState → Type 0
 ReducesMids true p p' = MovesMids p p'
 ReducesMids false p p' = p' ≡ p
 
 -- COLLECTION
 
--- if deleted clauses take up more than half of the buffer, the live ones were moved together, in order, and no
--- garbage is left
+-- `CollectsWhereDue p p'` holds if deleted clauses take up more than half of the buffer, and the live ones were moved
+-- together, in order, so that no garbage is left; or they take up half at most, and nothing changed
 pub record CollectsWhereDue (p p' : SearchState) : Type 0 where
   pub due : length p.clauses / 2 < p.db.garbage → MovesLongClauses p p' × (p'.db.garbage ≡ 0)
   pub not_due : p.db.garbage ≤ length p.clauses / 2 → p' ≡ p
 
 -- ALL OF THESE
 
--- the reductions that are due before the round with this number
+-- `Reduces config round p p'` holds if the reductions were made that are due before this round: of tier Local, of
+-- tier Mid, and then the collection of garbage
 pub record Reduces (config : SolverConfig) (round : ℕ) (p p' : SearchState) : Type 0 where
   pub after_locals : SearchState
   pub after_mids : SearchState

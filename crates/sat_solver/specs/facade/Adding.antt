@@ -32,12 +32,12 @@ IsDrat v = is_drat v.target ≡ true
 abbrev pub IsPastDrat : {L : Type 0} → SolverView L → Type 0
 IsPastDrat v = IsDrat v × (v.asked ≡ true)
 
--- `IsBeforeDrat v` holds if a clause may be added
+-- `IsBeforeDrat v` holds if no DRAT lines are written, or no ask has begun; only then may a clause be added
 abbrev pub IsBeforeDrat : {L : Type 0} → SolverView L → Type 0
 IsBeforeDrat v = IsPastDrat v → ⊥
 
--- `LacksRoomForNames v user` holds if the mode of no name is witness, but no variable is left for a name that would be
--- introduced
+-- `LacksRoomForNames v user` holds if no call failed and the mode of no name is witness, but no variable is left for a
+-- name that would be introduced
 abbrev pub LacksRoomForNames : {L : Type 0} → SolverView L → List ℕ → Type 0
 LacksRoomForNames v user = (v.failed ≡ false) × AreSampled v user × (HasVariablesFor v.names (user_vars_in user) → ⊥)
 
@@ -74,8 +74,8 @@ pub record StepsOfAssumptions {L : Type 0} (old new : SolverView L) (user : List
   pub comes : OnlyAllowedSteps (IsLiteralsStep (names_in user)) old.steps new.steps
   pub asked : new.asked ≡ old.asked
 
--- `ReplacesAssumptions old new user` holds if these assumptions replaced the earlier ones, whatever the answer to the
--- ask will be
+-- `ReplacesAssumptions old new user` holds if the assumptions `user` replaced the earlier ones, whatever the answer to
+-- the ask will be
 pub record ReplacesAssumptions {L : Type 0} (old new : SolverView L) (user : List ℕ) : Type 0 where
   pub sampled : AreSampled old user
   pub room : HasVariablesFor old.names (user_vars_in user)

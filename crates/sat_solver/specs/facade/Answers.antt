@@ -16,7 +16,6 @@ use Rattle.sat_solver.specs.schedule.Solving.{CountsEmpoweringIn}
 use Rattle.sat_solver.specs.session.AllowedSteps.{OnlyAllowedSteps, EndsAtUnsat}
 use Rattle.sat_solver.specs.solver.Calls.{due_between_states, learned_of, IsFlushed, is_answer}
 use Rattle.sat_solver.specs.solver.Lines.{IsCoreOf}
-use Rattle.sat_solver.specs.solver.Resting.{is_unsat}
 use Rattle.sat_solver.specs.variables.Variables.{names_used}
 use Rattle.sat_solver.specs.facade.View.{SolverView, IsInState}
 use Rattle.sat_solver.specs.facade.Calls.{Effect, Fails, HasFullStore, Refuses}
@@ -33,7 +32,7 @@ line_in v = named_to v.names v.values (names_used v.names)
 abbrev pub due_for_answer : {L : Type 0} → SatState → SolverView L → List Expected
 due_for_answer before v = due_between_states before v.answer (line_in v) v.assumptions v.core
 
--- the number of rounds that a call may make
+-- the number of rounds that the next ask may make
 abbrev pub rounds_left : {L : Type 0} → SolverView L → ℕ
 rounds_left v = round_allowance v.parameters.max_steps v.clock.rounds
 
@@ -45,8 +44,8 @@ pub record CountsRounds {L : Type 0} (old new : SolverView L) : Type 0 where
   pub within : new.clock.rounds ≤ old.clock.rounds + rounds_left old
   pub few : (j : ScriptState) (live : LiveVariables) → IsInState old j live → new.clock.rounds < old.clock.rounds + 2 ^ (2 * j.identity_count + 3)
 
--- `Counts old new` holds if an ask made these rounds: at least one for a new answer, and all that are allowed if there is
--- no answer. There is an answer if 2^(2n+3) rounds are allowed, for the number n of identities.
+-- `Counts old new` holds if an ask made as many rounds as it may: at least one for a new answer, and all that are
+-- allowed if there is no answer. There is an answer if 2^(2n+3) rounds are allowed, for the number n of identities.
 pub record Counts {L : Type 0} (old new : SolverView L) : Type 0 where
   pub on : CountsRounds old new
   pub round : old.answer ≡ states.Unknown → (new.answer ≡ states.Unknown → ⊥) → old.clock.rounds < new.clock.rounds
@@ -66,8 +65,9 @@ pub record Answered {L : Type 0} (old new : SolverView L) : Type 0 where
   pub known : (old.answer ≡ states.Unknown → ⊥) → AnswersAgain old new
   pub flushed : IsFlushed new.target
 
--- `StepsOfAsk old new` holds if these are the steps of an ask; after unsat is recorded, they only change the width. Every
--- round except the answering one derived an empowering clause; no other step did. Names keep their variables.
+-- `StepsOfAsk old new` holds if only steps were made that an ask may make; after unsat is recorded, they only change
+-- the width. Every round except the answering one derived an empowering clause; no other step did. Names keep their
+-- variables.
 pub record StepsOfAsk {L : Type 0} (old new : SolverView L) : Type 0 where
   pub comes : OnlyAllowedSteps EndsAtUnsat old.steps new.steps
   pub times : CountsEmpoweringIn old.steps new.steps (learned_of new.answer (new.clock.rounds - old.clock.rounds))
@@ -115,6 +115,13 @@ abbrev pub ModelFails : {L : Type 0} → SolverError → SolverView L → Type 0
 ModelFails errors.HasFailed v = v.failed ≡ true
 ModelFails errors.OutOfMemory v = (v.failed ≡ false) × (v.answer ≡ states.Sat)
 ModelFails e v = ⊥
+
+-- `is_unsat answer` holds if no valuation satisfies the clauses, or the clauses and the assumptions
+abbrev pub is_unsat : SatState → Type 0
+is_unsat states.Unknown = ⊥
+is_unsat states.Sat = ⊥
+is_unsat states.UnsatUnderAssumptions = Unit {0}
+is_unsat states.Unsat = Unit {0}
 
 -- the failed core in this state: the reported core if an ask failed under its assumptions, otherwise the empty core
 abbrev pub core_for : {L : Type 0} → SatState → SolverView L → List ℕ

@@ -1,5 +1,5 @@
 -- What calls of a solver change.
-use Rattle.std.specs.Prelude.{ℕ, ◌≡◌, ◌-◌, ◌<◌, ◌^◌, true, false, List, ◌++◌, Result, Ok, Err}
+use Rattle.std.specs.Prelude.{◌≡◌, ◌-◌, ◌<◌, ◌^◌, true, false, List, ◌++◌, Result, Ok, Err}
 use Rattle.sat_base.specs.script.ScriptState.{ScriptState}
 use Rattle.sat_base.specs.steps.Steps.{Step}
 use Rattle.sat_checker.specs.matching.Expected.{Expected}
@@ -12,13 +12,13 @@ use Rattle.sat_solver.specs.proof.ProofView.{Target, TargetTakes, TargetFails}
 use Rattle.sat_solver.specs.variables.Calls.{ReachesScriptState}
 use Rattle.sat_solver.specs.facade.View.{SolverView, IsInState}
 
--- `Refuses old new why` holds if the call was refused for this reason, and changed nothing
+-- `Refuses old new why` holds if the call was refused for the reason `why`, and changed nothing
 pub record Refuses {L : Type 0} (old new : SolverView L) (why : Type 0) : Type 0 where
   pub same : new ≡ old
   pub cause : why
 
--- `Effect old new judge due` holds if a call changes the script state so, and makes these ordered steps; other steps
--- may be in between
+-- `Effect old new judge due` holds if a call changed the script state by `judge` and made the ordered steps `due`;
+-- other steps may be in between
 pub record Effect {L : Type 0} (old new : SolverView L) (judge : ScriptState → ScriptState) (due : ScriptState → List Expected) : Type 0 where
   pub going : old.failed ≡ false
   pub failed : new.failed ≡ false
@@ -33,7 +33,8 @@ pub record Fails {L : Type 0} (full : Type 0) (e : SolverError) (old new : Solve
   pub failed : new.failed ≡ true
   pub fault : IsFaultOr full e
 
--- `FailsAtNames full e old new` holds if a call over names failed so; the schedule is unchanged
+-- `FailsAtNames full e old new` holds if `Fails full e old new` does for a call over names, and the schedule is
+-- unchanged
 pub record FailsAtNames {L : Type 0} (full : Type 0) (e : SolverError) (old new : SolverView L) : Type 0 where
   pub fails : Fails full e old new
   pub clock : new.clock ≡ old.clock
@@ -51,12 +52,13 @@ pub record MakesSteps {L : Type 0} (old new : SolverView L) : Type 0 where
   pub listening : new.listeners ≡ old.listeners
   pub target : TargetTakes old.target steps new.target
 
--- `TargetAfter e old steps new` holds if the target became `new` by these steps of a call that failed with this error
+-- `TargetAfter e old steps new` holds if a call that failed with the error `e` changed the target from `old` to `new`
+-- by these steps
 abbrev pub TargetAfter : SolverError → Target → List Step → Target → Type 0
 TargetAfter (errors.ProofIoError cause) old steps new = TargetFails old steps new
 TargetAfter e old steps new = TargetTakes old steps new
 
--- `BreaksOff e old new` holds if a call that failed with this error made steps; a call of the target may have failed
+-- `BreaksOff e old new` holds if a call that failed with the error `e` made steps; a call of the target may have failed
 -- while their text was written
 pub record BreaksOff {L : Type 0} (e : SolverError) (old new : SolverView L) : Type 0 where
   pub steps : List Step

@@ -32,7 +32,7 @@ ReportsAsk old new = KeepsWidth old new × AllStepsReported new
 
 -- `takes` says how a listener changes with an announcement
 module _ {L : Type 0} (takes : L → Notice → Result Unit Error → L → Type 0) where
-  -- `FailsAfterHearing added steps fault` holds if a checker with these listeners can fail so at these steps
+  -- `FailsAfterHearing added steps fault` holds if a checker with the listeners `added` can fail with `fault` at these steps
   pub record FailsAfterHearing (added : List L) (steps : List Step) (fault : CheckFault) : Type 0 where
     pub now : Listeners L Nobody
     pub heard : FailsWhileHeard takes added now steps fault
@@ -56,7 +56,7 @@ module _ {L : Type 0} (takes : L → Notice → Result Unit Error → L → Type
   CheckerAfter (Ok x) old new = KeepsWidth old new
   CheckerAfter (Err e) old new = CheckerAfterError e old new
 
-  -- `FlushFails e new` holds if an ask with a known answer can end so: the target or the own checker failed
+  -- `FlushFails e new` holds if an ask with a known answer can fail with `e`: the target or the own checker failed
   abbrev pub FlushFails : SolverError → SolverView L → Type 0
   FlushFails (errors.ProofIoError cause) new = Unit {0}
   FlushFails (errors.ProofProcessorError cause) new = CheckerFailed (checks.Processor cause) new

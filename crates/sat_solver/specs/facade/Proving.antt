@@ -1,5 +1,5 @@
 -- Opening and closing the proof of a solver, and its own checker.
-use Rattle.std.specs.Prelude.{◌≡◌, ◌⊎◌, Bool, true, false, Option, None, Some, List, [], ◌∷◌, ◌++◌, Result, Ok, Err}
+use Rattle.std.specs.Prelude.{◌≡◌, ◌⊎◌, true, false, Option, None, Some, List, [], ◌∷◌, ◌++◌, Result, Ok, Err}
 use Rattle.sat_base.specs.device.Device.{Writer}
 use Rattle.sat_base.specs.device.Sink.{empty_sink}
 use Rattle.sat_base.specs.script.ScriptState.{ScriptState}
@@ -39,17 +39,17 @@ OpensProof (Err errors.HasFailed) format target old new = Refuses old new (old.f
 OpensProof (Err errors.TooLate) format target old new = Refuses old new ((old.failed ≡ false) × ((old.used ≡ true) ⊎ (is_open old.target ≡ true)))
 OpensProof (Err e) format target old new = ⊥
 
--- the listeners of the own checker, if there is one
+-- the listeners of the own checker, or none without a checker
 abbrev pub listed : {L : Type 0} → Option (List L) → List L
 listed None = []
 listed (Some added) = added
 
--- the solver, with a checker of its own that has these listeners after the earlier ones
+-- the solver, with a checker of its own that has the listeners `more` after the earlier ones
 abbrev pub with_listeners : {L : Type 0} → List L → SolverView L → SolverView L
 with_listeners more v = record v { listeners = Some (listed v.listeners ++ more) }
 
--- `StartsChecking more old new` holds if the solver has a checker of its own, before any step other than ends of proofs,
--- with these listeners after the earlier ones
+-- `StartsChecking more old new` holds if the solver has a checker of its own, before any step other than ends of
+-- proofs, with the listeners `more` after the earlier ones
 pub record StartsChecking {L : Type 0} (more : List L) (old new : SolverView L) : Type 0 where
   pub going : old.failed ≡ false
   pub first : old.used ≡ false
@@ -83,8 +83,8 @@ AddsProcessor (Err errors.TooLate) processor old new = Refuses old new ((old.fai
 AddsProcessor (Err errors.OutOfMemory) processor old new = AddListenerOutOfMemory old new
 AddsProcessor (Err e) processor old new = ⊥
 
--- `WroteSince f from before v` holds if the target was opened with this writer after the steps `before`. What it has
--- received and what is pending is the text of all later steps.
+-- `WroteSince f from before v` holds if the target was opened with the writer `from` after the steps `before`. What it
+-- has received and what is pending is the text of all later steps.
 pub record WroteSince {L : Type 0} (f : ProofFormat) (from : Writer) (before : List Step) (v : SolverView L) : Type 0 where
   pub steps : List Step
   pub following : v.steps ≡ steps ++ before
@@ -121,8 +121,8 @@ ClosesProof (Err errors.CounterEnd) old new = CloseFails old new
 ClosesProof (Err (errors.ProofProcessorError cause)) old new = CloseFails old new
 ClosesProof (Err e) old new = ⊥
 
--- `AreLastSteps e steps` holds if a call that failed with this error made these steps: the last step, unless the call was
--- refused or memory ran out
+-- `AreLastSteps e steps` holds if `steps` are what a call that failed with the error `e` made: the last step, or none
+-- if it was refused; memory may run out before or after the last step
 abbrev pub AreLastSteps : SolverError → List Step → Type 0
 AreLastSteps errors.HasFailed steps = steps ≡ []
 AreLastSteps errors.OutOfMemory steps = (steps ≡ []) ⊎ (steps ≡ End ∷ [])
@@ -140,14 +140,14 @@ ClosesText (Ok None) old new = Unit {0}
 ClosesText (Ok (Some given)) old new = TakesAll old.target (End ∷ []) given
 ClosesText (Err e) old new = BreaksAtEnd e old new
 
--- the result with the writer of the target in its place
+-- the result of closing a proof, with the writer that `seen` gives for the target
 abbrev pub writer_given : {W : Type 0} → (W → Writer) → Result (Option W) SolverError → Result (Option Writer) SolverError
 writer_given seen (Ok None) = Ok None
 writer_given seen (Ok (Some w)) = Ok (Some (seen w))
 writer_given seen (Err e) = Err e
 
--- `IsCertificate given old new` holds if this target has received the text of steps that a checker accepts, provided that
--- it was opened before any step other than ends of proofs
+-- `IsCertificate given old new` holds if the target `given` has received the text of steps that a checker accepts,
+-- provided that it was opened before any step other than ends of proofs
 abbrev pub IsCertificate : {L : Type 0} → Writer → SolverView L → SolverView L → Type 0
 IsCertificate given old new = (f : ProofFormat) (from : Writer) (before : List Step) → has_begun before ≡ false → WroteSince f from before old → TookAcceptedSteps f from given before new.steps
 
@@ -157,8 +157,8 @@ pub record IsDratRefutation {L : Type 0} (old new : SolverView L) : Type 0 where
   pub derives : IsDratDerivation new.steps
   pub refutes : old.answer ≡ states.Unsat → RefutesByUnits (present new.steps) []
 
--- `ReturnsAcceptedPrefix returned v` holds if this target has received a prefix of the text of accepted steps, provided
--- that it was opened before any step other than ends of proofs. A call may have failed since.
+-- `ReturnsAcceptedPrefix returned v` holds if the target `returned` has received a prefix of the text of accepted
+-- steps, provided that it was opened before any step other than ends of proofs. A call may have failed since.
 abbrev pub ReturnsAcceptedPrefix : {L : Type 0} → Option Writer → SolverView L → Type 0
 ReturnsAcceptedPrefix {L} returned v = (opened : SolverView L) (f : ProofFormat) (from given : Writer) → returned ≡ Some given
     → opened.target ≡ Open f nothing_counted (empty_sink from) → has_begun opened.steps ≡ false → ReachesBySteps opened v

@@ -1,5 +1,5 @@
 -- What callers see of a solver: one record. Public contracts are stated in terms of it and of the script state.
-use Rattle.std.specs.Prelude.{◌≡◌, ℕ, Bool, true, false, Option, None, List, []}
+use Rattle.std.specs.Prelude.{◌≡◌, ℕ, Bool, false, Option, None, List, []}
 use Rattle.sat_base.specs.script.ScriptState.{ScriptState, initial_state}
 use Rattle.sat_base.specs.steps.Steps.{Step}
 use Rattle.sat_checker.specs.matching.Bridge.{LiveVariables}
@@ -46,7 +46,7 @@ pub record SolverView (L : Type 0) : Type 0 where
   pub lost : Bool  -- whether its own checker has missed a step
   pub checking : Checking  -- the width of hashes, and its own checker
 
--- `IsInState v j live` holds if names and steps agree with the script state `j` and these variables
+-- `IsInState v j live` holds if names and steps agree with the script state `j` and its live variables `live`
 abbrev pub IsInState : {L : Type 0} → SolverView L → ScriptState → LiveVariables → Type 0
 IsInState v j live = NamesAgree v.names v.steps j live
 

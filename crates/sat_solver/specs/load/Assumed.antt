@@ -18,16 +18,19 @@ use Rattle.sat_solver.specs.variables.NamingSteps.{IsLiteralsStep}
 use Rattle.sat_solver.specs.declared.variables.Variables.{Variables}
 use Rattle.sat_solver.specs.declared.load.literals.MappedLits.{MappedLits}
 
--- the data with its mark set to the second flag, if the first flag is set
+-- `marked_if flag assumed d` is the data `d` with its mark set to `assumed` if the flag is set, and otherwise
+-- unchanged
 abbrev pub marked_if : Bool → Bool → VarData → VarData
 marked_if true assumed d = record d { assumed = assumed }
 marked_if false assumed d = d
 
--- the marks of these literals' variables are set to the flag; other variables are unchanged
+-- `MarksAssumed old new ls assumed` holds if the marks of the variables of the literals `ls` are set to `assumed`,
+-- and other variables are unchanged
 pub record MarksAssumed (old new : ℕ → VarData) (ls : List ℕ) (assumed : Bool) : Type 0 where
   pub each : (v : ℕ) → new v ≡ marked_if (mentions ls v) assumed (old v)
 
--- exactly the variables of these literals are marked; nothing else has changed
+-- `PutsMarks old new ls` holds if exactly the variables of the literals `ls` are marked as assumed, and nothing else
+-- has changed
 pub record PutsMarks (old new : Variables) (ls : List ℕ) : Type 0 where
   pub users : new.global_from_user ≡ old.global_from_user
   pub solvers : new.solver_from_global ≡ old.solver_from_global
@@ -40,8 +43,9 @@ pub record PutsMarks (old new : Variables) (ls : List ℕ) : Type 0 where
   pub free_globals : new.free_globals ≡ old.free_globals
   pub free_solvers : new.free_solvers ≡ old.free_solvers
 
--- The names of the literals were introduced, their variables have indices, and the last step makes the literals the
--- assumptions. This holds for any outcome of the ask.
+-- `IntroducesAssumptions old new from to user t` holds if the names of the literals `user` were introduced, their
+-- variables have indices, and the last step makes the literals the assumptions. This holds for any outcome of the
+-- ask.
 pub record IntroducesAssumptions (old new : Variables) (from to : List Step) (user : List ℕ) (t : MappedLits) : Type 0 where
   pub does : (o : Outcome) → NamesEffect old new from to (introduce_all (names_in user)) (λ j. introducing (names_in user) j ++ (Opens (map user_literal user) o ∷ []))
   pub extends : ExtendsNames old new

@@ -15,7 +15,8 @@ use Rattle.sat_solver.specs.variables.NamingSteps.{IsDue, IsLiteralsStep}
 use Rattle.sat_solver.specs.declared.variables.Variables.{Variables}
 use Rattle.sat_solver.specs.declared.load.literals.MappedLits.{MappedLits}
 
--- the names of the clause were introduced, their variables have indices, and the last step adds the clause
+-- `IntroducesClause old new from to user t both_signs` holds if the names of the clause `user` were introduced, their
+-- variables have indices, and the last step adds the clause. `both_signs` says whether it is a tautology.
 pub record IntroducesClause (old new : Variables) (from to : List Step) (user : List ℕ) (t : MappedLits) (both_signs : Bool) : Type 0 where
   pub does : NamesEffect old new from to (λ j. with_clause (map user_literal user) (introduce_all (names_in user) j)) (λ j. introducing (names_in user) j ++ (Adds (map user_literal user) ∷ []))
   pub signs : both_signs ≡ is_tautology t.order.items
@@ -30,7 +31,8 @@ pub record IntroducesClause (old new : Variables) (from to : List Step) (user : 
   pub search : KeepsSearch (session_after from) (session_after between)
   pub comes : OnlyAllowedSteps (IsLiteralsStep (names_in user)) from to
 
--- the names of the clause were introduced; no step adds the clause, since the clauses are known to be unsatisfiable
+-- `LeavesOut old new from to user` holds if the names of the clause `user` were introduced and no step adds it, since
+-- the clauses are known to be unsatisfiable
 pub record LeavesOut (old new : Variables) (from to : List Step) (user : List ℕ) : Type 0 where
   pub does : NamesEffect old new from to (λ j. with_clause (map user_literal user) (introduce_all (names_in user) j)) (introducing (names_in user))
   pub extends : ExtendsNames old new

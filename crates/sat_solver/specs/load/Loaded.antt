@@ -15,26 +15,30 @@ use Rattle.sat_solver.specs.cdcl.StepEffects.{EmitsSteps, EmitsStepsOr}
 use Rattle.sat_solver.specs.cdcl.Joint.{global_in, SearchInvariant, SameVarsAndAssumptions}
 use Rattle.sat_solver.specs.declared.context.Search.{Search}
 
--- a clause that may be loaded at level 0: its literals are over different variables that exist
+-- `CanLoad c ls` holds if the clause `ls` may be loaded at level 0: its literals are over different variables that
+-- exist
 pub record CanLoad (c : Search) (ls : List ℕ) : Type 0 where
   pub bottom : c.parts.trail.starts ≡ []
   pub differ : AreDistinct ls
   pub plain : is_tautology ls ≡ false
   pub below : (k : ℕ) → k < length ls → get_or ls k 0 < 2 * length c.parts.assignment.current
 
--- the last step added the clause, its variables have indices, and the search matched the session before that step
+-- `IsAdded steps c ls` holds if the last step added the clause `ls`, its variables have indices, and the search
+-- matched the session before that step
 pub record IsAdded (steps : List Step) (c : Search) (ls : List ℕ) : Type 0 where
   pub earlier : List Step
   pub added : steps ≡ AddClause (map (with_var (global_in c)) ls) ∷ earlier
   pub search : SearchInvariant (session_after earlier) c
   pub named : AreMapped (global_in c) (session_after earlier).solver_names ls
 
--- the invariant of the search holds or, if the flag is false, unsat is recorded
+-- `SearchInvariantOrUnsat left s c` holds if the invariant of the search holds or, if the flag is false, unsat is
+-- recorded
 abbrev pub SearchInvariantOrUnsat : Bool → Session → Search → Type 0
 SearchInvariantOrUnsat true s c = SearchInvariant s c
 SearchInvariantOrUnsat false s c = s.unsat ≡ true
 
--- a clause was loaded, and the search is at level 0; variables and assumptions are unchanged
+-- `IsLoaded left s c c'` holds if the search is at level 0, and its invariant holds or, if the flag is false, unsat
+-- is recorded; variables and assumptions are unchanged
 pub record IsLoaded (left : Bool) (s : Session) (c c' : Search) : Type 0 where
   pub goes_on : SearchInvariantOrUnsat left s c'
   pub moved : SameVarsAndAssumptions c c'
@@ -44,14 +48,17 @@ pub record IsLoaded (left : Bool) (s : Session) (c c' : Search) : Type 0 where
 abbrev pub satisfied_step : (global : ℕ → ℕ) → List ℕ → Step
 satisfied_step global ls = DeleteClause (map (with_var global) ls) Satisfied
 
--- exactly this step was made, or the call failed
+-- `DeletesSatisfied seen r p p' global ls` holds if exactly the step was made that deletes the clause `ls` because
+-- one of its literals is true, or the call failed
 abbrev pub DeletesSatisfied : {W L : Type 0} {G : Ghosts L} → (W → Writer) → Result (Unit {0}) SolverError → Proof W L G → Proof W L G → (global : ℕ → ℕ) → List ℕ → Type 0
 DeletesSatisfied seen r p p' global ls = EmitsSteps seen r p p' (λ _ _. steps_of p' ≡ satisfied_step global ls ∷ steps_of p)
 
--- the same, and the result is that the formula may still be satisfiable
+-- `DeletesTrue seen r p p' global ls` holds if exactly the step was made that deletes the clause `ls` because one of
+-- its literals is true, and the result is that the formula may still be satisfiable, or the call failed
 abbrev pub DeletesTrue : {W L : Type 0} {G : Ghosts L} → (W → Writer) → Result Bool SolverError → Proof W L G → Proof W L G → (global : ℕ → ℕ) → List ℕ → Type 0
 DeletesTrue seen r p p' global ls = EmitsSteps seen r p p' (λ left _. (left ≡ true) × (steps_of p' ≡ satisfied_step global ls ∷ steps_of p))
 
--- a clause was loaded; the result says whether the formula may still be satisfiable
+-- `LoadsClause seen r p p' c c'` holds if a clause was loaded and the result says whether the formula may still be
+-- satisfiable, or the call failed; `StoreFull` only if the buffer is full
 abbrev pub LoadsClause : {W L : Type 0} {G : Ghosts L} → (W → Writer) → Result Bool SolverError → Proof W L G → Proof W L G → Search → Search → Type 0
 LoadsClause seen r p p' c c' = EmitsStepsOr (IsFull c'.parts) seen r p p' (λ left _. IsLoaded left (session_of p') c c')

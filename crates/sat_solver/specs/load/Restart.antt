@@ -8,7 +8,8 @@ use Rattle.sat_solver.specs.session.Session.{Session}
 use Rattle.sat_solver.specs.cdcl.Joint.{IsFree, SearchInvariant, SameVarsAndAssumptions}
 use Rattle.sat_solver.specs.declared.context.Search.{Search}
 
--- all levels were undone: clauses, units, variables and assumptions are unchanged, and the invariant of the search is preserved
+-- `FullyRestarted c c'` holds if all levels were undone: clauses, units, variables and assumptions are unchanged, and
+-- the invariant of the search is preserved
 pub record FullyRestarted (c c' : Search) : Type 0 where
   pub bottom : c'.parts.trail.starts ≡ []
   pub holds : SearchStateInvariant c'.parts

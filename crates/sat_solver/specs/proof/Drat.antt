@@ -10,7 +10,7 @@ use Rattle.sat_solver.specs.proof.DratText.{DratLine, Derives, Deletes, drat_lin
 use Rattle.sat_checker.specs.Contents.{more_if}
 use Rattle.sat_solver.specs.session.Session.{AreAllowedSteps, session_after}
 
--- how often this set is in the list
+-- `times set clauses` is the number of clauses in the list that have the same literals as `set`
 abbrev pub times : List ℕ → List (List ℕ) → ℕ
 times set [] = 0
 times set (c ∷ cs) = more_if (same_literals c set) (times set cs)
@@ -40,28 +40,30 @@ abbrev pub present : List Step → List (List ℕ)
 present [] = []
 present (step ∷ earlier) = following_step step (present earlier)
 
--- some present clauses are unit in turn under the assumed literals, and the last one is falsified
+-- `RefutesByUnits cs assumed` holds if some of the clauses `cs` are unit in turn under the assumed literals, and the
+-- last one is falsified
 pub record RefutesByUnits (cs : List (List ℕ)) (assumed : List ℕ) : Type 0 where
   pub named : List (List ℕ)
   pub are_present : AllByRecursion (λ c. 0 < times c cs) named
   pub turns : UnitInTurn assumed named
 
--- whether a line is correct: unit propagation refutes the negation of a derived clause, and a deleted clause is
--- present
+-- `DratLineIsRight line cs` holds if the line is correct: unit propagation refutes the negation of a derived clause,
+-- and a deleted clause is present
 abbrev pub DratLineIsRight : DratLine → List (List ℕ) → Type 0
 DratLineIsRight (Derives clause) cs = RefutesByUnits cs (map negated clause)
 DratLineIsRight (Deletes clause) cs = 0 < times (canonical clause) cs
 
--- all lines are correct, each after the lines before it
+-- `DratLinesAreRight lines cs` holds if all lines are correct, each after the lines before it
 abbrev pub DratLinesAreRight : List DratLine → List (List ℕ) → Type 0
 DratLinesAreRight [] cs = Unit {0}
 DratLinesAreRight (x ∷ xs) cs = DratLineIsRight x cs × DratLinesAreRight xs (after_line x cs)
 
--- the lines of every step are correct after the steps before it
+-- `IsDratDerivation steps` holds if the lines of every step are correct after the steps before it
 abbrev pub IsDratDerivation : List Step → Type 0
 IsDratDerivation [] = Unit {0}
 IsDratDerivation (step ∷ earlier) = IsDratDerivation earlier × DratLinesAreRight (drat_lines step) (present earlier)
 
--- allowed steps give a DRAT derivation, and once they have recorded unsat, unit propagation refutes the clauses that are left
+-- `DratIsRight` holds if allowed steps give a DRAT derivation and, once they have recorded unsat, unit propagation
+-- refutes the clauses that are left
 abbrev pub DratIsRight : Type 0
 DratIsRight = (steps : List Step) → AreAllowedSteps steps → IsDratDerivation steps × ((session_after steps).unsat ≡ true → RefutesByUnits (present steps) [])

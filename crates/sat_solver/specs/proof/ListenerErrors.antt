@@ -4,7 +4,7 @@ use Rattle.anyhow.specs.declared.error.Error.{Error}
 use Rattle.sat_solver.specs.declared.proof.emitted.CheckFault.{CheckFault}
 use Rattle.sat_solver.specs.declared.proof.emitted.CheckFault.TheVariants as checks
 
--- if the fault is a processor's error, this error is stored
+-- `IsListenerError fault complaint` holds if `complaint` is the processor's error, whenever the fault is one
 abbrev pub IsListenerError : CheckFault → Option Error → Type 0
 IsListenerError checks.OutOfMemory complaint = Unit {0}
 IsListenerError checks.CounterEnd complaint = Unit {0}

@@ -23,7 +23,7 @@ step_text Varisat step = step_bytes step
 step_text Drat step = drat_text false step
 step_text BinaryDrat step = drat_text true step
 
--- in the byte format, the text spells the step
+-- `SpellsIn f step` holds if the text spells the step, whenever the format is `Varisat`
 abbrev pub SpellsIn : ProofFormat → Step → Type 0
 SpellsIn Varisat step = SpellsStep step (step_bytes step)
 SpellsIn Drat step = Unit {0}
@@ -34,22 +34,24 @@ abbrev pub text_in : ProofFormat → List Step → List ℕ
 text_in f [] = []
 text_in f (step ∷ earlier) = text_in f earlier ++ step_text f step
 
--- in the byte format, the text of each of these steps spells it
+-- `AreSpeltInFormat f steps` holds if the text of each of these steps spells it, whenever the format is `Varisat`
 abbrev pub AreSpeltInFormat : ProofFormat → List Step → Type 0
 AreSpeltInFormat f = AllByRecursion (SpellsIn f)
 
--- the text of these steps was written to a sink, or is pending in it
+-- `SendsSteps f steps old new` holds if the text of these steps was written to a sink, or is pending in it
 pub record SendsSteps (f : ProofFormat) (steps : List Step) (old new : Sink) : Type 0 where
   pub spelt : AreSpeltInFormat f steps
   pub sent : AddsToSink old new (text_in f steps)
 
--- the result of writing steps
+-- `PutsSteps f result steps old new` is the result of writing steps to a sink; if memory runs out, the sink is
+-- unchanged
 abbrev pub PutsSteps : ProofFormat → Result (Unit {0}) OutputError → List Step → Sink → Sink → Type 0
 PutsSteps f (Ok x) steps old new = SendsSteps f steps old new
 PutsSteps f (Err (Write e)) steps old new = WriterFails old.writer new.writer (old.waiting ++ text_in f steps)
 PutsSteps f (Err OutOfMemory) steps old new = new ≡ old
 
--- the result of writing the lines of a step
+-- `PutsLines binary result step old new` is the result of writing the lines of a step; if memory runs out, the writer
+-- is unchanged
 abbrev pub PutsLines : Bool → Result (Unit {0}) OutputError → Step → Writer → Writer → Type 0
 PutsLines binary (Ok x) step old new = WriterAccepts old new (drat_text binary step)
 PutsLines binary (Err (Write e)) step old new = WriterFails old new (drat_text binary step)
@@ -57,13 +59,13 @@ PutsLines binary (Err OutOfMemory) step old new = new ≡ old
 
 -- OUTPUTS
 
--- whether steps are written as DRAT lines
+-- `is_lines f` is true if steps are written as DRAT lines
 abbrev pub is_lines : ProofFormat → Bool
 is_lines Varisat = false
 is_lines Drat = true
 is_lines BinaryDrat = true
 
--- DRAT, in binary or in decimal
+-- the DRAT format, in binary if the flag is set, otherwise in decimal
 abbrev pub lines_format : Bool → ProofFormat
 lines_format false = Drat
 lines_format true = BinaryDrat

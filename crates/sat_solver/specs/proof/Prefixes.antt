@@ -15,8 +15,8 @@ use Rattle.sat_solver.specs.declared.proof.hash_bits.Counting.{Counting}
 use Rattle.sat_solver.specs.declared.proof.format.ProofFormat.{ProofFormat}
 use Rattle.sat_solver.specs.declared.proof.Proof.{Proof}
 
--- The target received a prefix of the text that was written for these steps. All written steps are allowed, and a
--- checker accepts them.
+-- `PrefixText f from given steps` holds if the target received a prefix of the text that was written for these steps.
+-- All written steps are allowed, and a checker accepts them.
 pub record PrefixText (f : ProofFormat) (from given : Writer) (steps : List Step) : Type 0 where
   pub written : List Step
   pub counting : Counting
@@ -29,27 +29,27 @@ pub record PrefixText (f : ProofFormat) (from given : Writer) (steps : List Step
   pub taken : given.taken ≡ from.taken ++ front
   pub known_bytes : Appends from.contents given.contents front
 
--- Of the steps made after `before`, the target received a prefix of the text of the oldest ones. The others are not
--- constrained.
+-- `PrefixSince f from given before now` holds if, of the steps made after `before`, the target received a prefix of
+-- the text of the oldest ones. The others are not constrained.
 pub record PrefixSince (f : ProofFormat) (from given : Writer) (before now : List Step) : Type 0 where
   pub later : List Step
   pub steps : List Step
   pub following : now ≡ later ++ (steps ++ before)
   pub front : PrefixText f from given steps
 
--- these steps were made, and the target received their text, or a call of it failed while writing the text of the
--- oldest ones
+-- `TargetTakesPrefix old steps new` holds if the target received the text of these steps, or a call of it failed
+-- while writing the text of the oldest ones
 abbrev pub TargetTakesPrefix : Target → List Step → Target → Type 0
 TargetTakesPrefix old steps new = TargetTakes old steps new ⊎ ((later : List Step) × (first : List Step) × (steps ≡ later ++ first) × TargetFails old first new)
 
--- steps were made, and a call of the target may have failed
+-- `MakesSteps seen old new` holds if steps were made, and a call of the target may have failed
 pub record MakesSteps {W L : Type 0} {G : Ghosts L} (seen : W → Writer) (old new : Proof W L G) : Type 0 where
   pub steps : List Step
   pub history : steps_of new ≡ steps ++ steps_of old
   pub target : TargetTakesPrefix (target_of seen old) steps (target_of seen new)
 
--- Let a target be opened before any step other than ends of proofs, and be returned after allowed steps. Then it has
--- received a prefix of the text of accepted steps.
+-- `PrefixesAreAccepted` holds if every target that is opened before any step other than ends of proofs, and returned
+-- after allowed steps, has received a prefix of the text of accepted steps
 abbrev pub PrefixesAreAccepted : Type 0
 PrefixesAreAccepted = (f : ProofFormat) (from given : Writer) (before steps : List Step) (now : Target) → has_begun before ≡ false → AreAllowedSteps (steps ++ before)
     → TargetTakesPrefix (Open f nothing_counted (empty_sink from)) steps now → GivesWriter now (Some given) → PrefixSince f from given before (steps ++ before)

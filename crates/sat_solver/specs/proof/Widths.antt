@@ -3,34 +3,34 @@ use Rattle.std.specs.Prelude.{ℕ, ◌-◌, ◌/◌, ◌^◌, ◌≡◌, List, [
 use Rattle.sat_base.specs.steps.Steps.{Step, AtClause, UnitClauses, ChangeHashBits, FailedAssumptions}
 use Rattle.sat_solver.specs.session.Session.{AreAllowedSteps, session_after}
 
--- the top bits of a hash
+-- `kept_bits width hash` is the top `width` bits of a hash
 abbrev pub kept_bits : ℕ → ℕ → ℕ
 kept_bits width hash = hash / 2 ^ (64 - width)
 
--- the step with only this many top bits of its hashes
+-- `narrowed width step` is the step with only the top `width` bits of its hashes
 abbrev pub narrowed : ℕ → Step → Step
 narrowed width (AtClause redundant clause hashes) = AtClause redundant clause (map (kept_bits width) hashes)
 narrowed width (UnitClauses us) = UnitClauses (map (λ u. (u.0, kept_bits width u.1)) us)
 narrowed width (FailedAssumptions core hashes) = FailedAssumptions core (map (kept_bits width) hashes)
 narrowed width step = step
 
--- the step does not change the width
+-- `KeepsWidth step` holds if the step does not change the width
 abbrev pub KeepsWidth : Step → Type 0
 KeepsWidth (ChangeHashBits bits) = ⊥
 KeepsWidth step = Unit {0}
 
--- Steps with complete hashes, what is written for them, and the last width. The width may change before any step.
--- Lists have the newest step first.
+-- `IsNarrowedTo wide written width` holds if `written` is what is written for steps with complete hashes, and the
+-- last width is `width`. The width may change before any step. Lists have the newest step first.
 pub data IsNarrowedTo : List Step → List Step → ℕ → Type 0 where
   none_yet : IsNarrowedTo [] [] 64
   width_changes : {wide written : List Step} {width : ℕ} (bits : ℕ) → IsNarrowedTo wide written width → IsNarrowedTo wide (ChangeHashBits bits ∷ written) bits
   one_more : {wide written : List Step} {width : ℕ} (step : Step) → KeepsWidth step → IsNarrowedTo wide written width → IsNarrowedTo (step ∷ wide) (narrowed width step ∷ written) width
 
--- what is written is allowed, and leaves the same session except for its width
+-- `MayAt wide written width` holds if what is written is allowed, and leaves the same session except for its width
 pub record MayAt (wide written : List Step) (width : ℕ) : Type 0 where
   pub may : AreAllowedSteps written
   pub session : session_after written ≡ record (session_after wide) { width = width }
 
--- at whatever widths allowed steps are written, what is written is allowed
+-- `WidthsAreFree` holds if, at whatever widths allowed steps are written, what is written is allowed
 abbrev pub WidthsAreFree : Type 0
 WidthsAreFree = (wide written : List Step) (width : ℕ) → IsNarrowedTo wide written width → AreAllowedSteps wide → MayAt wide written width

@@ -1,25 +1,27 @@
 -- The number of rounds.
 use Rattle.std.specs.Prelude.{ℕ, ◌≡◌, ◌+◌, ◌-◌, ◌*◌, ◌<◌, ◌≤◌, ◌^◌, min, Option, None, Result, IfOk}
 
--- The number of rounds that a call may make: its budget, or the rounds that are left if these are fewer. All rounds
--- together are at most 2^64-1.
+-- `round_allowance budget before` is the number of rounds that a call may make after the first `before`: its budget,
+-- or the rounds that are left if these are fewer. All rounds together are at most 2^64-1.
 abbrev pub round_allowance : (budget before : ℕ) → ℕ
 round_allowance budget before = min budget (2 ^ 64 - 1 - before)
 
--- the number of rounds did not fall; the call made no more than it may, and fewer than 2^(2n+3) over n variables
+-- `CountsOn n budget before now` holds if the number of rounds did not fall, and the call made no more than it may,
+-- and fewer than 2^(2n+3) over `n` variables
 pub record CountsOn (n budget before now : ℕ) : Type 0 where
   pub more : before ≤ now
   pub within : now ≤ before + round_allowance budget before
   pub few : now < before + 2 ^ (2 * n + 3)
 
--- an answer takes at least one round
+-- `TakesRound r before now` holds if a call that returned an answer made at least one round
 abbrev pub TakesRound : {T E : Type 0} → Result (Option T) E → (before now : ℕ) → Type 0
 TakesRound r before now = IfOk r (λ o. (o ≡ None → ⊥) → before < now)
 
--- without an answer, the call made all of its rounds
+-- `SpendsRounds r rounds before now` holds if a call that returned no answer made exactly this number of rounds
 abbrev pub SpendsRounds : {T E : Type 0} → Result (Option T) E → (rounds before now : ℕ) → Type 0
 SpendsRounds r rounds before now = IfOk r (λ o. o ≡ None → now ≡ before + rounds)
 
--- there is an answer if `rounds` is at least 2^(2n+3) for some n that is at least `most`
+-- `AnswersWithin r most rounds` holds if a call that succeeds returns an answer whenever `rounds` is at least
+-- 2^(2n+3) for some n that is at least `most`
 abbrev pub AnswersWithin : {T E : Type 0} → Result (Option T) E → (most rounds : ℕ) → Type 0
 AnswersWithin r most rounds = (n : ℕ) → most ≤ n → 2 ^ (2 * n + 3) ≤ rounds → IfOk r (λ o. o ≡ None → ⊥)

@@ -6,18 +6,21 @@ use Rattle.sat_solver.specs.declared.schedule.restarts.Restarts.{Restarts}
 use Rattle.sat_solver.specs.declared.schedule.RoundOutcome.{RoundOutcome}
 use Rattle.sat_solver.specs.declared.schedule.RoundOutcome.TheVariants as outcomes
 
--- a gap begins before this round: its length is the next term of the sequence times the scale, and it is counted
+-- `BeginsGap round old new` holds if a gap begins before this round: its length is the next term of the sequence
+-- times the scale, and it is counted
 pub record BeginsGap (round : ℕ) (old new : Restarts) : Type 0 where
   pub given : new.sequence ≡ wrapped_number (old.sequence + 1)
   pub scale : new.scale ≡ old.scale
   pub next : new.next ≡ gap_end round (luby (old.sequence + 1)) old.scale
   pub count : new.count ≡ min (old.count + 1) (2 ^ 64 - 1)
 
--- if a gap ends before this round, there was a restart; otherwise nothing changed
+-- `RestartsWhereDue restarted round a r b s` holds if a gap ends before this round and there was a restart, or none
+-- ends and nothing changed
 abbrev pub RestartsWhereDue : {A : Type 0} (restarted : A → A → Type 0) → (round : ℕ) → A → Restarts → A → Restarts → Type 0
 RestartsWhereDue restarted round a r b s = ((round < r.next) × (b ≡ a) × (s ≡ r)) ⊎ ((r.next ≤ round) × restarted a b × BeginsGap round r s)
 
--- the round with this number and its outcome: a restart if one is due, a reduction, and then the search
+-- `IsRound restarted reduced rounded round outcome a n r b m s` holds if the round with this number had this outcome:
+-- a restart if one is due, a reduction, and then the search
 pub record IsRound {A N : Type 0} (restarted : A → A → Type 0) (reduced : A → ℕ → A → Type 0) (rounded : A → N → RoundOutcome → A → N → Type 0) (round : ℕ) (outcome : RoundOutcome) (a : A) (n : N) (r : Restarts) (b : A) (m : N) (s : Restarts) : Type 0 where
   pub after_restart : A
   pub due : RestartsWhereDue restarted round a r after_restart s
@@ -25,12 +28,14 @@ pub record IsRound {A N : Type 0} (restarted : A → A → Type 0) (reduced : A 
   pub reduction : reduced after_restart round after_reduction
   pub ends : rounded after_reduction n outcome b m
 
--- rounds one after another, each of which learned a clause
+-- `AreRounds restarted reduced rounded a n r k b m s j` holds if the rounds with the numbers from `k` to below `j`
+-- lead from `a`, `n`, `r` to `b`, `m`, `s`, and each of them learned a clause
 pub data AreRounds {A N : Type 0} (restarted : A → A → Type 0) (reduced : A → ℕ → A → Type 0) (rounded : A → N → RoundOutcome → A → N → Type 0) : A → N → Restarts → ℕ → A → N → Restarts → ℕ → Type 0 where
   no_round : {a : A} {n : N} {r : Restarts} {k : ℕ} → AreRounds restarted reduced rounded a n r k a n r k
   one_more : {a b c : A} {n m l : N} {r s t : Restarts} {k j : ℕ} → AreRounds restarted reduced rounded a n r k b m s j → IsRound restarted reduced rounded j outcomes.Learned b m s c l t → AreRounds restarted reduced rounded a n r k c l t (j + 1)
 
--- rounds that each learned a clause and, if there is an outcome, one more round with this outcome
+-- `LastRoundAnswers restarted reduced rounded answer a n r k b m s j` holds if each of the rounds learned a clause,
+-- except that the last one has this outcome, if there is one
 abbrev pub LastRoundAnswers : {A N : Type 0} (restarted : A → A → Type 0) (reduced : A → ℕ → A → Type 0) (rounded : A → N → RoundOutcome → A → N → Type 0) → Option RoundOutcome → A → N → Restarts → ℕ → A → N → Restarts → ℕ → Type 0
 LastRoundAnswers restarted reduced rounded None a n r k b m s j = AreRounds restarted reduced rounded a n r k b m s j
 LastRoundAnswers {A} {N} restarted reduced rounded (Some o) a n r k b m s j =

@@ -13,30 +13,32 @@ use Rattle.sat_parts.specs.declared.parts.SearchState.{SearchState}
 use Rattle.sat_parts.specs.parts.Whole.{state, IsRefuted}
 use Rattle.sat_solver.specs.session.Fits.{SessionMatchesParts, TrueLitsHaveNames}
 
--- Each of these live clauses has at most one literal that is not false so far, which holds from then on. All reached
--- literals hold after these clauses.
+-- `UnitPropagates s holds cs reached` holds if all literals of `reached` hold after unit propagation with the clauses
+-- `cs`: each is live and has at most one literal that is not false so far, which holds from then on
 abbrev pub UnitPropagates : Session → (ℕ → Bool) → List (List ℕ) → (ℕ → Bool) → Type 0
 UnitPropagates s holds [] reached = (l : ℕ) → reached l ≡ true → holds l ≡ true
 UnitPropagates s holds (c ∷ cs) reached = IsLive s c × ((o : ℕ) × AllByRecursion (λ l. (l ≡ o) ⊎ (holds (negated l) ≡ true)) c × (is_among c o ≡ true) × UnitPropagates s (λ l. (o == l) || holds l) cs reached)
 
--- the reached literals neither satisfy nor falsify the literal, and falsify no live clause
+-- `StaysUnassignedInSession s l reached` holds if the reached literals neither satisfy nor falsify the literal `l`, and
+-- falsify no live clause
 pub record StaysUnassignedInSession (s : Session) (l : ℕ) (reached : ℕ → Bool) : Type 0 where
   pub not_true : reached l ≡ false
   pub not_false : reached (negated l) ≡ false
   pub no_conflict : (c : List ℕ) → IsLive s c → AllByRecursion (λ m. reached (negated m) ≡ true) c → ⊥
 
--- no two of these literals are negations of each other
+-- `AreConsistent holds` holds if no two literals that hold are negations of each other
 abbrev pub AreConsistent : (ℕ → Bool) → Type 0
 AreConsistent holds = (l : ℕ) → holds l ≡ true → holds (negated l) ≡ false
 
--- The units and the negations of a clause's other literals are consistent and leave its first literal open. No live clauses that are unit
--- in turn under them assign it, and none is falsified.
+-- `IsEmpowering s clause` holds if the units and the negations of a clause's other literals are consistent and leave
+-- its first literal unassigned. No live clauses that are unit in turn under them assign it, and none is falsified.
 pub record IsEmpowering (s : Session) (clause : List ℕ) : Type 0 where
   pub some : 0 < length clause
   pub agree : AreConsistent (rup_assumptions s (drop 1 clause))
   pub stays : (picked : List (List ℕ)) (reached : ℕ → Bool) → UnitPropagates s (rup_assumptions s (drop 1 clause)) picked reached → StaysUnassignedInSession s (get_or clause 0 0) reached
 
--- whichever live clauses of the session are used, the first literal of a learned clause stays new
+-- `LearnedIsEmpoweringInSession` holds if the first literal of a learned clause stays unassigned, whichever live
+-- clauses of the session are used
 abbrev pub LearnedIsEmpoweringInSession : Type 0
 LearnedIsEmpoweringInSession =
     (p : SearchState) (e : Conflict) (w : AnalysisState) (back : ℕ) (s : Session) (global : ℕ → ℕ) (picked : List (List ℕ)) (reached : ℕ → Bool) → IsRefuted p e → SessionMatchesParts p s global → TrueLitsHaveNames p.assignment.current s global → AnalysisResult p.clauses (state p) (falsified p.clauses e) w back →

@@ -6,8 +6,9 @@ use Rattle.sat_checker.specs.Contents.{count_of}
 use Rattle.sat_checker.specs.Invariants.{EachOnce, EachCounted}
 use Rattle.sat_solver.specs.session.Session.{Session}
 
--- Both have the same live clauses, with multiplicity, and the same units, unsat flag, variables, names, width and
--- assumptions. If the session records a set as derived last, the checker derived it last.
+-- `MatchesStored s f` holds if session and checker have the same live clauses, with multiplicity, and the same units,
+-- unsat flag, variables, names, width and assumptions. If the session records a set as derived last, the checker
+-- derived it last.
 pub record MatchesStored (s : Session) (f : Stored) : Type 0 where
   pub live : (r : Bool) (set : List ℕ) → count_of r set f.clauses ≡ s.live r set
   pub units : (l : ℕ) → is_unit f l ≡ s.units l

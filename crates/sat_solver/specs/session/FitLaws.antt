@@ -30,11 +30,11 @@ use Rattle.sat_solver.specs.session.Fits.{SessionMatches, SessionMatchesParts, T
 abbrev pub named_clauses : List ℕ → PropagationState → List ℕ → Conflict → List (List ℕ)
 named_clauses words st used e = map (clause_of words st) used ++ falsified words e ∷ []
 
--- their complete hashes, over search variables
+-- the complete hashes of the clauses that the step of a learned clause names, over search variables
 abbrev pub named_hashes : List ℕ → PropagationState → List ℕ → Conflict → List ℕ
 named_hashes words st used e = map (λ l. hash_of (clause_of words st l)) used ++ hash_of (falsified words e) ∷ []
 
--- a learned clause may be derived with these hashes
+-- `LearnedIsAllowed` holds if a learned clause may be derived with the hashes `named_hashes`
 abbrev pub LearnedIsAllowed : Type 0
 LearnedIsAllowed =
     (words live : List ℕ) (implied : List (List ℕ)) (st : PropagationState) (s : Session) (global : ℕ → ℕ) (e : Conflict) (w : AnalysisState) (back : ℕ) →
@@ -42,20 +42,20 @@ LearnedIsAllowed =
     IsConflict words live implied st.values e → AnalysisResult words st (falsified words e) w back →
     MayDerive s (map (with_var global) w.clause) (named_hashes words st w.used e)
 
--- if parts and session match and every variable of a clause is assigned, the true literals may be written as a
--- model, in any order
+-- `ModelIsAllowed` holds if the true literals may be written as a model, in any order, if parts and session match and
+-- every variable of a clause is assigned
 abbrev pub ModelIsAllowed : Type 0
 ModelIsAllowed =
     (p : SearchState) (s : Session) (global : ℕ → ℕ) (ls : List ℕ) → SessionMatchesParts p s global → TrueLitsHaveNames p.assignment.current s global → SearchStateInvariant p → AreTrueLits p.assignment.current ls → AllAssigned p → ClausesAreSatisfied p → IsAllowedStep s (Model (map (with_var global) ls))
 
--- After a conflict above level 0, let stored clauses be unit in turn under the units and the negations of the
--- learned clause's other literals. Then its first literal stays open, and no stored clause is falsified.
+-- `LearnedIsNew` holds if after a conflict above level 0, stored clauses that are unit in turn under the units and the
+-- negations of the learned clause's other literals leave its first literal unassigned and falsify no stored clause
 abbrev pub LearnedIsNew : Type 0
 LearnedIsNew =
     (p : SearchState) (e : Conflict) (w : AnalysisState) (back : ℕ) (units : List ℕ) (picked : List (List ℕ)) (reached : List ℕ) → IsRefuted p e → AnalysisResult p.clauses (state p) (falsified p.clauses e) w back → AreLevelZeroLits (state p) units →
     AllByRecursion (IsStored p.clauses (live_refs p.clauses p.db.refs) p.binary.implied) picked → UnitPropagateTo (map negated (drop 1 w.clause) ++ units) picked reached →
     StaysUnassigned p.clauses (live_refs p.clauses p.db.refs) p.binary.implied (get_or w.clause 0 0) reached
 
--- a search without variables and clauses matches the empty session
+-- `NothingFits` holds if a search without variables and clauses matches the empty session
 abbrev pub NothingFits : Type 0
 NothingFits = (words : List ℕ) (st : PropagationState) (global : ℕ → ℕ) → st.values ≡ [] → st.trail.lits ≡ [] → SessionMatches words [] [] st empty_session global

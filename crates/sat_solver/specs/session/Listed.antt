@@ -14,8 +14,8 @@ use Rattle.sat_parts.specs.parts.Whole.{state}
 use Rattle.sat_parts.specs.parts.Frame.{IsUnitLit}
 use Rattle.sat_solver.specs.session.Fits.{is_redundant}
 
--- The live clauses of the session are these. Every unit of the search is a unit of the session, and units of the
--- session are true at level 0.
+-- `FitsList cs st s global` holds if the live clauses of the session are `cs`. Every unit of the search is a unit of
+-- the session, and units of the session are true at level 0. Unsat is not recorded, and the width is 64.
 pub record FitsList (cs : List LiveClause) (st : PropagationState) (s : Session) (global : ℕ → ℕ) : Type 0 where
   pub clauses : AreOf s global cs
   pub known : (l : ℕ) → IsUnitLit st l → s.units (with_var global l) ≡ true
@@ -23,19 +23,19 @@ pub record FitsList (cs : List LiveClause) (st : PropagationState) (s : Session)
   pub consistent : s.unsat ≡ false
   pub width : s.width ≡ 64
 
--- the two sessions have the same units, indices, unsat flag and width
+-- `SameFacts s t` holds if the two sessions have the same units, indices, unsat flag and width
 pub record SameFacts (s t : Session) : Type 0 where
   pub names : (v : ℕ) → t.solver_names v ≡ s.solver_names v
   pub units : (l : ℕ) → t.units l ≡ s.units l
   pub unsat : t.unsat ≡ s.unsat
   pub width : t.width ≡ s.width
 
--- no live clause has both signs of a variable
+-- `ArePlain s` holds if no live clause has both signs of a variable
 abbrev pub ArePlain : Session → Type 0
 ArePlain s = (r : Bool) (set : List ℕ) → 0 < s.live r set → is_tautology set ≡ false
 
--- a step that leaves clauses, units, indices and width unchanged: it is about names, modes, assumptions, answers or
--- the end
+-- `ChangesNoClause step` holds if the step leaves clauses, units, indices and width unchanged: it is about names,
+-- modes, assumptions, answers or the end
 abbrev pub ChangesNoClause : Step → Type 0
 ChangesNoClause (UserVarName v name) = Unit {0}
 ChangesNoClause (ChangeSamplingMode v sample) = Unit {0}
@@ -45,7 +45,7 @@ ChangesNoClause (FailedAssumptions core hashes) = Unit {0}
 ChangesNoClause End = Unit {0}
 ChangesNoClause step = ⊥
 
--- The parts match the session, except for binary clauses with an assigned variable that were removed from the
--- session. All lists before list l, and the first k literals of list l, were visited.
+-- `LeftParts p s global l k` holds if the parts match the session, except for binary clauses with an assigned variable
+-- that were removed from the session. All lists before list `l`, and the first `k` literals of list `l`, were visited.
 abbrev pub LeftParts : SearchState → Session → (ℕ → ℕ) → (l k : ℕ) → Type 0
 LeftParts p s global l k = FitsList (binaries_left p.assignment.current p.binary.implied l k ++ longs (is_redundant p.clauses) p.clauses (live_refs p.clauses p.db.refs)) (state p) s global

@@ -12,12 +12,12 @@ pub record LiveClause : Type 0 where
   pub redundant : Bool
   pub literals : List ℕ
 
--- how many of these clauses have this redundancy and this set of literals
+-- the number of clauses in the list that have this redundancy and this set of literals
 abbrev pub live_count_of : List LiveClause → Bool → List ℕ → ℕ
 live_count_of [] r set = 0
 live_count_of (c ∷ cs) r set = more_if (same_side c.redundant r && same_literals (canonical c.literals) set) (live_count_of cs r set)
 
--- the clause is in the list, with its literals in the same order
+-- `IsIn c cs` holds if the clause is in the list, with its literals in the same order
 abbrev pub IsIn : LiveClause → List LiveClause → Type 0
 IsIn c [] = ⊥
 IsIn c (d ∷ ds) = (c ≡ d) ⊎ IsIn c ds
@@ -30,12 +30,13 @@ with_var global l = 2 * global (l / 2) + l % 2
 abbrev pub mapped : (ℕ → ℕ) → LiveClause → LiveClause
 mapped global c = record c { literals = map (with_var global) c.literals }
 
--- the variable of every literal is the index of the proof variable that it is mapped to
+-- `AreMapped global names ls` holds if the variable of every literal is the index of the proof variable that it is
+-- mapped to
 abbrev pub AreMapped : (ℕ → ℕ) → (ℕ → Option ℕ) → List ℕ → Type 0
 AreMapped global names = AllByRecursion (λ l. names (global (variable l)) ≡ Some (variable l))
 
--- the live clauses of a solver are those of the session: different literals over variables that have indices, and every set with
--- the same multiplicity
+-- `AreOf s global cs` holds if the live clauses `cs` of a solver are those of the session: different literals over
+-- variables that have indices, and every set with the same multiplicity
 pub record AreOf (s : Session) (global : ℕ → ℕ) (cs : List LiveClause) : Type 0 where
   pub named : (c : LiveClause) → IsIn c cs → AreMapped global s.solver_names c.literals
   pub once : (c : LiveClause) → IsIn c cs → NoRepeats c.literals

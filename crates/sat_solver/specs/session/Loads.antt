@@ -8,8 +8,9 @@ use Rattle.sat_parts.specs.declared.parts.load.Loaded.{Loaded}
 use Rattle.sat_parts.specs.declared.parts.load.Loaded.TheVariants.{Stored, Unit as One, Satisfied, Falsified}
 use Rattle.sat_solver.specs.session.Fits.{SessionMatchesParts}
 
--- The step adds the clause as it was given. A clause with a true literal is then deleted, with its literals in the
--- order `ls`, unless it has only one literal. The step of a falsified clause records unsat.
+-- `LoadFits loaded p s global given ls` holds if the session still matches after the step that adds the clause as it
+-- was given. A clause with a true literal is then deleted, with its literals in the order `ls`, unless it has only one
+-- literal. The step of a falsified clause records unsat.
 abbrev pub LoadFits : Loaded → SearchState → Session → (ℕ → ℕ) → (given ls : List ℕ) → Type 0
 LoadFits Stored p s global given ls = SessionMatchesParts p (after (AddClause (map (with_var global) given)) s) global
 LoadFits One p s global given ls = SessionMatchesParts p (after (AddClause (map (with_var global) given)) s) global

@@ -6,14 +6,14 @@ use Rattle.sat_checker.specs.declared.processing.ProofProcessor.{Ghosts}
 use Rattle.sat_solver.specs.proof.ProofView.{EmitsExactly, FailsToEmit, EmitsChecked}
 use Rattle.sat_solver.specs.declared.proof.Proof.{Proof}
 
--- steps were made and written
+-- `ComesBySteps seen old new` holds if steps were made and written
 abbrev pub ComesBySteps : {W L : Type 0} {G : Ghosts L} → (W → Writer) → Proof W L G → Proof W L G → Type 0
 ComesBySteps seen old new = (steps : List Step) × EmitsExactly seen steps old new
 
--- the same, the checker accepted them, and no ask began
+-- `ComesByCheckedSteps seen old new` holds if steps were made and written, the checker accepted them, and no ask began
 abbrev pub ComesByCheckedSteps : {W L : Type 0} {G : Ghosts L} → (W → Writer) → Proof W L G → Proof W L G → Type 0
 ComesByCheckedSteps seen old new = (steps : List Step) × EmitsChecked seen steps old new
 
--- steps were made, and a call of the target failed while their text was written
+-- `BreaksEmitting seen old new` holds if steps were made, and a call of the target failed while their text was written
 abbrev pub BreaksEmitting : {W L : Type 0} {G : Ghosts L} → (W → Writer) → Proof W L G → Proof W L G → Type 0
 BreaksEmitting seen old new = (steps : List Step) × FailsToEmit seen steps old new

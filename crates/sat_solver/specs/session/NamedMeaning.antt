@@ -11,17 +11,18 @@ use Rattle.sat_solver.specs.session.Session.{AreAllowedSteps, session_after}
 use Rattle.sat_solver.specs.session.LiveClauses.{with_var}
 use Rattle.sat_solver.specs.session.Promises.{added}
 
--- a valuation of proof variables and one of identities agree on every name in use, whose proof variable is
--- `variable_of`
+-- `AgreeOn j variable_of a b` holds if a valuation of proof variables and one of identities agree on every name in use,
+-- whose proof variable is `variable_of`
 abbrev pub AgreeOn : ScriptState → (ℕ → Option ℕ) → Valuation → Valuation → Type 0
 AgreeOn j variable_of a b = (name i v : ℕ) → identity_of j name ≡ Some i → variable_of name ≡ Some v → a v ≡ b i
 
--- for names in use, the steps admit the same valuations as the accepted clauses
+-- `MeansAcceptedClauses j variable_of steps` holds if the steps and the accepted clauses admit the same valuations of
+-- the names in use
 pub record MeansAcceptedClauses (j : ScriptState) (variable_of : ℕ → Option ℕ) (steps : List Step) : Type 0 where
   pub to : (a : Valuation) → Holds steps a → (b : Valuation) × AgreeOn j variable_of a b × EachHolds b j.clauses
   pub back : (b : Valuation) → EachHolds b j.clauses → (a : Valuation) × AgreeOn j variable_of a b × Holds steps a
 
--- a literal over a name in use, and the code of the literal over its proof variable
+-- `IsReadAs j variable_of l code` holds if `l` is over a name in use, and `code` is the literal over its proof variable
 pub record IsReadAs (j : ScriptState) (variable_of : ℕ → Option ℕ) (l : Literal) (code : ℕ) : Type 0 where
   pub identity : ℕ
   pub in_use : identity_of j l.name ≡ Some identity
@@ -29,48 +30,51 @@ pub record IsReadAs (j : ScriptState) (variable_of : ℕ → Option ℕ) (l : Li
   pub named : variable_of l.name ≡ Some var
   pub is : code ≡ mk_lit var l.positive
 
--- every literal is represented by one of these literals over proof variables
+-- `AllReadAmong j variable_of ls codes` holds if every literal in `ls` is represented by a literal over proof variables
+-- in `codes`
 abbrev pub AllReadAmong : ScriptState → (ℕ → Option ℕ) → List Literal → List ℕ → Type 0
 AllReadAmong j variable_of ls codes = AllByRecursion (λ l. (code : ℕ) × IsReadAs j variable_of l code × Among code codes) ls
 
--- every one of these literals over proof variables represents one of the literals over names
+-- `AllFrom j variable_of codes ls` holds if every literal over proof variables in `codes` represents a literal over
+-- names in `ls`
 abbrev pub AllFrom : ScriptState → (ℕ → Option ℕ) → List ℕ → List Literal → Type 0
 AllFrom j variable_of codes ls = AllByRecursion (λ code. (l : Literal) × IsReadAs j variable_of l code × Among l ls) codes
 
 -- CORRECT ANSWERS
 
--- a model that may be written gives a correct model over names, with one literal for every name in use
+-- `NamedModelsAreRight` holds if a model that may be written gives a correct model over names, with one literal for
+-- every name in use
 abbrev pub NamedModelsAreRight : Type 0
 NamedModelsAreRight = (j : ScriptState) (variable_of : ℕ → Option ℕ) (steps : List Step) (codes : List ℕ) (ask line : List Literal)
     → MeansAcceptedClauses j variable_of steps → AreAllowedSteps (Model codes ∷ steps)
     → names_of line ≡ map (λ n. n.name) j.in_use → AllReadAmong j variable_of line codes → AllByRecursion (λ l. Among l line) ask
     → IsRightModel j ask line
 
--- a failed core that may be written gives a correct core, of literals of the ask
+-- `NamedCoresAreRight` holds if a failed core that may be written gives a correct core, of literals of the ask
 abbrev pub NamedCoresAreRight : Type 0
 NamedCoresAreRight = (j : ScriptState) (variable_of : ℕ → Option ℕ) (steps : List Step) (codes hashes : List ℕ) (ask core : List Literal)
     → MeansAcceptedClauses j variable_of steps → AreAllowedSteps (FailedAssumptions codes hashes ∷ steps)
     → InOrder core → AllByRecursion (λ l. Among l ask) core → AllFrom j variable_of codes core
     → IsRightCore j ask core
 
--- once unsat is recorded, the empty core is correct for every ask
+-- `NamedUnsatIsRight` holds if the empty core is correct for every ask, once unsat is recorded
 abbrev pub NamedUnsatIsRight : Type 0
 NamedUnsatIsRight = (j : ScriptState) (variable_of : ℕ → Option ℕ) (steps : List Step) (ask : List Literal)
     → MeansAcceptedClauses j variable_of steps → AreAllowedSteps steps → (session_after steps).unsat ≡ true → IsRightCore j ask []
 
 -- IF NO NAME WAS EVER HIDDEN
 
--- the same literals, in any order and with any repetitions
+-- `SameLits c d` holds if `c` and `d` have the same literals, in any order and with any repetitions
 abbrev pub SameLits : List ℕ → List ℕ → Type 0
 SameLits c d = AllByRecursion (λ l. Among l d) c × AllByRecursion (λ l. Among l c) d
 
--- the step deletes no variable
+-- `DeletesNoVar step` holds if the step deletes no variable
 abbrev pub DeletesNoVar : Step → Type 0
 DeletesNoVar (DeleteVar v) = ⊥
 DeletesNoVar step = Unit {0}
 
--- Every identity has a proof variable of its own, none was deleted, and the added clauses are the accepted ones, over proof variables. Once
--- unsat is recorded, accepted clauses may be left out.
+-- `NoneHidden j variable_of steps` holds if every identity has a proof variable of its own, none was deleted, and the
+-- added clauses are the accepted ones, over proof variables. Once unsat is recorded, accepted clauses may be left out.
 pub record NoneHidden (j : ScriptState) (variable_of : ℕ → Option ℕ) (steps : List Step) : Type 0 where
   pub global : ℕ → ℕ  -- the proof variable of an identity
   pub identity : ℕ → ℕ  -- and back
@@ -82,6 +86,7 @@ pub record NoneHidden (j : ScriptState) (variable_of : ℕ → Option ℕ) (step
   pub added_from : AllByRecursion (λ c. (d : List ℕ) × Among d j.clauses × SameLits c (map (with_var global) d)) (added steps)
   pub all_added : ((session_after steps).unsat ≡ true) ⊎ AllByRecursion (λ d. (c : List ℕ) × Among c (added steps) × SameLits c (map (with_var global) d)) j.clauses
 
--- if so, allowed steps admit the same valuations of the names as the accepted clauses
+-- `NoneHiddenMeans` holds if allowed steps for which `NoneHidden` holds admit the same valuations of the names as the
+-- accepted clauses
 abbrev pub NoneHiddenMeans : Type 0
 NoneHiddenMeans = (j : ScriptState) (variable_of : ℕ → Option ℕ) (steps : List Step) → AreAllowedSteps steps → NoneHidden j variable_of steps → MeansAcceptedClauses j variable_of steps

@@ -8,29 +8,29 @@ use Rattle.sat_checker.specs.Accepts.{Accepts, AcceptsAll, ready_after}
 use Rattle.sat_solver.specs.session.Session.{Session, IsAllowedStep, AreAllowedSteps, session_after}
 use Rattle.sat_solver.specs.session.Agrees.{MatchesStored}
 
--- a checker that matches a session accepts every step that the session allows
+-- `AllowedIsAccepted` holds if a checker that matches a session accepts every step that the session allows
 abbrev pub AllowedIsAccepted : Type 0
 AllowedIsAccepted = (s : Session) (f : Stored) (step : Step) → MatchesStored s f → IsAllowedStep s step → Accepts f step
 
--- if every step is allowed after those before it, the checker accepts all of them, and session and checker agree
--- afterwards
+-- `SessionsAreAccepted` holds if the checker accepts all steps if each is allowed after those before it, and session
+-- and checker agree afterwards
 abbrev pub SessionsAreAccepted : Type 0
 SessionsAreAccepted = (steps : List Step) → AreAllowedSteps steps → AcceptsAll steps × MatchesStored (session_after steps) (ready_after steps)
 
--- the clauses that were added, the newest first
+-- the clauses that the steps added, the newest first
 abbrev pub added : List Step → List (List ℕ)
 added [] = []
 added (AddClause clause ∷ earlier) = clause ∷ added earlier
 added (step ∷ earlier) = added earlier
 
--- no valuation that satisfies the added clauses satisfies a core that may be written
+-- `CoresAreRight` holds if no valuation that satisfies the added clauses satisfies a core that may be written
 abbrev pub CoresAreRight : Type 0
 CoresAreRight = (steps : List Step) (core hashes : List ℕ) (a : Valuation) → AreAllowedSteps (FailedAssumptions core hashes ∷ steps) → EachHolds a (added steps) → EachTrue a core → ⊥
 
--- no valuation satisfies the added clauses once unsat is recorded
+-- `UnsatIsRight` holds if no valuation satisfies the added clauses once unsat is recorded
 abbrev pub UnsatIsRight : Type 0
 UnsatIsRight = (steps : List Step) (a : Valuation) → AreAllowedSteps steps → (session_after steps).unsat ≡ true → EachHolds a (added steps) → ⊥
 
--- if a model may be written, the steps admit every valuation that satisfies the model and the units
+-- `ModelsAreRight` holds if the steps admit every valuation that satisfies the units and a model that may be written
 abbrev pub ModelsAreRight : Type 0
 ModelsAreRight = (steps : List Step) (ls : List ℕ) (a : Valuation) → AreAllowedSteps (Model ls ∷ steps) → EachTrue a ls → ((l : ℕ) → (session_after steps).units l ≡ true → literal_true a l ≡ true) → Holds steps a

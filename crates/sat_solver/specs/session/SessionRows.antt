@@ -16,7 +16,7 @@ collided =
     End ∷ Assumptions [] ∷ AtClause false [] (0x44 ∷ []) ∷ UnitClauses ((2, 0xe6) ∷ [])
     ∷ AtClause false (0 ∷ []) (0x44 ∷ 0xe6 ∷ []) ∷ ChangeHashBits 8 ∷ Assumptions [] ∷ four
 
--- the steps `collided` may be written, although every hash is that of two clauses
+-- `CollidingIsAllowed` holds if the steps `collided` may be written, although every hash is that of two clauses
 abbrev pub CollidingIsAllowed : Type 0
 CollidingIsAllowed = AreAllowedSteps collided
 
@@ -28,6 +28,6 @@ hidden =
     ∷ AddClause (3 ∷ []) ∷ SolverVarName 1 (Some 1) ∷ UserVarName 1 (Some 0) ∷ UserVarName 0 None
     ∷ AddClause (0 ∷ []) ∷ SolverVarName 0 (Some 0) ∷ UserVarName 0 (Some 0) ∷ []
 
--- the steps `hidden` may be written, although the name had another variable before
+-- `HiddenIsAllowed` holds if the steps `hidden` may be written, although the name had another variable before
 abbrev pub HiddenIsAllowed : Type 0
 HiddenIsAllowed = AreAllowedSteps hidden

@@ -7,7 +7,7 @@ use Rattle.sat_parts.specs.prop.Values.{is_unassigned_var}
 use Rattle.sat_parts.specs.prop.Binaries.{implied_by}
 use Rattle.sat_solver.specs.session.LiveClauses.{LiveClause}
 
--- the binary clause of these literals; binary clauses are irredundant
+-- the binary clause of two literals; binary clauses are irredundant
 abbrev pub pair : ℕ → ℕ → LiveClause
 pair a b = record { redundant = false; literals = a ∷ b ∷ [] }
 
@@ -25,7 +25,7 @@ binaries_from l (ms ∷ rest) = binaries_of (negated l) ms ++ binaries_from (l +
 abbrev pub binaries : List (List ℕ) → List LiveClause
 binaries = binaries_from 0
 
--- the long clauses; the predicate says which of them are redundant
+-- the long clauses; the predicate `redundant` says which of them are redundant
 abbrev pub longs : (ℕ → Bool) → List ℕ → List ℕ → List LiveClause
 longs redundant words [] = []
 longs redundant words (o ∷ os) = record { redundant = redundant o; literals = lits_at words o } ∷ longs redundant words os
@@ -34,14 +34,14 @@ longs redundant words (o ∷ os) = record { redundant = redundant o; literals = 
 abbrev pub solver_clauses : (ℕ → Bool) → List ℕ → List ℕ → List (List ℕ) → List LiveClause
 solver_clauses redundant words live implied = binaries implied ++ longs redundant words live
 
--- one clause was inserted among the others
+-- `InsertsClause old new c` holds if the clause `c` was inserted among the others
 pub record InsertsClause (old new : List LiveClause) (c : LiveClause) : Type 0 where
   pub before : List LiveClause
   pub following : List LiveClause
   pub was : old ≡ before ++ following
   pub is : new ≡ before ++ c ∷ following
 
--- whether no variable of the clause has a value
+-- `is_open_clause values c` is true if no variable of the clause has a value
 abbrev pub is_open_clause : List (Option Bool) → LiveClause → Bool
 is_open_clause values c = list_all (λ l. is_unassigned_var values (variable l)) c.literals
 

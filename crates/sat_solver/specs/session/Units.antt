@@ -14,12 +14,13 @@ abbrev pub written_lits : PropagationState → List ℕ → List ℕ
 written_lits st [] = []
 written_lits st (l ∷ ls) = if has_no_clause (node st l).reason then written_lits st ls else l ∷ written_lits st ls
 
--- the session matches, and has every literal that is true at level 0 as a unit
+-- `FitsAll words live implied st s global` holds if the session matches, and has every literal that is true at level 0
+-- as a unit
 pub record FitsAll (words live : List ℕ) (implied : List (List ℕ)) (st : PropagationState) (s : Session) (global : ℕ → ℕ) : Type 0 where
   pub fits : SessionMatches words live implied st s global
   pub all : (l : ℕ) → IsTrueLit st.values l → level st l ≡ 0 → s.units (with_var global l) ≡ true
 
--- a list of exactly the true literals, each once
+-- `AreTrueLits values ls` holds if the list has exactly the true literals, each once
 pub record AreTrueLits (values : List (Option Bool)) (ls : List ℕ) : Type 0 where
   pub only : (l : ℕ) → is_among ls l ≡ true → IsTrueLit values l
   pub all : (l : ℕ) → IsTrueLit values l → is_among ls l ≡ true

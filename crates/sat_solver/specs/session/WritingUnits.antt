@@ -7,7 +7,7 @@ use Rattle.sat_parts.specs.prop.Reasons.{AreUnitInTurn}
 use Rattle.sat_parts.specs.declared.parts.SearchState.{SearchState}
 use Rattle.sat_parts.specs.parts.Whole.{state}
 
--- what writing units requires of the parts
+-- `IsOrderly p` holds if the parts satisfy what writing units requires
 pub record IsOrderly (p : SearchState) : Type 0 where
   pub agrees : StateIsConsistent (state p)
   pub clauses : AreClauses p.clauses (live_refs p.clauses p.db.refs) (length p.assignment.current)

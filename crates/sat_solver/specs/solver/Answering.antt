@@ -22,41 +22,44 @@ use Rattle.sat_solver.specs.solver.Joined.{NamesSearchInvariant, lit_over_names}
 abbrev pub model_of : {W L : Type 0} {G : Ghosts L} → Variables → Context W L G → List ℕ
 model_of n c = model_to n c.search.parts.assignment.current (variables_used n)
 
--- the model of all names
+-- the literals of all names, given the values of the search
 abbrev pub line_of_names : {W L : Type 0} {G : Ghosts L} → Variables → Context W L G → List ℕ
 line_of_names n c = named_to n c.search.parts.assignment.current (names_used n)
 
--- that a call failed for a reason that the input does not determine; `StoreFull` is returned only if the buffer is full
+-- `BreaksCall seen e a b` holds if a call failed for a reason that the input does not determine; `StoreFull` is
+-- returned only if the buffer is full
 pub record BreaksCall {W L : Type 0} {G : Ghosts L} (seen : W → Writer) (e : SolverError) (a b : Context W L G) : Type 0 where
   pub fault : IsFaultOr (IsFull b.search.parts) e
   pub steps : List Step
   pub went : EmitsUpToFault {A = Unit {0}} seen (Err e) steps a.proof b.proof
   pub loss : NamesLoss e a.proof b.proof
 
--- that `BreaksCall` holds, and the proof stores the underlying error until it is reported
-abbrev pub BreaksOff : {W L : Type 0} {G : Ghosts L} → (W → Writer) → SolverError → Context W L G → Context W L G → Type 0
-BreaksOff seen e a b = BreaksCall seen e a b × IsKept e b.proof
+-- `EngineBreaksOff seen e a b` holds if `BreaksCall` does, and the proof stores the underlying error until it is
+-- reported
+abbrev pub EngineBreaksOff : {W L : Type 0} {G : Ghosts L} → (W → Writer) → SolverError → Context W L G → Context W L G → Type 0
+EngineBreaksOff seen e a b = BreaksCall seen e a b × IsKept e b.proof
 
--- that a call failed without a step: writing pending bytes failed, or the solver's own checker failed at a pending unit conflict
-abbrev pub FlushFails : {W L : Type 0} {G : Ghosts L} → (W → Writer) → SolverError → Proof W L G → Proof W L G → Type 0
-FlushFails seen (errors.ProofIoError cause) old new = FailsToEmit seen [] old new
-FlushFails seen errors.OutOfMemory old new = FailsCheck seen checks.OutOfMemory [] old new
-FlushFails seen errors.CounterEnd old new = FailsCheck seen checks.CounterEnd [] old new
-FlushFails seen (errors.ProofProcessorError cause) old new = FailsCheck seen (checks.Processor cause) [] old new
-FlushFails seen e old new = ⊥
+-- `EngineFlushFails seen e old new` holds if a call failed without a step: writing pending bytes failed, or the
+-- solver's own checker failed at a pending unit conflict
+abbrev pub EngineFlushFails : {W L : Type 0} {G : Ghosts L} → (W → Writer) → SolverError → Proof W L G → Proof W L G → Type 0
+EngineFlushFails seen (errors.ProofIoError cause) old new = FailsToEmit seen [] old new
+EngineFlushFails seen errors.OutOfMemory old new = FailsCheck seen checks.OutOfMemory [] old new
+EngineFlushFails seen errors.CounterEnd old new = FailsCheck seen checks.CounterEnd [] old new
+EngineFlushFails seen (errors.ProofProcessorError cause) old new = FailsCheck seen (checks.Processor cause) [] old new
+EngineFlushFails seen e old new = ⊥
 
--- that the model of all variables was written
+-- `Shown seen n a b` holds if the model of all variables was written
 pub record Shown {W L : Type 0} {G : Ghosts L} (seen : W → Writer) (n : Variables) (a b : Context W L G) : Type 0 where
   pub adds : EmitsChecked seen (Model (model_of n a) ∷ []) a.proof b.proof
   pub joined : NamesSearchInvariant n b
   pub search : b.search ≡ a.search
   pub config : b.config ≡ a.config
 
--- that the model was written or, with an error, that the call failed
+-- `ShowsModel seen r n a b` holds if the model was written or, if `r` is an error, the call failed
 abbrev pub ShowsModel : {W L : Type 0} {G : Ghosts L} → (W → Writer) → Result (Unit {0}) SolverError → Variables → Context W L G → Context W L G → Type 0
-ShowsModel seen r n a b = MatchResult r (λ _. Shown seen n a b) (λ e. BreaksOff seen e a b)
+ShowsModel seen r n a b = MatchResult r (λ _. Shown seen n a b) (λ e. EngineBreaksOff seen e a b)
 
--- that a failed core was written; `core` has its literals over names
+-- `WritesFailedCore seen n a b core` holds if a failed core was written; `core` has its literals over names
 pub record WritesFailedCore {W L : Type 0} {G : Ghosts L} (seen : W → Writer) (n : Variables) (a b : Context W L G) (core : List ℕ) : Type 0 where
   pub steps : List Step
   pub adds : EmitsChecked seen steps a.proof b.proof
@@ -65,6 +68,6 @@ pub record WritesFailedCore {W L : Type 0} {G : Ghosts L} (seen : W → Writer) 
   pub config : b.config ≡ a.config
   pub named : core ≡ map (lit_over_names n) b.search.analysis.core
 
--- that a failed core was written or, with an error, that the call failed
+-- `FailsCore seen r n a b core` holds if a failed core was written or, if `r` is an error, the call failed
 abbrev pub FailsCore : {W L : Type 0} {G : Ghosts L} → (W → Writer) → Result (Unit {0}) SolverError → Variables → Context W L G → Context W L G → List ℕ → Type 0
-FailsCore seen r n a b core = MatchResult r (λ _. WritesFailedCore seen n a b core) (λ e. BreaksOff seen e a b)
+FailsCore seen r n a b core = MatchResult r (λ _. WritesFailedCore seen n a b core) (λ e. EngineBreaksOff seen e a b)

@@ -1,4 +1,4 @@
--- Assumptions that a solver accepts.
+-- Assumptions that the engine accepts.
 use Rattle.std.specs.Prelude.{ℕ, ◌≡◌, List, Result, Ok, Err}
 use Rattle.sat_base.specs.device.Device.{Writer}
 use Rattle.sat_base.specs.script.ScriptState.{introduce_all}
@@ -11,25 +11,27 @@ use Rattle.sat_solver.specs.session.AllowedSteps.{OnlyAllowedSteps}
 use Rattle.sat_solver.specs.variables.Refusing.{names_in}
 use Rattle.sat_solver.specs.session.Making.{ComesBySteps}
 use Rattle.sat_solver.specs.proof.ProofView.{IsAtWidth, has_asked}
-use Rattle.sat_solver.specs.declared.solver.Solver.{Solver}
+use Rattle.sat_solver.specs.declared.solver.Engine.{Engine}
 use Rattle.sat_solver.specs.solver.Adding.{ForgetsAnswer, due_for_asked}
 use Rattle.sat_solver.specs.solver.Taking.{BreaksNamesOff}
 use Rattle.sat_solver.specs.solver.Whole.{SolverPartsInvariant, steps_in}
 
--- that these assumptions were accepted, but the list over names is not stored yet
-pub record SetAssumptionsEffect {W L : Type 0} {G : Ghosts L} (seen : W → Writer) (old new : Solver W L G) (user : List ℕ) : Type 0 where
-  pub whole : SolverPartsInvariant new.core new.names new.asked user new.reported.failed_core.items new.clock.restarts.scale new.state
+-- `SetAssumptionsEffect seen old new user` holds if the assumptions `user` were accepted, but the list over names is
+-- not stored yet
+pub record SetAssumptionsEffect {W L : Type 0} {G : Ghosts L} (seen : W → Writer) (old new : Engine W L G) (user : List ℕ) : Type 0 where
+  pub whole : SolverPartsInvariant new.context new.names new.asked user new.reported.failed_core.items new.clock.restarts.scale new.state
   pub does : (o : Outcome) → NamesEffect old.names new.names (steps_in old) (steps_in new) (introduce_all (names_in user)) (due_for_asked o user)
   pub comes : OnlyAllowedSteps (IsLiteralsStep (names_in user)) (steps_in old) (steps_in new)
-  pub took : ComesBySteps seen old.core.proof new.core.proof
-  pub asked : has_asked new.core.proof ≡ has_asked old.core.proof
-  pub width : (steps_in new ≡ steps_in old → ⊥) → IsAtWidth new.core.proof
+  pub took : ComesBySteps seen old.context.proof new.context.proof
+  pub asked : has_asked new.context.proof ≡ has_asked old.context.proof
+  pub width : (steps_in new ≡ steps_in old → ⊥) → IsAtWidth new.context.proof
   pub failed : new.failed ≡ old.failed
   pub used : new.used ≡ old.used
-  pub config : new.core.config ≡ old.core.config
+  pub config : new.context.config ≡ old.context.config
   pub state : ForgetsAnswer old.state new.state
 
--- the result of setting assumptions before the list over names is stored: they were accepted, or the call failed
-abbrev pub SetAssumptionsResult : {W L : Type 0} {G : Ghosts L} → (W → Writer) → Result (Unit {0}) SolverError → Solver W L G → Solver W L G → List ℕ → Type 0
+-- `SetAssumptionsResult seen r old new user` holds if `r` is the result of setting assumptions before the list over
+-- names is stored: they were accepted, or the call failed
+abbrev pub SetAssumptionsResult : {W L : Type 0} {G : Ghosts L} → (W → Writer) → Result (Unit {0}) SolverError → Engine W L G → Engine W L G → List ℕ → Type 0
 SetAssumptionsResult seen (Ok x) old new user = SetAssumptionsEffect seen old new user
-SetAssumptionsResult seen (Err e) old new user = BreaksNamesOff ⊥ seen e old.core new.core
+SetAssumptionsResult seen (Err e) old new user = BreaksNamesOff ⊥ seen e old.context new.context

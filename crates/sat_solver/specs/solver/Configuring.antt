@@ -1,4 +1,4 @@
--- Parameters of a solver.
+-- Parameters of the engine.
 use Rattle.std.specs.Prelude.{ℕ, ◌≡◌, true, false, Option, Result, Ok, Err, unwrap_or}
 use Rattle.sat_checker.specs.declared.processing.ProofProcessor.{Ghosts}
 use Rattle.sat_solver.specs.Configs.{in_range, updated}
@@ -9,14 +9,15 @@ use Rattle.sat_solver.specs.declared.error.SolverError.TheVariants as errors
 use Rattle.sat_solver.specs.declared.context.Context.{Context}
 use Rattle.sat_solver.specs.clause.Activity.{BumpEffect}
 use Rattle.sat_solver.specs.cdcl.Joint.{SearchInvariant}
-use Rattle.sat_solver.specs.declared.solver.Solver.{Solver}
+use Rattle.sat_solver.specs.declared.solver.Engine.{Engine}
 use Rattle.sat_solver.specs.declared.solver.find.Schedule.{Schedule}
 use Rattle.sat_solver.specs.declared.state.SatState.{SatState}
 use Rattle.sat_solver.specs.declared.state.SatState.TheVariants as states
-use Rattle.sat_solver.specs.solver.Calls.{Refuses}
+use Rattle.sat_solver.specs.solver.Calls.{EngineRefuses}
 use Rattle.sat_solver.specs.solver.View.{answer_in, assumed_in, has_failed, context_of, is_used, known_names, parameters_in, proof_in, schedule_in, reported_in}
 
--- that the search got the decays of variables and clauses from the parameters, and nothing else has changed
+-- `SetsDecays a b` holds if the search got the decays of variables and clauses from the parameters, and nothing else
+-- has changed.
 pub record SetsDecays {W L : Type 0} {G : Ghosts L} (a b : Context W L G) : Type 0 where
   pub bumped : (s : Session) → SearchInvariant s a.search → BumpEffect s a.search b.search
   pub parts : b.search.parts ≡ record a.search.parts { vsids = record a.search.parts.vsids { decay = a.config.vsids_decay } }
@@ -24,17 +25,19 @@ pub record SetsDecays {W L : Type 0} {G : Ghosts L} (a b : Context W L G) : Type
   pub search : b.search ≡ record a.search { parts = b.search.parts; activity = b.search.activity }
   pub same : b ≡ record a { search = b.search }
 
--- the schedule at another scale, if one is given
+-- the schedule, at the scale that is given, if any
 abbrev pub at_scale : Option ℕ → Schedule → Schedule
 at_scale scale clock = record clock { restarts = record clock.restarts { scale = unwrap_or scale clock.restarts.scale } }
 
--- that the parameters were passed to the search, unless the search has ended
+-- `PassesToSearch state a b` holds if the decays of the parameters were passed to the search, or nothing changed if
+-- `state` is `Unsat`
 abbrev pub PassesToSearch : {W L : Type 0} {G : Ghosts L} → SatState → Context W L G → Context W L G → Type 0
 PassesToSearch states.Unsat a b = b ≡ a
 PassesToSearch st a b = SetsDecays a b
 
--- that names, steps, assumptions and answer are unchanged
-pub record KeepsAllElse {W L : Type 0} {G : Ghosts L} (old new : Solver W L G) : Type 0 where
+-- `KeepsAllElse old new` holds if the proof, names, assumptions, the answer and the last answers are unchanged, and so
+-- is whether the solver is used
+pub record KeepsAllElse {W L : Type 0} {G : Ghosts L} (old new : Engine W L G) : Type 0 where
   pub proof : proof_in new ≡ proof_in old
   pub names : known_names new ≡ known_names old
   pub state : answer_in new ≡ answer_in old
@@ -42,8 +45,8 @@ pub record KeepsAllElse {W L : Type 0} {G : Ghosts L} (old new : Solver W L G) :
   pub reported : reported_in new ≡ reported_in old
   pub used : is_used new ≡ is_used old
 
--- that the parameters were updated, and nothing else that callers can observe
-pub record Configured {W L : Type 0} {G : Ghosts L} (u : SolverConfigUpdate) (old new : Solver W L G) : Type 0 where
+-- `EngineConfigured u old new` holds if the parameters were updated, and nothing else that callers can observe
+pub record EngineConfigured {W L : Type 0} {G : Ghosts L} (u : SolverConfigUpdate) (old new : Engine W L G) : Type 0 where
   pub going : has_failed old ≡ false
   pub range : in_range u ≡ true
   pub config : parameters_in new ≡ updated u (parameters_in old)
@@ -53,9 +56,9 @@ pub record Configured {W L : Type 0} {G : Ghosts L} (u : SolverConfigUpdate) (ol
   pub decays : PassesToSearch (answer_in old) (record (context_of old) { config = updated u (parameters_in old) }) (context_of new)
   pub failed : has_failed new ≡ false
 
--- the result of an update; if a field is out of range, nothing changes
-abbrev pub Configures : {W L : Type 0} {G : Ghosts L} → Result (Unit {0}) SolverError → SolverConfigUpdate → Solver W L G → Solver W L G → Type 0
-Configures (Ok x) u old new = Configured u old new
-Configures (Err errors.HasFailed) u old new = Refuses old new (has_failed old ≡ true)
-Configures (Err errors.OutOfRange) u old new = Refuses old new ((has_failed old ≡ false) × (in_range u ≡ false))
-Configures (Err e) u old new = ⊥
+-- `EngineConfigures r u old new` holds if `r` is the result of an update; if a field is out of range, nothing changes
+abbrev pub EngineConfigures : {W L : Type 0} {G : Ghosts L} → Result (Unit {0}) SolverError → SolverConfigUpdate → Engine W L G → Engine W L G → Type 0
+EngineConfigures (Ok x) u old new = EngineConfigured u old new
+EngineConfigures (Err errors.HasFailed) u old new = EngineRefuses old new (has_failed old ≡ true)
+EngineConfigures (Err errors.OutOfRange) u old new = EngineRefuses old new ((has_failed old ≡ false) × (in_range u ≡ false))
+EngineConfigures (Err e) u old new = ⊥

@@ -12,17 +12,18 @@ use Rattle.sat_solver.specs.declared.variables.Variables.{Variables}
 use Rattle.sat_solver.specs.declared.load.literals.MappedLits.{MappedLits}
 use Rattle.sat_solver.specs.declared.context.Context.{Context}
 
--- that the invariants of names and search hold, over the same indices
+-- `NamesSearchInvariant n c` holds if the invariants of names and search hold, over the same indices
 pub record NamesSearchInvariant {W L : Type 0} {G : Ghosts L} (n : Variables) (c : Context W L G) : Type 0 where
   pub sound : ContextInvariant c
   pub valid : NamesInvariant n (steps_of c.proof)
   pub shares : SharesIndices n c.search
 
--- that names that match the first search also match the second
+-- `KeepsNamesSearchInvariant b c` holds if names that match the search of `b` also match that of `c`
 abbrev pub KeepsNamesSearchInvariant : {W L : Type 0} {G : Ghosts L} → Context W L G → Context W L G → Type 0
 KeepsNamesSearchInvariant b c = (n : Variables) → NamesSearchInvariant n b → NamesSearchInvariant n c
 
--- that these literals over names are the assumptions of the search and of the proof
+-- `AreNamedAssumptions n c user t` holds if the literals `user` over names are the assumptions of the search and of the
+-- proof
 pub record AreNamedAssumptions {W L : Type 0} {G : Ghosts L} (n : Variables) (c : Context W L G) (user : List ℕ) (t : MappedLits) : Type 0 where
   pub images : Images n user t.order.items
   pub lits : c.search.assumptions.lits.items ≡ t.order.items
@@ -34,7 +35,7 @@ abbrev pub named_by : Option ℕ → ℕ → ℕ
 named_by None l = l
 named_by (Some u) l = mk_lit u (is_positive l)
 
--- the name of a variable, or `None`
+-- the name of an optional variable, or `None`
 abbrev pub user_by : Variables → Option ℕ → Option ℕ
 user_by n None = None
 user_by n (Some v) = user_of n v

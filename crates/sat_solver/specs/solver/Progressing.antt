@@ -1,4 +1,4 @@
--- The progress of a solver.
+-- The progress of the engine.
 use Rattle.std.specs.Prelude.{ℕ, ◌≡◌, ◌/◌, ◌&&◌, not, false, Bool, Option, is_some, List, length, nat_lt, count_by}
 use Rattle.sat_store.specs.declared.clause.tier.Tier.{Tier}
 use Rattle.sat_store.specs.declared.clause.tier.Tier.TheVariants as tiers
@@ -9,14 +9,14 @@ use Rattle.sat_parts.specs.prop.Values.{value_of}
 use Rattle.sat_solver.specs.declared.variables.Variables.{Variables}
 use Rattle.sat_parts.specs.declared.parts.SearchState.{SearchState}
 use Rattle.sat_solver.specs.declared.progress.Progress.{Progress}
-use Rattle.sat_solver.specs.declared.solver.Solver.{Solver}
+use Rattle.sat_solver.specs.declared.solver.Engine.{Engine}
 use Rattle.sat_solver.specs.declared.state.SatState.TheVariants as states
 use Rattle.sat_solver.specs.variables.Counting.{count_to}
 use Rattle.sat_solver.specs.variables.Variables.{global_at, indices_used}
 use Rattle.sat_solver.specs.solver.View.{answer_in, has_failed}
 use Rattle.sat_solver.specs.solver.Whole.{IsSolver}
 
--- whether a variable has this index, and no value
+-- `is_unassigned_at n values x` is true if a variable has the index `x`, and no value
 abbrev pub is_unassigned_at : Variables → List (Option Bool) → ℕ → Bool
 is_unassigned_at n values x = is_some (global_at n x) && (nat_lt x (length values) && not (is_some (value_of values x)))
 
@@ -25,11 +25,11 @@ abbrev pub unassigned_count : Variables → List (Option Bool) → ℕ
 unassigned_count n values = count_to (indices_used n) (is_unassigned_at n values)
 
 -- the number of search variables of a solver without a value
-abbrev pub solver_unassigned_count : {W L : Type 0} {G : Ghosts L} → Solver W L G → ℕ
-solver_unassigned_count s = unassigned_count s.names s.core.search.parts.assignment.current
+abbrev pub solver_unassigned_count : {W L : Type 0} {G : Ghosts L} → Engine W L G → ℕ
+solver_unassigned_count s = unassigned_count s.names s.context.search.parts.assignment.current
 
--- that no call failed, and the clauses are not known to be unsatisfiable
-pub record IsOngoing {W L : Type 0} {G : Ghosts L} (s : Solver W L G) : Type 0 where
+-- `EngineIsOngoing s` holds if no call failed, and the clauses are not known to be unsatisfiable
+pub record EngineIsOngoing {W L : Type 0} {G : Ghosts L} (s : Engine W L G) : Type 0 where
   pub solver : IsSolver s
   pub going : has_failed s ≡ false
   pub left : answer_in s ≡ states.Unsat → ⊥
@@ -38,7 +38,7 @@ pub record IsOngoing {W L : Type 0} {G : Ghosts L} (s : Solver W L G) : Type 0 w
 abbrev pub live_count_of_tier : SearchState → Tier → ℕ
 live_count_of_tier p tier = count_by (is_live_in_tier p.clauses tier) p.db.refs
 
--- that the counts are those of the search's clauses; a binary clause is two implications
+-- `CountsClauses r p` holds if the counts are those of the search's clauses; a binary clause is two implications
 pub record CountsClauses (r : Progress) (p : SearchState) : Type 0 where
   pub binary : r.binary ≡ implications p.binary.implied / 2
   pub irred : r.irred ≡ live_count_of_tier p tiers.Irred
@@ -46,6 +46,6 @@ pub record CountsClauses (r : Progress) (p : SearchState) : Type 0 where
   pub mid : r.mid ≡ live_count_of_tier p tiers.Mid
   pub local : r.local ≡ live_count_of_tier p tiers.Local
 
--- that `CountsClauses` holds for a solver
-abbrev pub CountsClausesIn : {W L : Type 0} {G : Ghosts L} → Progress → Solver W L G → Type 0
-CountsClausesIn r s = CountsClauses r s.core.search.parts
+-- `CountsClausesIn r s` holds if `CountsClauses` does for the search of `s`
+abbrev pub CountsClausesIn : {W L : Type 0} {G : Ghosts L} → Progress → Engine W L G → Type 0
+CountsClausesIn r s = CountsClauses r s.context.search.parts

@@ -24,16 +24,18 @@ use Rattle.sat_solver.specs.declared.load.literals.MappedLits.{MappedLits}
 use Rattle.sat_solver.specs.declared.context.Context.{Context}
 use Rattle.sat_solver.specs.solver.Joined.{NamesSearchInvariant, AreNamedAssumptions}
 
--- that names keep the search literals that represent them
+-- `KeepImages n n'` holds if names keep the search literals that represent them
 abbrev pub KeepImages : Variables → Variables → Type 0
 KeepImages n n' = (user order : List ℕ) → Images n user order → Images n' user order
 
--- that the invariant of the search holds or, if the flag is false, unsat is recorded
+-- `NamesSearchInvariantOrUnsat left n c` holds if the invariant of the search holds or, if `left` is false, unsat is
+-- recorded
 abbrev pub NamesSearchInvariantOrUnsat : Bool → {W L : Type 0} {G : Ghosts L} → Variables → Context W L G → Type 0
 NamesSearchInvariantOrUnsat true n c = NamesSearchInvariant n c
 NamesSearchInvariantOrUnsat false n c = (session_of c.proof).unsat ≡ true
 
--- that a clause was added; `left` says whether the formula may still be satisfiable
+-- `TookClause seen n n' a b user left` holds if a clause was added; `left` says whether the formula may still be
+-- satisfiable
 pub record TookClause {W L : Type 0} {G : Ghosts L} (seen : W → Writer) (n n' : Variables) (a b : Context W L G) (user : List ℕ) (left : Bool) : Type 0 where
   pub does : NamesEffect n n' (steps_of a.proof) (steps_of b.proof) (λ j. with_clause (map user_literal user) (introduce_all (names_in user) j)) (λ j. introducing (names_in user) j ++ (Adds (map user_literal user) ∷ []))
   pub took : ComesByCheckedSteps seen a.proof b.proof
@@ -46,30 +48,34 @@ pub record TookClause {W L : Type 0} {G : Ghosts L} (seen : W → Writer) (n n' 
   pub config : b.config ≡ a.config
   pub assumed : (session_of b.proof).assumed ≡ (session_of a.proof).assumed
 
--- that the error is one that a call over names may return when it fails: a fault of a search, or `VariableLimit`
+-- `IsNameErrorOr full e` holds if a call over names may return this error when it fails: a fault of a search, or
+-- `VariableLimit`
 abbrev pub IsNameErrorOr : (full : Type 0) → SolverError → Type 0
 IsNameErrorOr full e = IsFaultOr full e ⊎ (e ≡ errors.VariableLimit)
 
--- that a call over names failed after these steps; `StoreFull` is returned only if `full` holds
+-- `BreaksNamesOr full seen e a b` holds if a call over names failed after some steps; `StoreFull` is returned only if
+-- `full` holds
 pub record BreaksNamesOr {W L : Type 0} {G : Ghosts L} (full : Type 0) (seen : W → Writer) (e : SolverError) (a b : Context W L G) : Type 0 where
   pub fault : IsNameErrorOr full e
   pub steps : List Step
   pub went : EmitsUpToFault {A = Unit {0}} seen (Err e) steps a.proof b.proof
   pub loss : NamesLoss e a.proof b.proof
 
--- that `BreaksNamesOr` holds for a call that stores no clause
+-- `BreaksNames seen e a b` holds if `BreaksNamesOr` does for a call that stores no clause
 abbrev pub BreaksNames : {W L : Type 0} {G : Ghosts L} → (W → Writer) → SolverError → Context W L G → Context W L G → Type 0
 BreaksNames seen e a b = BreaksNamesOr ⊥ seen e a b
 
--- that `BreaksNamesOr` holds, and the proof stores the underlying error until it is reported
+-- `BreaksNamesOff full seen e a b` holds if `BreaksNamesOr` does, and the proof stores the underlying error until it is
+-- reported
 abbrev pub BreaksNamesOff : {W L : Type 0} {G : Ghosts L} → (full : Type 0) → (W → Writer) → SolverError → Context W L G → Context W L G → Type 0
 BreaksNamesOff full seen e a b = BreaksNamesOr full seen e a b × IsKept e b.proof
 
--- the result of adding a clause: whether the formula may still be satisfiable, or an error
+-- `TakesClause seen r n n' a b user` holds if `r` is the result of adding a clause: whether the formula may still be
+-- satisfiable, or an error
 abbrev pub TakesClause : {W L : Type 0} {G : Ghosts L} → (W → Writer) → Result Bool SolverError → Variables → Variables → Context W L G → Context W L G → List ℕ → Type 0
 TakesClause seen r n n' a b user = MatchResult r (TookClause seen n n' a b user) (λ e. BreaksNamesOff (IsFull b.search.parts) seen e a b)
 
--- that assumptions replaced the earlier ones
+-- `TookAssumptions seen n n' a b user t` holds if assumptions replaced the earlier ones
 pub record TookAssumptions {W L : Type 0} {G : Ghosts L} (seen : W → Writer) (n n' : Variables) (a b : Context W L G) (user : List ℕ) (t : MappedLits) : Type 0 where
   pub does : (o : Outcome) → NamesEffect n n' (steps_of a.proof) (steps_of b.proof) (introduce_all (names_in user)) (λ j. introducing (names_in user) j ++ (Opens (map user_literal user) o ∷ []))
   pub comes : OnlyAllowedSteps (IsLiteralsStep (names_in user)) (steps_of a.proof) (steps_of b.proof)
@@ -78,6 +84,7 @@ pub record TookAssumptions {W L : Type 0} {G : Ghosts L} (seen : W → Writer) (
   pub config : b.config ≡ a.config
   pub asked : AreNamedAssumptions n' b user t
 
--- the result of setting assumptions: they replace the earlier ones, or an error is returned
+-- `TakesAssumptions seen r n n' a b user t` holds if `r` is the result of setting assumptions: they replace the earlier
+-- ones, or an error is returned
 abbrev pub TakesAssumptions : {W L : Type 0} {G : Ghosts L} → (W → Writer) → Result (Unit {0}) SolverError → Variables → Variables → Context W L G → Context W L G → List ℕ → MappedLits → Type 0
 TakesAssumptions seen r n n' a b user t = MatchResult r (λ _. TookAssumptions seen n n' a b user t) (λ e. BreaksNamesOff ⊥ seen e a b)

@@ -1,7 +1,7 @@
--- The invariant of a solver between calls.
+-- The invariant of the engine between calls.
 use Rattle.std.specs.Prelude.{ℕ, ◌<◌, ◌≡◌, true, false, List, [], map}
 use Rattle.std.specs.List.{AllByRecursion}
-use Rattle.sat_base.specs.script.Script.{Literal, Among}
+use Rattle.sat_base.specs.script.Script.{Among}
 use Rattle.sat_base.specs.steps.Steps.{Step}
 use Rattle.sat_base.specs.values.Clauses.{Valuation, EachTrue}
 use Rattle.sat_checker.specs.Fold.{Holds}
@@ -18,33 +18,31 @@ use Rattle.sat_checker.specs.matching.Expected.{SameSet}
 use Rattle.sat_solver.specs.declared.variables.Variables.{Variables}
 use Rattle.sat_solver.specs.declared.load.literals.MappedLits.{MappedLits}
 use Rattle.sat_solver.specs.declared.context.Context.{Context}
-use Rattle.sat_solver.specs.declared.solver.Solver.{Solver}
+use Rattle.sat_solver.specs.declared.solver.Engine.{Engine}
 use Rattle.sat_solver.specs.declared.state.SatState.{SatState}
 use Rattle.sat_solver.specs.declared.state.SatState.TheVariants as states
 use Rattle.sat_solver.specs.solver.Joined.{NamesSearchInvariant}
 use Rattle.sat_solver.specs.solver.Answering.{line_of_names}
 
 -- all steps that the solver has made, the newest first
-abbrev pub steps_in : {W L : Type 0} {G : Ghosts L} → Solver W L G → List Step
-steps_in s = steps_of s.core.proof
+abbrev pub steps_in : {W L : Type 0} {G : Ghosts L} → Engine W L G → List Step
+steps_in s = steps_of s.context.proof
 
--- the session after these steps
-abbrev pub session_in : {W L : Type 0} {G : Ghosts L} → Solver W L G → Session
-session_in s = session_of s.core.proof
-
--- the assumptions last accepted
-abbrev pub asked_in : {W L : Type 0} {G : Ghosts L} → Solver W L G → List Literal
-asked_in s = map user_literal s.assumed.items
+-- the session after all steps of the solver
+abbrev pub session_in : {W L : Type 0} {G : Ghosts L} → Engine W L G → Session
+session_in s = session_of s.context.proof
 
 -- the literals of all names, given the values of the search
-abbrev pub line_in : {W L : Type 0} {G : Ghosts L} → Solver W L G → List ℕ
-line_in s = line_of_names s.names s.core
+abbrev pub engine_line : {W L : Type 0} {G : Ghosts L} → Engine W L G → List ℕ
+engine_line s = line_of_names s.names s.context
 
--- that every variable of a clause has a value, and the assumptions are true
+-- `HasModel c` holds if nothing is left to propagate, every variable of a clause has a value, and the assumptions are
+-- true
 abbrev pub HasModel : {W L : Type 0} {G : Ghosts L} → Context W L G → Type 0
 HasModel c = IsComplete c.search.assumptions.lits.items c.search.parts
 
--- a failed core over names: assumptions, at least one, and no valuation that the steps admit satisfies all of them
+-- `HasCore c assumed core` holds if `core` is a failed core over names: assumptions, at least one, and no valuation
+-- that the steps admit satisfies all of them
 pub record HasCore {W L : Type 0} {G : Ghosts L} (c : Context W L G) (assumed core : List ℕ) : Type 0 where
   pub some : core ≡ [] → ⊥
   pub codes : List ℕ
@@ -52,19 +50,21 @@ pub record HasCore {W L : Type 0} {G : Ghosts L} (c : Context W L G) (assumed co
   pub same : SameSet (variable_of (steps_of c.proof)) (map user_literal core) codes
   pub among : AllByRecursion (λ l. Among l assumed) core
 
--- that the search can continue, under the assumptions
+-- `AskGoesOn c n asked` holds if the search can continue, under the assumptions
 pub record AskGoesOn {W L : Type 0} {G : Ghosts L} (c : Context W L G) (n : Variables) (asked : MappedLits) : Type 0 where
   pub joined : NamesSearchInvariant n c
   pub lits : c.search.assumptions.lits.items ≡ asked.order.items
 
--- what a state says: the search can continue, possibly with a model or a failed core; or unsat is recorded
+-- `HoldsInState state c n asked assumed core` holds if the search can continue, with a model for `Sat` and a failed
+-- core for `UnsatUnderAssumptions`; for `Unsat`, unsat is recorded
 abbrev pub HoldsInState : {W L : Type 0} {G : Ghosts L} → SatState → Context W L G → Variables → MappedLits → (assumed core : List ℕ) → Type 0
 HoldsInState states.Unknown c n asked assumed core = AskGoesOn c n asked
 HoldsInState states.Sat c n asked assumed core = AskGoesOn c n asked × HasModel c
 HoldsInState states.UnsatUnderAssumptions c n asked assumed core = AskGoesOn c n asked × HasCore c assumed core
 HoldsInState states.Unsat c n asked assumed core = (session_of c.proof).unsat ≡ true
 
--- the invariant of a solver's parts
+-- `SolverPartsInvariant c n asked assumed core scale state` holds if the parts of a solver are consistent with each
+-- other and with `state`
 pub record SolverPartsInvariant {W L : Type 0} {G : Ghosts L} (c : Context W L G) (n : Variables) (asked : MappedLits) (assumed core : List ℕ) (scale : ℕ) (state : SatState) : Type 0 where
   pub valid : NamesInvariant n (steps_of c.proof)
   pub images : Images n assumed asked.order.items
@@ -79,14 +79,14 @@ pub record SolverPartsInvariant {W L : Type 0} {G : Ghosts L} (c : Context W L G
   pub judged : HasScriptState n (steps_of c.proof)
   pub says : HoldsInState state c n asked assumed core
 
--- the invariant of a solver of which no call failed
-abbrev pub SolverInvariant : {W L : Type 0} {G : Ghosts L} → Solver W L G → Type 0
-SolverInvariant s = SolverPartsInvariant s.core s.names s.asked s.assumed.items s.reported.failed_core.items s.clock.restarts.scale s.state
+-- `SolverInvariant s` holds if the parts of the solver are consistent, as they are between calls unless a call failed
+abbrev pub SolverInvariant : {W L : Type 0} {G : Ghosts L} → Engine W L G → Type 0
+SolverInvariant s = SolverPartsInvariant s.context s.names s.asked s.assumed.items s.reported.failed_core.items s.clock.restarts.scale s.state
 
--- that the clause buffer has more than 2^32-1 words, so that it can store no further clause
-abbrev pub HasFullStore : {W L : Type 0} {G : Ghosts L} → Solver W L G → Type 0
-HasFullStore s = IsFull s.core.search.parts
+-- `EngineHasFullStore s` holds if the clause buffer has more than 2^32-1 words, so that it can store no further clause
+abbrev pub EngineHasFullStore : {W L : Type 0} {G : Ghosts L} → Engine W L G → Type 0
+EngineHasFullStore s = IsFull s.context.search.parts
 
--- that a call may be made on the solver: the invariant holds unless a call failed
-abbrev pub IsSolver : {W L : Type 0} {G : Ghosts L} → Solver W L G → Type 0
+-- `IsSolver s` holds if a call may be made on the solver: the invariant holds unless a call failed
+abbrev pub IsSolver : {W L : Type 0} {G : Ghosts L} → Engine W L G → Type 0
 IsSolver s = s.failed ≡ false → SolverInvariant s

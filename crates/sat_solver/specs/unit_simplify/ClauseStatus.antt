@@ -6,19 +6,19 @@ use Rattle.sat_parts.specs.declared.parts.SearchState.{SearchState}
 use Rattle.sat_solver.specs.declared.unit_simplify.clause_status.ClauseStatus.{ClauseStatus}
 use Rattle.sat_solver.specs.declared.unit_simplify.clause_status.ClauseStatus.TheVariants.{Satisfied, Whole, Shorter}
 
--- a literal of the clause at o is true
+-- `HasTrue p o` holds if a literal of the clause at `o` is true
 abbrev pub HasTrue : SearchState → ℕ → Type 0
 HasTrue p o = (k : ℕ) × ((k < size_of p.clauses o) × IsTrueLit p.assignment.current (lit_of p.clauses o k))
 
--- a literal of the clause at o is false
+-- `HasFalse p o` holds if a literal of the clause at `o` is false
 abbrev pub HasFalse : SearchState → ℕ → Type 0
 HasFalse p o = (k : ℕ) × ((k < size_of p.clauses o) × IsFalseLit p.assignment.current (lit_of p.clauses o k))
 
--- no literal of the clause at o has a value
+-- `HasNoAssignedLit p o` holds if no literal of the clause at `o` has a value
 abbrev pub HasNoAssignedLit : SearchState → ℕ → Type 0
 HasNoAssignedLit p o = (k : ℕ) → k < size_of p.clauses o → IsUnassignedLit p.assignment.current (lit_of p.clauses o k)
 
--- the clause at o has this status under the current values
+-- `HasClauseStatus status p o` holds if the clause at `o` has this status under the current values
 abbrev pub HasClauseStatus : ClauseStatus → SearchState → ℕ → Type 0
 HasClauseStatus Satisfied p o = HasTrue p o
 HasClauseStatus Whole p o = HasNoAssignedLit p o

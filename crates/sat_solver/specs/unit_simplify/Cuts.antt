@@ -9,7 +9,8 @@ use Rattle.sat_solver.specs.declared.proof.Proof.{Proof}
 use Rattle.sat_solver.specs.declared.error.SolverError.{SolverError}
 use Rattle.sat_solver.specs.cdcl.StepEffects.{EmitsSteps}
 
--- why a long clause may be deleted: because it is redundant, or otherwise for this reason
+-- `deletion redundant other` is why a long clause may be deleted: because it is redundant, or otherwise for the
+-- reason `other`
 abbrev pub deletion : Bool → Deletion → Deletion
 deletion redundant other = if redundant then Redundant else other
 
@@ -17,16 +18,19 @@ deletion redundant other = if redundant then Redundant else other
 abbrev pub deleted_step : Bool → Deletion → List ℕ → Step
 deleted_step redundant other clause = DeleteClause clause (deletion redundant other)
 
--- the step that derives a strengthened clause, which is redundant if the original one was, unless it is binary
+-- `derived_step redundant part hashes` is the step that derives the strengthened clause `part`, which is redundant if
+-- the original one was, unless it has fewer than three literals
 abbrev pub derived_step : Bool → (part hashes : List ℕ) → Step
 derived_step redundant part hashes = AtClause (redundant && nat_lt 2 (length part)) part hashes
 
--- the strengthened clause may be derived, and then the original one may be deleted
+-- `CanStrengthen s redundant part hashes clause` holds if the strengthened clause `part` may be derived, and then the
+-- original clause may be deleted
 pub record CanStrengthen (s : Session) (redundant : Bool) (part hashes clause : List ℕ) : Type 0 where
   pub derive : IsAllowedStep s (derived_step redundant part hashes)
   pub delete : IsAllowedStep (after (derived_step redundant part hashes) s) (deleted_step redundant Simplified clause)
 
--- exactly these two steps were made, or the call failed
+-- `WritesCut seen r p p' redundant part hashes clause` holds if exactly the step that derives the strengthened clause
+-- and the one that deletes the original were made, or the call failed
 abbrev pub WritesCut : {W L : Type 0} {G : Ghosts L} → (W → Writer) → Result (Unit {0}) SolverError → Proof W L G → Proof W L G → (redundant : Bool) (part hashes clause : List ℕ) → Type 0
 WritesCut seen r p p' redundant part hashes clause =
     EmitsSteps seen r p p' (λ _ _. steps_of p' ≡ deleted_step redundant Simplified clause ∷ derived_step redundant part hashes ∷ steps_of p)

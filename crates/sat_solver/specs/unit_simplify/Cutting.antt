@@ -12,8 +12,8 @@ use Rattle.sat_parts.specs.parts.Words.{TrailWordExtends}
 use Rattle.sat_solver.specs.declared.context.Search.{Search}
 use Rattle.sat_solver.specs.cdcl.Joint.{global_in}
 
--- The literals of the clause at o were reordered: open ones come before position `kept`, and false ones from there
--- up to `next`. The rest is unchanged.
+-- `Gathers p p' o kept next` holds if the literals of the clause at `o` were reordered: open ones come before
+-- position `kept`, and false ones from there up to `next`. The rest is unchanged.
 pub record Gathers (p p' : SearchState) (o kept next : ℕ) : Type 0 where
   pub holds : SearchStateInvariant p'
   pub moved : ReordersLits p p'
@@ -24,13 +24,14 @@ pub record Gathers (p p' : SearchState) (o kept next : ℕ) : Type 0 where
   pub cut : (k : ℕ) → kept ≤ k → k < next → IsFalseLit p.assignment.current (lit_of p'.clauses o k)
   pub rest : (k : ℕ) → next ≤ k → lit_of p'.clauses o k ≡ lit_of p.clauses o k
 
--- the clause at o was strengthened to its first `len` literals: as a long clause, or as a binary one that replaces
--- it
+-- `PutsPart p p' o len` holds if the clause at `o` was strengthened to its first `len` literals: as a long clause, or
+-- as a binary one that replaces it
 pub data PutsPart (p p' : SearchState) (o len : ℕ) : Type 0 where
   puts_long : 3 ≤ len → ShortensLongClause p p' o len → PutsPart p p' o len
   puts_pair : len ≡ 2 → (mid : SearchState) → AddsOriginalClause p mid (lit_of p.clauses o 0 ∷ lit_of p.clauses o 1 ∷ []) → DropsLongClause mid p' o → PutsPart p p' o len
 
--- the same; values, trail and the list of long clauses are unchanged, and the invariant of the parts holds
+-- `Replaces p p' o len` holds if the clause at `o` was strengthened as by `PutsPart`; values, trail and the list of
+-- long clauses are unchanged, and the invariant of the parts holds
 pub record Replaces (p p' : SearchState) (o len : ℕ) : Type 0 where
   pub holds : SearchStateInvariant p'
   pub state : SameState p p'
@@ -38,8 +39,8 @@ pub record Replaces (p p' : SearchState) (o len : ℕ) : Type 0 where
   pub refs : p'.db.refs ≡ p.db.refs
   pub puts : PutsPart p p' o len
 
--- The `len` open literals of the clause at o were moved to its beginning. Its steps were prepared: the clause as it
--- was, its hash, and the strengthened clause.
+-- `NamesCut c c' left o len` holds if the `len` open literals of the clause at `o` were moved to its beginning, and
+-- its steps were prepared: the clause as it was, its hash, and the strengthened clause `left`
 pub record NamesCut (c c' : Search) (left : List ℕ) (o len : ℕ) : Type 0 where
   pub gathers : Gathers c.parts c'.parts o len (size_of c.parts.clauses o)
   pub some : 2 ≤ len

@@ -19,25 +19,26 @@ use Rattle.sat_solver.specs.cdcl.Joint.{assumed_indices, global_in, SearchInvari
 use Rattle.sat_solver.specs.declared.context.Search.{Search}
 use Rattle.sat_solver.specs.unit_simplify.ClauseStatus.{HasNoAssignedLit}
 
--- no level is open, and the trail is empty
+-- `HasEmptyTrail p` holds if no level is open, and the trail is empty
 pub record HasEmptyTrail (p : SearchState) : Type 0 where
   pub bottom : p.trail.starts ≡ []
   pub empty : p.trail.lits ≡ []
 
--- what is required before binary clauses are removed with their steps
+-- `CanRemovePairs c` holds if binary clauses can be removed with their steps: the invariant of the parts holds, the
+-- trail is empty, every binary clause is in both of its lists, and every variable has a proof variable
 pub record CanRemovePairs (c : Search) : Type 0 where
   pub holds : SearchStateInvariant c.parts
   pub flat : HasEmptyTrail c.parts
   pub paired : ArePaired c.parts.binary.implied
   pub names : length c.parts.assignment.current ≤ length c.globals.items
 
--- the session matches while binary clauses are removed: all lists before list l, and the first k literals of list l,
--- were visited
+-- `LeavesPairs s c l k` holds if the session matches while binary clauses are removed: all lists before list `l`, and
+-- the first `k` literals of list `l`, were visited
 abbrev pub LeavesPairs : Session → Search → (l k : ℕ) → Type 0
 LeavesPairs s c l k = LeftParts c.parts s (global_in c) l k
 
--- Clauses were removed or strengthened. Values and variables are unchanged, and so is the list of long clauses, in
--- which removed ones remain.
+-- `IsStrengthened s c c'` holds if clauses were removed or strengthened. Values and variables are unchanged, and so
+-- is the list of long clauses, in which removed ones remain.
 pub record IsStrengthened (s : Session) (c c' : Search) : Type 0 where
   pub search : SearchInvariant s c'
   pub moved : SameVarsAndAssumptions c c'
@@ -45,26 +46,31 @@ pub record IsStrengthened (s : Session) (c c' : Search) : Type 0 where
   pub state : SameState c.parts c'.parts
   pub refs : c'.parts.db.refs ≡ c.parts.db.refs
 
--- the binary clauses with an assigned variable were removed by steps, with this effect, or the call failed
+-- `RemovesPairs seen r p p' c c'` holds if the binary clauses with an assigned variable were removed by steps that
+-- learn nothing, or the call failed
 abbrev pub RemovesPairs : {W L : Type 0} {G : Ghosts L} → (W → Writer) → Result (Unit {0}) SolverError → Proof W L G → Proof W L G → Search → Search → Type 0
 RemovesPairs seen r p p' c c' = EmitsSteps seen r p p' (λ _ _. IsStrengthened (session_of p') c c' × RemovesBinaries c.parts c'.parts)
 
--- The long clause at o was removed or strengthened: if it is live, none of its literals is assigned. Every other
--- live long clause was live before, and is without assigned literals if it was so before.
+-- `StrengthensClause s c c' o` holds if the long clause at `o` was removed or strengthened: if it is live, none of
+-- its literals is assigned. Every other live long clause was live before, and is without assigned literals if it was
+-- so before.
 pub record StrengthensClause (s : Session) (c c' : Search) (o : ℕ) : Type 0 where
   pub strengthened : IsStrengthened s c c'
   pub left : Contains (live_refs c'.parts.clauses c'.parts.db.refs) o → HasNoAssignedLit c'.parts o
   pub others : (p : ℕ) → p ≢ o → Contains (live_refs c'.parts.clauses c'.parts.db.refs) p → Contains (live_refs c.parts.clauses c.parts.db.refs) p × (HasNoAssignedLit c.parts p → HasNoAssignedLit c'.parts p)
 
--- this was done by steps, or the call failed
+-- `StrengthensOrFails seen r p p' c c' o` holds if the long clause at `o` was removed or strengthened by steps that
+-- learn nothing, or the call failed
 abbrev pub StrengthensOrFails : {W L : Type 0} {G : Ghosts L} → (W → Writer) → Result (Unit {0}) SolverError → Proof W L G → Proof W L G → Search → Search → (o : ℕ) → Type 0
 StrengthensOrFails seen r p p' c c' o = EmitsSteps seen r p p' (λ _ _. StrengthensClause (session_of p') c c' o)
 
--- the live clauses among the first `at` of the list have no assigned literal
+-- `AreOpenTo c c' at` holds if the clauses that are live in `c'` among the first `at` of the list of `c` have no
+-- assigned literal
 abbrev pub AreOpenTo : Search → Search → ℕ → Type 0
 AreOpenTo c c' at = (k : ℕ) → k < at → Contains (live_refs c'.parts.clauses c'.parts.db.refs) (get_or c.parts.db.refs k 0) → HasNoAssignedLit c'.parts (get_or c.parts.db.refs k 0)
 
--- long clauses were removed or strengthened: no live one has an assigned literal
+-- `StrengthensAll s c c'` holds if long clauses were removed or strengthened so that no live one has an assigned
+-- literal
 pub record StrengthensAll (s : Session) (c c' : Search) : Type 0 where
   pub strengthened : IsStrengthened s c c'
   pub left : (o : ℕ) → Contains (live_refs c'.parts.clauses c'.parts.db.refs) o → HasNoAssignedLit c'.parts o

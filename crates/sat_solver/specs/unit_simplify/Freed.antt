@@ -18,7 +18,8 @@ use Rattle.sat_solver.specs.declared.context.Search.{Search}
 use Rattle.sat_solver.specs.variables.Shared.{SharesIndices}
 use Rattle.sat_solver.specs.unit_simplify.Flat.{HasEmptyTrail}
 
--- a variable lost its index, and its units may be forgotten; a search sees no other change
+-- `LosesIndex s t v` holds if the variable `v` lost its index, and its units may be forgotten; a search sees no other
+-- change
 pub record LosesIndex (s t : Session) (v : ℕ) : Type 0 where
   pub live : t.live ≡ s.live
   pub units : (w x : ℕ) (b : Bool) → w ≢ v → s.solver_names w ≡ Some x → t.units (mk_lit w b) ≡ s.units (mk_lit w b)
@@ -27,7 +28,8 @@ pub record LosesIndex (s t : Session) (v : ℕ) : Type 0 where
   pub width : t.width ≡ s.width
   pub assumed : t.assumed ≡ s.assumed
 
--- the same for names; the judge's state is unchanged
+-- `FreesIndex old new from to v` holds if the variable `v` lost its index in names and session, by steps that learn
+-- nothing; the judge's state is unchanged
 pub record FreesIndex (old new : Variables) (from to : List Step) (v : ℕ) : Type 0 where
   pub does : KeepsScriptState old new from to
   pub solvers : (w : ℕ) → solver_of new w ≡ (if w == v then None else solver_of old w)
@@ -36,21 +38,23 @@ pub record FreesIndex (old new : Variables) (from to : List Step) (v : ℕ) : Ty
   pub loses : LosesIndex (session_after from) (session_after to) v
   pub quiet : ComesQuietly from to
 
--- indices may be released: the search is at level 0 with an empty trail, and has the indices of the names
+-- `CanFreeIndices n steps c` holds if indices may be released: the search is at level 0 with an empty trail, and has
+-- the indices of the names
 pub record CanFreeIndices (n : Variables) (steps : List Step) (c : Search) : Type 0 where
   pub valid : NamesInvariant n steps
   pub search : SearchInvariant (session_after steps) c
   pub shares : SharesIndices n c
   pub flat : HasEmptyTrail c.parts
 
--- names keep their variables, and the assumptions are unchanged and keep their indices
+-- `KeepsAsked old new s t` holds if names keep their variables, and the assumptions are unchanged and keep their
+-- indices
 pub record KeepsAsked (old new : Variables) (s t : Session) : Type 0 where
   pub users : new.global_from_user ≡ old.global_from_user
   pub assumed : t.assumed ≡ s.assumed
   pub indices : (v x : ℕ) → mentions s.assumed v ≡ true → solver_of old v ≡ Some x → solver_of new v ≡ Some x
 
--- Some indices were released. No step is visible to the judge or learns anything. Clauses and assumptions are
--- unchanged, and the word of the trail is unchanged or extended.
+-- `FreesSome old new from to c c'` holds if some indices were released. No step is visible to the judge or learns
+-- anything. Clauses and assumptions are unchanged, and the word of the trail is unchanged or extended.
 pub record FreesSome (old new : Variables) (from to : List Step) (c c' : Search) : Type 0 where
   pub does : KeepsScriptState old new from to
   pub quiet : ComesQuietly from to
@@ -64,14 +68,14 @@ pub record FreesSome (old new : Variables) (from to : List Step) (c c' : Search)
   pub unset : (v : ℕ) → value_of c.parts.assignment.current v ≡ None → value_of c'.parts.assignment.current v ≡ None
   pub fewer : (x v : ℕ) → global_at new x ≡ Some v → global_at old x ≡ Some v
 
--- the variable that has this index, if any, is assumed
+-- `IsIndexOfAssumed n s x` holds if the variable that has the index `x`, if any, is assumed
 abbrev pub IsIndexOfAssumed : Variables → Session → ℕ → Type 0
 IsIndexOfAssumed n s x = (v : ℕ) → global_at n x ≡ Some v → mentions s.assumed v ≡ true
 
--- each of the first `at` indices is in a clause, or its variable, if any, is assumed
+-- `AreLeft n s p at` holds if each of the first `at` indices is in a clause, or its variable, if any, is assumed
 abbrev pub AreLeft : Variables → Session → SearchState → ℕ → Type 0
 AreLeft n s p at = (x : ℕ) → x < at → InNoClause p x → IsIndexOfAssumed n s x
 
--- the same for all indices
+-- `AllLeft n s p` holds if each index of the search is in a clause, or its variable, if any, is assumed
 abbrev pub AllLeft : Variables → Session → SearchState → Type 0
 AllLeft n s p = AreLeft n s p (length p.assignment.current)

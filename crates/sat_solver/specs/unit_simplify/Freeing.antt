@@ -9,16 +9,18 @@ use Rattle.sat_solver.specs.declared.context.Search.{Search}
 abbrev pub without_var : ℕ → SearchState → SearchState
 without_var v p = record p { assignment = with_value v None p.assignment; vsids = with_available v false p.vsids }
 
--- the parts after all unmarked variables below this index were freed in this way
+-- `freed_below used k p` is the parts after every unmarked variable below `k` has lost its value and can no longer be
+-- picked
 unfoldable pub freed_below : List Bool → ℕ → SearchState → SearchState
 freed_below used zero p = p
 freed_below used (suc k) p = if get_or used k false then freed_below used k p else without_var k (freed_below used k p)
 
--- the same for a search
+-- `freed_search used at c` is the search after every unmarked variable below `at` has lost its value and can no
+-- longer be picked
 abbrev pub freed_search : List Bool → ℕ → Search → Search
 freed_search used at c = record c { parts = freed_below used at c.parts }
 
--- only this mark may be new, and none was removed
+-- `MarksAtMost index old new` holds if only the mark of `index` may be new, and none was removed
 pub record MarksAtMost (index : ℕ) (old new : List Bool) : Type 0 where
   pub size : length new ≡ length old
   pub others : (v : ℕ) → v ≢ index → get_or new v false ≡ get_or old v false

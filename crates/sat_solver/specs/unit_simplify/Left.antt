@@ -10,15 +10,16 @@ use Rattle.sat_solver.specs.session.Session.{Session}
 use Rattle.sat_solver.specs.session.Fits.{SearchStateSessionInvariant}
 use Rattle.sat_solver.specs.session.Units.{FitsAll}
 
--- every literal of level 0 is a unit of the session
+-- `AllUnits p s global` holds if every literal of level 0 is a unit of the session
 abbrev pub AllUnits : SearchState → Session → (ℕ → ℕ) → Type 0
 AllUnits p s global = FitsAll p.clauses (live_refs p.clauses p.db.refs) p.binary.implied (state p) s global
 
--- the number of variables is unchanged
+-- `SameSize p p'` holds if the number of variables is unchanged
 abbrev pub SameSize : SearchState → SearchState → Type 0
 SameSize p p' = length p'.assignment.current ≡ length p.assignment.current
 
--- nothing is left to propagate and, if no level is open, the trail is empty
+-- `TakesUnitsOff p p' s global` holds if the parts match the session, nothing is left to propagate and, if no level
+-- is open, the trail is empty; levels and the number of variables are unchanged, and placed assumptions stay so
 pub record TakesUnitsOff (p p' : SearchState) (s : Session) (global : ℕ → ℕ) : Type 0 where
   pub valid : SearchStateSessionInvariant p' s global
   pub done : IsFullyPropagated p'

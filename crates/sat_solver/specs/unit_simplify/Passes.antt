@@ -24,14 +24,15 @@ use Rattle.sat_solver.specs.unit_simplify.Flat.{HasEmptyTrail}
 use Rattle.sat_solver.specs.unit_simplify.Freed.{KeepsAsked, AllLeft}
 use Rattle.sat_solver.specs.unit_simplify.ClauseStatus.{HasNoAssignedLit}
 
--- the invariants of names, proof and search hold together
+-- `JointInvariant n p c` holds if the invariants of names, proof and search hold together
 pub record JointInvariant {W L : Type 0} {G : Ghosts L} (n : Variables) (p : Proof W L G) (c : Search) : Type 0 where
   pub keeps : HasAllowedSteps p
   pub valid : NamesInvariant n (steps_of p)
   pub search : SearchInvariant (session_of p) c
   pub shares : SharesIndices n c
 
--- the same at level 0 after complete propagation; no clause is falsified
+-- `MaySettle n p c` holds if the invariants of names and proof hold with a search at level 0 after complete
+-- propagation, in which no clause is falsified
 pub record MaySettle {W L : Type 0} {G : Ghosts L} (n : Variables) (p : Proof W L G) (c : Search) : Type 0 where
   pub keeps : HasAllowedSteps p
   pub valid : NamesInvariant n (steps_of p)
@@ -39,8 +40,8 @@ pub record MaySettle {W L : Type 0} {G : Ghosts L} (n : Variables) (p : Proof W 
   pub propagated : IsPropagated (session_of p) c
   pub bottom : c.parts.trail.starts ≡ []
 
--- The invariants still hold together. The steps made are invisible to the judge and learn nothing, assumptions are
--- unchanged, and the word of the trail is unchanged or extended.
+-- `PassesQuietly seen n n' p p' c c'` holds if the invariants still hold together. The steps made are invisible to
+-- the judge and learn nothing, assumptions are unchanged, and the word of the trail is unchanged or extended.
 pub record PassesQuietly {W L : Type 0} {G : Ghosts L} (seen : W → Writer) (n n' : Variables) (p p' : Proof W L G) (c c' : Search) : Type 0 where
   pub together : JointInvariant n' p' c'
   pub took : ComesByCheckedSteps seen p p'
@@ -50,7 +51,8 @@ pub record PassesQuietly {W L : Type 0} {G : Ghosts L} (seen : W → Writer) (n 
   pub moved : SameVarsAndAssumptions c c'
   pub word : TrailWordExtendsFor (assumed_indices c) c.parts c'.parts
 
--- the call failed for a reason that the input does not determine; `StoreFull` only if `full` holds
+-- `PassFailsOr full seen e p p'` holds if a call failed with the error `e` for a reason that the input does not
+-- determine; `StoreFull` only if `full` holds
 pub record PassFailsOr {W L : Type 0} {G : Ghosts L} (full : Type 0) (seen : W → Writer) (e : SolverError) (p p' : Proof W L G) : Type 0 where
   pub fault : IsFaultOr full e
   pub steps : List Step
@@ -59,23 +61,25 @@ pub record PassFailsOr {W L : Type 0} {G : Ghosts L} (full : Type 0) (seen : W �
   pub kept : IsKept e p'
   pub loss : NamesLoss e p p'
 
--- the same if no clause is stored
+-- `PassFails seen e p p'` holds if a call that stores no clause failed with the error `e` for a reason that the input
+-- does not determine
 abbrev pub PassFails : {W L : Type 0} {G : Ghosts L} → (W → Writer) → SolverError → Proof W L G → Proof W L G → Type 0
 PassFails seen e p p' = PassFailsOr ⊥ seen e p p'
 
--- The trail is empty, and no literal of a long clause is assigned. Every index that a variable has is in a clause,
--- or the variable is assumed.
+-- `IsSimplifiedPass seen n n' p p' c c'` holds if a simplification left an empty trail and no literal of a long
+-- clause assigned, without steps that learn. Every index that a variable has is in a clause, or the variable is
+-- assumed.
 pub record IsSimplifiedPass {W L : Type 0} {G : Ghosts L} (seen : W → Writer) (n n' : Variables) (p p' : Proof W L G) (c c' : Search) : Type 0 where
   pub passes : PassesQuietly seen n n' p p' c c'
   pub flat : HasEmptyTrail c'.parts
   pub left : (o : ℕ) → Contains (live_refs c'.parts.clauses c'.parts.db.refs) o → HasNoAssignedLit c'.parts o
   pub indices : AllLeft n' (session_of p') c'.parts
 
--- the result of a simplification
+-- `Simplifies seen r n n' p p' c c'` is the result of a simplification: as by `IsSimplifiedPass`, or the call failed
 abbrev pub Simplifies : {W L : Type 0} {G : Ghosts L} → (W → Writer) → Result (Unit {0}) SolverError → Variables → Variables → Proof W L G → Proof W L G → Search → Search → Type 0
 Simplifies seen r n n' p p' c c' = MatchResult r (λ _. IsSimplifiedPass seen n n' p p' c c') (λ e. PassFails seen e p p')
 
--- a clause is falsified, and nothing was written
+-- `FindsFalseClause n n' p p' c c' e` holds if the conflict `e` is a falsified clause, and nothing was written
 pub record FindsFalseClause {W L : Type 0} {G : Ghosts L} (n n' : Variables) (p p' : Proof W L G) (c c' : Search) (e : Conflict) : Type 0 where
   pub names : n' ≡ n
   pub proof : p' ≡ p
@@ -84,11 +88,11 @@ pub record FindsFalseClause {W L : Type 0} {G : Ghosts L} (n n' : Variables) (p 
   pub moved : SameVarsAndAssumptions c c'
   pub word : TrailWordExtendsFor (assumed_indices c) c.parts c'.parts
 
--- the round may go on, or a clause is already falsified
+-- `BeginSays seen conflict n n' p p' c c'` holds if the round may go on, or a clause is already falsified
 abbrev pub BeginSays : {W L : Type 0} {G : Ghosts L} → (W → Writer) → Option Conflict → Variables → Variables → Proof W L G → Proof W L G → Search → Search → Type 0
 BeginSays seen None n n' p p' c c' = PassesQuietly seen n n' p p' c c'
 BeginSays seen (Some e) n n' p p' c c' = FindsFalseClause n n' p p' c c' e
 
--- the result of beginning a round
+-- `BeginsRound seen r n n' p p' c c'` is the result of beginning a round: as by `BeginSays`, or the call failed
 abbrev pub BeginsRound : {W L : Type 0} {G : Ghosts L} → (W → Writer) → Result (Option Conflict) SolverError → Variables → Variables → Proof W L G → Proof W L G → Search → Search → Type 0
 BeginsRound seen r n n' p p' c c' = MatchResult r (λ o. BeginSays seen o n n' p p' c c') (λ e. PassFails seen e p p')

@@ -16,7 +16,8 @@ use Rattle.sat_solver.specs.variables.NamingSteps.{IsDue, IsNextVariable}
 use Rattle.sat_solver.specs.variables.VariableRoom.{live_count, LeavesRoom}
 use Rattle.sat_solver.specs.declared.variables.Variables.{Variables}
 
--- the invariant between calls, for any judge: the names are consistent and match the steps, all of which were allowed
+-- `NamesInvariant n steps` holds if the names are consistent and match the steps, all of which were allowed: the
+-- invariant between calls, for any judge
 pub record NamesInvariant (n : Variables) (steps : List Step) : Type 0 where
   pub tidy : VariablesInvariant n
   pub said : NamesMatchSteps n (session_after steps)
@@ -24,22 +25,24 @@ pub record NamesInvariant (n : Variables) (steps : List Step) : Type 0 where
   -- by the steps, every name has the variable that is stored for it
   pub read : (u : ℕ) → variable_of steps (u + 1) ≡ global_of n u
 
--- names and steps match this state of the judge
+-- `NamesAgree n steps j live` holds if names and steps match the state `j` of the judge, whose live variables are
+-- `live`
 pub record NamesAgree (n : Variables) (steps : List Step) (j : ScriptState) (live : LiveVariables) : Type 0 where
   pub judged : NamesMatchState n j live
   pub bridge : IsBridge checker_rules j steps live
 
--- names and steps match some state of the judge
+-- `HasScriptState n steps` holds if names and steps match some state of the judge
 abbrev pub HasScriptState : Variables → List Step → Type 0
 HasScriptState n steps = (j : ScriptState) × (live : LiveVariables) × NamesAgree n steps j live
 
--- names and steps match this state of the judge, and the ordered steps made since `from` are the expected ones
+-- `ReachesScriptState new from to j es` holds if names and steps match the state `j` of the judge, and the ordered
+-- steps made since `from` are the expected ones
 pub record ReachesScriptState (new : Variables) (from to : List Step) (j : ScriptState) (es : List Expected) : Type 0 where
   pub live : LiveVariables
   pub agree : NamesAgree new to j live
   pub trace : HasTrace checker_rules from to es
 
--- a name was given to a new variable
+-- `NamesOne old new from to user v` holds if the name `user` was given to the new variable `v`
 pub record NamesOne (old new : Variables) (from to : List Step) (user v : ℕ) : Type 0 where
   pub valid : NamesInvariant new to
   pub named : (u : ℕ) → global_of new u ≡ (if u == user then Some v else global_of old u)
@@ -52,7 +55,7 @@ pub record NamesOne (old new : Variables) (from to : List Step) (user v : ℕ) :
   pub extends : ExtendsNames old new
   pub unseen : IsUnseen old new from to
 
--- these names were introduced, in order
+-- `NamesAll old new from to names` holds if the names `names` were introduced, in order
 pub record NamesAll (old new : Variables) (from to : List Step) (names : List ℕ) : Type 0 where
   pub valid : NamesInvariant new to
   pub extends : ExtendsNames old new
@@ -60,16 +63,18 @@ pub record NamesAll (old new : Variables) (from to : List Step) (names : List �
   pub comes : OnlyAllowedSteps IsDue from to
   pub kept : (j : ScriptState) (live : LiveVariables) → NamesAgree old from j live → ReachesScriptState new from to (with_names names j) (map NewName names)
 
--- how a call changes the judge's state, and which ordered steps it makes; other steps may be in between
+-- `NamesEffect old new from to judge due` holds if a call changed the judge's state by `judge` and made the ordered
+-- steps `due`; other steps may be in between
 pub record NamesEffect (old new : Variables) (from to : List Step) (judge : ScriptState → ScriptState) (due : ScriptState → List Expected) : Type 0 where
   pub valid : NamesInvariant new to
   pub kept : (j : ScriptState) (live : LiveVariables) → NamesAgree old from j live → ReachesScriptState new from to (judge j) (due j)
 
--- a name was introduced
+-- `IntroducesName old new from to user` holds if the name `user` was introduced
 abbrev pub IntroducesName : Variables → Variables → List Step → List Step → ℕ → Type 0
 IntroducesName old new from to user = NamesEffect old new from to (introduce (user + 1)) (λ j. map NewName (new_names (user + 1) j))
 
--- the same, without a change that the search sees
+-- `IntroducesNameUnseen old new from to user` holds if the name `user` was introduced, without a change that the search
+-- sees
 pub record IntroducesNameUnseen (old new : Variables) (from to : List Step) (user : ℕ) : Type 0 where
   pub brings : IntroducesName old new from to user
   pub extends : ExtendsNames old new
@@ -77,6 +82,6 @@ pub record IntroducesNameUnseen (old new : Variables) (from to : List Step) (use
   pub comes : OnlyAllowedSteps IsDue from to
   pub room : LeavesRoom old new user
 
--- the judge's state is unchanged, and no ordered step was made
+-- `KeepsScriptState old new from to` holds if the judge's state is unchanged, and no ordered step was made
 abbrev pub KeepsScriptState : Variables → Variables → List Step → List Step → Type 0
 KeepsScriptState old new from to = NamesEffect old new from to (λ j. j) (λ j. [])

@@ -2,7 +2,7 @@
 use Rattle.std.specs.Prelude.{ℕ, zero, suc, ◌+◌, ◌≡◌, Bool, is_some, List, Option, length, if◌then◌else◌}
 use Rattle.sat_store.specs.variables.Maps.{MapAndInverse, target}
 
--- how many numbers below a bound satisfy the predicate
+-- the number of numbers below a bound that satisfy the predicate
 unfoldable pub count_to : ℕ → (ℕ → Bool) → ℕ
 count_to zero f = 0
 count_to (suc n) f = count_to n f + (if f n then 1 else 0)
@@ -11,6 +11,6 @@ count_to (suc n) f = count_to n f + (if f n then 1 else 0)
 abbrev pub mapped_count : List (Option ℕ) → ℕ
 mapped_count map = count_to (length map) (λ v. is_some (target map v))
 
--- as many keys have a value as values have a key
+-- `HasEqualCounts maps` holds if as many keys have a value as values have a key
 abbrev pub HasEqualCounts : MapAndInverse → Type 0
 HasEqualCounts maps = mapped_count maps.fwd ≡ mapped_count maps.bwd

@@ -4,11 +4,11 @@ use Rattle.sat_base.specs.values.Literals.{var_limit}
 use Rattle.sat_solver.specs.variables.Counting.{count_to}
 use Rattle.sat_solver.specs.declared.variables.free.FreeIndices.{FreeIndices}
 
--- whether the node says that an index at or below it is free; false past the end of the list
+-- `tree_node_at nodes q` is true if the node says that an index at or below it is free; false past the end of the list
 abbrev pub tree_node_at : List Bool → ℕ → Bool
 tree_node_at nodes q = get_or nodes q false
 
--- whether an index is free: the second half of the nodes are the leaves
+-- `is_free f i` is true if index `i` is free; the second half of the nodes are the leaves
 abbrev pub is_free : FreeIndices → ℕ → Bool
 is_free f i = tree_node_at f.nodes.items (f.room + i)
 
@@ -17,16 +17,17 @@ unfoldable pub doubled : ℕ → ℕ
 doubled zero = 1
 doubled (suc h) = 2 * doubled h
 
--- the number of leaves is 0 or a power of two, within the limit of variables
+-- `Powers f` holds if the number of leaves is 0 or 2^`height`, within the limit of variables
 pub data Powers (f : FreeIndices) : Type 0 where
   empty : f.room ≡ 0 → Powers f
   power : f.room ≡ doubled f.height → f.room ≤ var_limit → Powers f
 
--- the stored count is the number of free indices
+-- `IsCounted f` holds if the stored count is the number of free indices
 abbrev pub IsCounted : FreeIndices → Type 0
 IsCounted f = f.count ≡ count_to f.room (is_free f)
 
--- the nodes form a complete binary tree over `room` leaves, and the count of free indices is correct
+-- `IsTree f` holds if the nodes form a complete binary tree over `room` leaves, and the count of free indices is
+-- correct
 pub record IsTree (f : FreeIndices) : Type 0 where
   pub size : length f.nodes.items ≡ 2 * f.room
   pub powers : Powers f
@@ -34,27 +35,28 @@ pub record IsTree (f : FreeIndices) : Type 0 where
   -- an inner node is set if one of its children is
   pub inner : (q : ℕ) → 0 < q → q < f.room → tree_node_at f.nodes.items q ≡ (tree_node_at f.nodes.items (2 * q) || tree_node_at f.nodes.items (2 * q + 1))
 
--- such a tree, with at least this many leaves
+-- `Spans f count` holds if `IsTree f` does, and the tree has at least `count` leaves
 pub record Spans (f : FreeIndices) (count : ℕ) : Type 0 where
   pub tree : IsTree f
   pub room : count ≤ f.room
 
--- one node was updated from its children
+-- `Refreshes old new at` holds if the node `at` was updated from its children, and no other node has changed
 pub record Refreshes (old new : List Bool) (at : ℕ) : Type 0 where
   pub size : length new ≡ length old
   pub nodes : (q : ℕ) → tree_node_at new q ≡ (if q == at then tree_node_at old (2 * at) || tree_node_at old (2 * at + 1) else tree_node_at old q)
 
--- the lower child of this node that has a free index at or below it
+-- `IsChild nodes at child` holds if `child` is the first child of the node `at` that has a free index at or below it
 pub record IsChild (nodes : List Bool) (at child : ℕ) : Type 0 where
   pub holds : tree_node_at nodes child ≡ true
   pub is : (child ≡ 2 * at) ⊎ ((child ≡ 2 * at + 1) × (tree_node_at nodes (2 * at) ≡ false))
 
--- the index is free, and no lower one is
+-- `IsLowest f i` holds if index `i` is free, and no lower one is
 pub record IsLowest (f : FreeIndices) (i : ℕ) : Type 0 where
   pub free : is_free f i ≡ true
   pub lowest : (k : ℕ) → k < i → is_free f k ≡ false
 
--- the leaves of a tree were copied to their places in a tree of twice as many leaves; its other leaves are unchanged
+-- `CopiesLeaves old new room` holds if the leaves of a tree were copied to their places in a tree of twice as many
+-- leaves; its other leaves are unchanged
 pub record CopiesLeaves (old new : List Bool) (room : ℕ) : Type 0 where
   pub size : length new ≡ length old
   pub there : (i : ℕ) → i < room → tree_node_at new (2 * room + i) ≡ tree_node_at old (room + i)

@@ -16,23 +16,24 @@ use Rattle.sat_solver.specs.declared.variables.solver_vars.Given.{Given}
 use Rattle.sat_solver.specs.cdcl.Joint.{SearchInvariant}
 use Rattle.sat_solver.specs.declared.context.Search.{Search}
 
--- an index was given, with this literal as its unit
+-- `GivesLit gs l` holds if an index in `gs` was given, with the literal `l` as its unit
 abbrev pub GivesLit : List Given → ℕ → Type 0
 GivesLit [] l = ⊥
 GivesLit (g ∷ gs) l = ((g.solver ≡ variable l) × (g.unit ≡ Some (is_positive l))) ⊎ GivesLit gs l
 
--- no variable of the search uses the index, which is below the count: it has no value and may not be picked
+-- `IsVacant p count g` holds if the index of `g` is below `count`, has no value and may not be picked
 pub record IsVacant (p : SearchState) (count : ℕ) (g : Given) : Type 0 where
   pub below : g.solver < count
   pub open_value : value_of p.assignment.current g.solver ≡ None
   pub unpicked : is_available p.vsids g.solver ≡ false
 
--- none of these indices is in use, and none is given twice
+-- `AreVacant p count gs` holds if none of the indices in `gs` is in use, and none is given twice
 pub record AreVacant (p : SearchState) (count : ℕ) (gs : List Given) : Type 0 where
   pub each : AllByRecursion (IsVacant p count) gs
   pub apart : IndicesDistinct gs
 
--- indices were added at level 0: those with a unit have its value, the others may be picked, and nothing else changed
+-- `ActivatesIndices gs p p'` holds if the indices in `gs` were added at level 0: those with a unit have its value, the
+-- others may be picked, and nothing else changed
 pub record ActivatesIndices (gs : List Given) (p p' : SearchState) : Type 0 where
   pub holds : SearchStateInvariant p'
   pub bottom : p'.trail.starts ≡ []
@@ -45,20 +46,23 @@ pub record ActivatesIndices (gs : List Given) (p p' : SearchState) : Type 0 wher
   pub kept : (l : ℕ) → IsTrueLit p.assignment.current l → level (state p) l ≡ 0 → IsTrueLit p'.assignment.current l × (level (state p') l ≡ 0)
   pub its : (l : ℕ) → GivesLit gs l → IsTrueLit p'.assignment.current l × (level (state p') l ≡ 0)
 
--- the new list has the variables of `globals` at these indices, and is unchanged elsewhere
+-- `Renames gs globals old new` holds if `new` has the variables of `globals` at the indices in `gs`, and is unchanged
+-- elsewhere
 pub record Renames (gs : List Given) (globals old new : List ℕ) : Type 0 where
   pub size : length new ≡ length old
   pub named : (v : ℕ) → HasGiven gs v → get_or new v 0 ≡ get_or globals v 0
   pub others : (v : ℕ) → (HasGiven gs v → ⊥) → get_or new v 0 ≡ get_or old v 0
 
--- the proof variable, which had no index, got this one, which no variable had; this is its unit
+-- `IsGivenTo globals s t g` holds if the proof variable, which had no index, got the index of `g`, which no variable
+-- had; the unit of `g` is its unit
 pub record IsGivenTo (globals : List ℕ) (s t : Session) (g : Given) : Type 0 where
   pub without : s.solver_names (global_of_index globals g.solver) ≡ None
   pub free : (v : ℕ) → s.solver_names v ≢ Some g.solver
   pub named : t.solver_names (global_of_index globals g.solver) ≡ Some g.solver
   pub unit : (b : Bool) → s.units (mk_lit (global_of_index globals g.solver) b) ≡ says_unit g.unit b
 
--- between these sessions, proof variables got these indices; a search sees no other change
+-- `GivesNames globals gs count s t` holds if proof variables got the indices in `gs` between the sessions `s` and `t`;
+-- a search sees no other change
 pub record GivesNames (globals : List ℕ) (gs : List Given) (count : ℕ) (s t : Session) : Type 0 where
   pub keeps : KeepsSearch s t
   pub each : AllByRecursion (IsGivenTo globals s t) gs
@@ -66,7 +70,8 @@ pub record GivesNames (globals : List ℕ) (gs : List Given) (count : ℕ) (s t 
   pub others : (v x : ℕ) → t.solver_names v ≡ Some x → (s.solver_names v ≡ Some x) ⊎ HasGiven gs x
   pub below : (v x : ℕ) → s.solver_names v ≡ Some x → x < count
 
--- these indices belong to these proof variables; other indices and the assumptions are unchanged; the search is at level 0
+-- `GivesSearchIndices globals gs c c'` holds if the indices in `gs` belong to the proof variables of `globals`; other
+-- indices and the assumptions are unchanged; the search is at level 0
 pub record GivesSearchIndices (globals : List ℕ) (gs : List Given) (c c' : Search) : Type 0 where
   pub named : (v : ℕ) → HasGiven gs v → get_or c'.globals.items v 0 ≡ get_or globals v 0
   pub others : (v : ℕ) → v < length c.globals.items → (HasGiven gs v → ⊥) → get_or c'.globals.items v 0 ≡ get_or c.globals.items v 0

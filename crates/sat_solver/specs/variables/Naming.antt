@@ -10,23 +10,24 @@ use Rattle.sat_solver.specs.variables.Free.{is_free, Spans}
 use Rattle.sat_solver.specs.variables.Variables.{data_at, global_of, names_used, variables_used, solver_of, global_at, indices_used, is_witness_kept}
 use Rattle.sat_solver.specs.declared.variables.Variables.{Variables}
 
--- the variable for a new name: the one with the name's own number if that is free, otherwise the lowest free one
+-- `IsVariableForName n user v` holds if `v` is the variable for a new name `user`: the one with the name's own number
+-- if that is free, otherwise the lowest free one
 pub record IsVariableForName (n : Variables) (user v : ℕ) : Type 0 where
   pub unused : (data_at n v).deleted ≡ true
   pub within : v ≤ variables_used n
   pub own : (data_at n user).deleted ≡ true → v ≡ user
   pub lowest : (data_at n user).deleted ≡ false → (w : ℕ) → w < v → (data_at n w).deleted ≡ false
 
--- every variable is in use
+-- `NoVariableLeft n` holds if every variable is in use
 abbrev pub NoVariableLeft : Variables → Type 0
 NoVariableLeft n = (v : ℕ) → v < var_limit → (data_at n v).deleted ≡ false
 
--- every name up to the limit is in use
+-- `NamesFull n` holds if every name up to the limit is in use
 pub record NamesFull (n : Variables) : Type 0 where
   pub used : names_used n ≡ var_limit
   pub all : (u : ℕ) → u < names_used n → global_of n u ≡ None → ⊥
 
--- a name was given to a new variable
+-- `PutsName old new user v` holds if the name `user` was given to the new variable `v`
 pub record PutsName (old new : Variables) (user v : ℕ) : Type 0 where
   pub users : Links old.global_from_user new.global_from_user user v
   pub inverse : AreInverse new.global_from_user
@@ -43,7 +44,7 @@ pub record PutsName (old new : Variables) (user v : ℕ) : Type 0 where
   pub spans_users : Spans new.free_users (names_used new)
   pub spans_globals : Spans new.free_globals (variables_used new)
 
--- a variable got an index, or lost it
+-- `PutsIndex old new v x there` holds if variable `v` got index `x` if `there` is true, and lost it otherwise
 pub record PutsIndex (old new : Variables) (v x : ℕ) (there : Bool) : Type 0 where
   pub solvers : (w : ℕ) → solver_of new w ≡ (if w == v then (if there then Some x else None) else solver_of old w)
   pub globals : (y : ℕ) → global_at new y ≡ (if y == x then (if there then Some v else None) else global_at old y)
@@ -60,7 +61,7 @@ pub record PutsIndex (old new : Variables) (v x : ℕ) (there : Bool) : Type 0 w
   pub free_solvers : (y : ℕ) → is_free new.free_solvers y ≡ (if y == x then not there else is_free old.free_solvers y)
   pub spans_solvers : Spans new.free_solvers (indices_used new)
 
--- a variable lost its name, and is hidden
+-- `PutsHidden old new user v` holds if variable `v` lost its name `user`, and is hidden
 pub record PutsHidden (old new : Variables) (user v : ℕ) : Type 0 where
   pub users : Unlinks old.global_from_user new.global_from_user user v
   pub inverse : AreInverse new.global_from_user
@@ -75,7 +76,7 @@ pub record PutsHidden (old new : Variables) (user v : ℕ) : Type 0 where
   pub free_solvers : new.free_solvers ≡ old.free_solvers
   pub spans_users : Spans new.free_users (names_used new)
 
--- the mode of a variable was set
+-- `PutsMode old new v mode` holds if the mode of variable `v` was set
 pub record PutsMode (old new : Variables) (v : ℕ) (mode : SamplingMode) : Type 0 where
   pub users : new.global_from_user ≡ old.global_from_user
   pub solvers : new.solver_from_global ≡ old.solver_from_global
@@ -89,7 +90,7 @@ pub record PutsMode (old new : Variables) (v : ℕ) (mode : SamplingMode) : Type
   pub free_globals : new.free_globals ≡ old.free_globals
   pub free_solvers : new.free_solvers ≡ old.free_solvers
 
--- a variable is no longer in use
+-- `PutsDeleted old new v` holds if variable `v` is no longer in use
 pub record PutsDeleted (old new : Variables) (v : ℕ) : Type 0 where
   pub users : new.global_from_user ≡ old.global_from_user
   pub solvers : new.solver_from_global ≡ old.solver_from_global
@@ -103,27 +104,29 @@ pub record PutsDeleted (old new : Variables) (v : ℕ) : Type 0 where
   pub free_solvers : new.free_solvers ≡ old.free_solvers
   pub spans_globals : Spans new.free_globals (variables_used new)
 
--- names in use keep their variables and modes; new names are of mode sample, on variables that were not in use
+-- `ExtendsNames old new` holds if names in use keep their variables and modes; new names are of mode sample, on
+-- variables that were not in use. No variable was deleted.
 pub record ExtendsNames (old new : Variables) : Type 0 where
   pub stays : (u v : ℕ) → global_of old u ≡ Some v → (global_of new u ≡ Some v) × ((data_at new v).sampling_mode ≡ (data_at old v).sampling_mode)
   pub came : (u v : ℕ) → global_of old u ≡ None → global_of new u ≡ Some v → (data_at new v).sampling_mode ≡ kept.Sample
   pub fresh : (u v : ℕ) → global_of old u ≡ None → global_of new u ≡ Some v → (data_at old v).deleted ≡ true
   pub lives : (v : ℕ) → (data_at old v).deleted ≡ false → (data_at new v).deleted ≡ false
 
--- every name that was in use and still is has the same variable; every new name has a variable that was not in use
+-- `VariablesAreKeptOrNew old new` holds if every name that was in use and still is has the same variable; every new
+-- name has a variable that was not in use
 pub record VariablesAreKeptOrNew (old new : Variables) : Type 0 where
   pub same : (u v w : ℕ) → global_of old u ≡ Some v → global_of new u ≡ Some w → w ≡ v
   pub fresh : (u v : ℕ) → global_of old u ≡ None → global_of new u ≡ Some v → (data_at old v).deleted ≡ true
 
--- names in use keep their variables
+-- `KeepsNames old new` holds if names in use keep their variables
 abbrev pub KeepsNames : Variables → Variables → Type 0
 KeepsNames old new = (u v : ℕ) → global_of old u ≡ Some v → global_of new u ≡ Some v
 
--- names in use keep their variables, except for this one
+-- `KeepsOthers old new user` holds if names in use keep their variables, except for `user`
 abbrev pub KeepsOthers : Variables → Variables → ℕ → Type 0
 KeepsOthers old new user = (u v : ℕ) → u ≢ user → global_of old u ≡ Some v → global_of new u ≡ Some v
 
--- maps and free indices are unchanged
+-- `SameMaps old new` holds if maps and free indices are unchanged
 pub record SameMaps (old new : Variables) : Type 0 where
   pub users : new.global_from_user ≡ old.global_from_user
   pub solvers : new.solver_from_global ≡ old.solver_from_global
@@ -135,24 +138,26 @@ pub record SameMaps (old new : Variables) : Type 0 where
   pub free_globals : new.free_globals ≡ old.free_globals
   pub free_solvers : new.free_solvers ≡ old.free_solvers
 
--- the value of a variable's unit is stored
+-- `PutsUnit old new v value` holds if `value` is stored as the value of the unit of variable `v`; maps, free indices
+-- and other data are unchanged
 pub record PutsUnit (old new : Variables) (v : ℕ) (value : Option Bool) : Type 0 where
   pub maps : SameMaps old new
   pub kept : (w : ℕ) → data_at new w ≡ (if w == v then record (data_at old v) { unit = value } else data_at old w)
 
--- the next name: the lowest one not in use
+-- `IsNextUser n user` holds if `user` is the next name: the lowest one not in use
 pub record IsNextUser (n : Variables) (user : ℕ) : Type 0 where
   pub unused : global_of n user ≡ None
   pub reach : user ≤ names_used n
   pub lowest : (m : ℕ) → m < user → global_of n m ≡ None → ⊥
 
--- the same in the judge's terms: the lowest hidden name, otherwise the first never used
+-- `IsLowestUnused j name` holds if `name` is the lowest name not in use, by the judge's state: the lowest hidden name,
+-- otherwise the first never used
 pub record IsLowestUnused (j : ScriptState) (name : ℕ) : Type 0 where
   pub named : 0 < name
   pub unused : identity_of j name ≡ None
   pub lowest : (m : ℕ) → 0 < m → m < name → identity_of j m ≡ None → ⊥
 
--- a hidden variable got a name again, and mode witness
+-- `PutsObserved old new user v` holds if the hidden variable `v` got the name `user`, and mode witness
 pub record PutsObserved (old new : Variables) (user v : ℕ) : Type 0 where
   pub users : Links old.global_from_user new.global_from_user user v
   pub inverse : AreInverse new.global_from_user
@@ -167,7 +172,7 @@ pub record PutsObserved (old new : Variables) (user v : ℕ) : Type 0 where
   pub free_solvers : new.free_solvers ≡ old.free_solvers
   pub spans_users : Spans new.free_users (names_used new)
 
--- the next index: the lowest one that no variable has
+-- `IsNextIndex n x` holds if `x` is the next index: the lowest one that no variable has
 pub record IsNextIndex (n : Variables) (x : ℕ) : Type 0 where
   pub free : global_at n x ≡ None
   pub reach : x ≤ indices_used n

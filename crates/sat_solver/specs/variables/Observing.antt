@@ -11,7 +11,7 @@ use Rattle.sat_solver.specs.variables.Search.{IsUnseen}
 use Rattle.sat_solver.specs.variables.Variables.{data_at, user_of, variables_used}
 use Rattle.sat_solver.specs.declared.variables.Variables.{Variables}
 
--- the identity gets this name, and mode witness
+-- the script state after an identity gets a name, and mode witness
 abbrev pub observed : ℕ → ℕ → ScriptState → ScriptState
 observed name identity j = record {
   first_unused = max j.first_unused (name + 1);
@@ -21,19 +21,19 @@ observed name identity j = record {
   clauses = j.clauses;
 }
 
--- Hidden variables got the next names, by increasing variable starting with this one. For each of them, its mode was
--- written, and then its name.
+-- `Observes low s j live t k users` holds if hidden variables got the next names `users`, by increasing variable
+-- starting with `low`. For each of them, its mode was written, and then its name.
 pub data Observes : ℕ → List Step → ScriptState → LiveVariables → List Step → ScriptState → List ℕ → Type 0 where
   all_named : {low : ℕ} {s : List Step} {j : ScriptState} {live : LiveVariables} → Observes low s j live s j []
   one_more : {low : ℕ} {s t : List Step} {j k : ScriptState} {live : LiveVariables} {users : List ℕ} (v i user : ℕ) → low ≤ v → given live v ≡ Some i → ((name : ℕ) → variable_of s name ≡ Some v → ⊥) → IsLowestUnused j (user + 1)
       → Observes (v + 1) (UserVarName v (Some user) ∷ ChangeSamplingMode v false ∷ s) (observed (user + 1) i j) live t k users → Observes low s j live t k (user ∷ users)
 
--- a variable that is in use and has no name
+-- `IsHidden n v` holds if variable `v` is in use and has no name
 pub record IsHidden (n : Variables) (v : ℕ) : Type 0 where
   pub live : (data_at n v).deleted ≡ false
   pub nameless : user_of n v ≡ None
 
--- a hidden variable got the next name
+-- `NamesHidden old new from to v user` holds if the hidden variable `v` got the next name `user`
 pub record NamesHidden (old new : Variables) (from to : List Step) (v user : ℕ) : Type 0 where
   pub valid : NamesInvariant new to
   pub next : IsNextUser old user
@@ -45,7 +45,7 @@ pub record NamesHidden (old new : Variables) (from to : List Step) (v user : ℕ
   pub kept : (j : ScriptState) (live : LiveVariables) (i : ℕ) → NamesAgree old from j live → given live v ≡ Some i → NamesAgree new to (observed (user + 1) i j) live
   pub unseen : IsUnseen old new from to
 
--- all hidden variables got names, and mode witness
+-- `NamesAllHidden old new from to users` holds if all hidden variables got the names `users`, and mode witness
 pub record NamesAllHidden (old new : Variables) (from to : List Step) (users : List ℕ) : Type 0 where
   pub valid : NamesInvariant new to
   pub all : (v : ℕ) → IsHidden new v → ⊥

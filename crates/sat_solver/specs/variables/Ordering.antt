@@ -5,8 +5,8 @@ use Rattle.sat_checker.specs.SortedSets.{IsIncreasing}
 use Rattle.sat_solver.specs.session.LiveClauses.{AreMapped, with_var}
 use Rattle.sat_solver.specs.session.Session.{session_after}
 
--- the clause has its literals by increasing index of their variables, a positive one before its negation, and none
--- twice
+-- `IsInIndexOrder earlier clause` holds if the clause has its literals by increasing index of their variables, a
+-- positive one before its negation, and none twice
 pub record IsInIndexOrder (earlier : List Step) (clause : List ℕ) : Type 0 where
   pub variable_at : ℕ → ℕ
   pub lits : List ℕ
@@ -14,7 +14,7 @@ pub record IsInIndexOrder (earlier : List Step) (clause : List ℕ) : Type 0 whe
   pub indices : AreMapped variable_at (session_after earlier).solver_names lits
   pub increasing : IsIncreasing lits
 
--- one of the steps made after `from` added a clause in this order
+-- `AddsInOrder from to` holds if one of the steps made after `from` added a clause in the order of indices
 pub record AddsInOrder (from to : List Step) : Type 0 where
   pub front : List Step
   pub clause : List ℕ

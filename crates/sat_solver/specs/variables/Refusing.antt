@@ -14,7 +14,7 @@ abbrev pub as_refusal : Option ℕ → Option Refusal
 as_refusal None = None
 as_refusal (Some user) = Some (WitnessName (user + 1))
 
--- the name is in use, and an assumption has it
+-- `IsAssumed n user` holds if the name `user` is in use, and an assumption has it
 pub record IsAssumed (n : Variables) (user : ℕ) : Type 0 where
   pub variable_is : ℕ
   pub named : global_of n user ≡ Some variable_is

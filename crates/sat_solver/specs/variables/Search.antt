@@ -11,7 +11,8 @@ use Rattle.sat_solver.specs.variables.Variables.{global_of, global_at, solver_of
 use Rattle.sat_solver.specs.declared.variables.solver_vars.Given.{Given}
 use Rattle.sat_solver.specs.declared.variables.Variables.{Variables}
 
--- clauses, units and assumptions of the session are unchanged
+-- `KeepsSearch s t` holds if clauses, units, width and assumptions of the session are unchanged, and so is whether
+-- unsat is recorded
 pub record KeepsSearch (s t : Session) : Type 0 where
   pub live : t.live ≡ s.live
   pub units : t.units ≡ s.units
@@ -19,7 +20,7 @@ pub record KeepsSearch (s t : Session) : Type 0 where
   pub width : t.width ≡ s.width
   pub assumed : t.assumed ≡ s.assumed
 
--- the same, except that the units of a variable are forgotten
+-- `ForgetsUnits s t v` holds if `KeepsSearch s t` does, except that the units of variable `v` are forgotten
 pub record ForgetsUnits (s t : Session) (v : ℕ) : Type 0 where
   pub live : t.live ≡ s.live
   pub units : (l : ℕ) → t.units l ≡ (s.units l && not (variable l == v))
@@ -27,14 +28,15 @@ pub record ForgetsUnits (s t : Session) (v : ℕ) : Type 0 where
   pub width : t.width ≡ s.width
   pub assumed : t.assumed ≡ s.assumed
 
--- neither the session's clauses nor the search's indices have changed, and every valuation that is admitted was admitted before
+-- `IsUnseen old new from to` holds if neither the session's clauses nor the search's indices have changed, and every
+-- valuation that is admitted was admitted before
 pub record IsUnseen (old new : Variables) (from to : List Step) : Type 0 where
   pub solvers : new.solver_from_global ≡ old.solver_from_global
   pub globals : new.globals ≡ old.globals
   pub search : KeepsSearch (session_after from) (session_after to)
   pub leaves : (a : Valuation) → Holds to a → Holds from a
 
--- a variable got this index, which no variable had, and this is its unit
+-- `IsGiven old new s g` holds if a variable got the index of `g`, which no variable had; the unit of `g` is its unit
 pub record IsGiven (old new : Variables) (s : Session) (g : Given) : Type 0 where
   pub variable : ℕ
   pub without : solver_of old variable ≡ None
@@ -42,17 +44,17 @@ pub record IsGiven (old new : Variables) (s : Session) (g : Given) : Type 0 wher
   pub taken : global_at new g.solver ≡ Some variable
   pub unit : (b : Bool) → s.units (mk_lit variable b) ≡ says_unit g.unit b
 
--- no index is given twice
+-- `IndicesDistinct gs` holds if no index is twice in `gs`
 abbrev pub IndicesDistinct : List Given → Type 0
 IndicesDistinct [] = Unit {0}
 IndicesDistinct (g ∷ gs) = AllByRecursion (λ h. h.solver ≢ g.solver) gs × IndicesDistinct gs
 
--- the index is among those given
+-- `HasGiven gs x` holds if index `x` is in `gs`
 abbrev pub HasGiven : List Given → ℕ → Type 0
 HasGiven [] x = ⊥
 HasGiven (g ∷ gs) x = (g.solver ≡ x) ⊎ HasGiven gs x
 
--- exactly these indices were given, and no variable lost its index
+-- `GivesIndices old new s gs` holds if exactly the indices in `gs` were given, and no variable lost its index
 pub record GivesIndices (old new : Variables) (s : Session) (gs : List Given) : Type 0 where
   pub stays : (v x : ℕ) → solver_of old v ≡ Some x → solver_of new v ≡ Some x
   pub each : AllByRecursion (IsGiven old new s) gs
@@ -60,16 +62,18 @@ pub record GivesIndices (old new : Variables) (s : Session) (gs : List Given) : 
   pub others : (v x : ℕ) → solver_of new v ≡ Some x → (solver_of old v ≡ Some x) ⊎ HasGiven gs x
   pub used : indices_used old ≤ indices_used new
 
--- the units of variables with names are unchanged
+-- `KeepsUnits new from to` holds if the units of variables with names are unchanged
 abbrev pub KeepsUnits : Variables → List Step → List Step → Type 0
 KeepsUnits new from to = (u v : ℕ) (b : Bool) → global_of new u ≡ Some v → (session_after to).units (mk_lit v b) ≡ (session_after from).units (mk_lit v b)
 
--- the steps admit some valuation with the same values as this one for the variables of these literals
+-- `IsLeftOn steps ls a` holds if the steps admit some valuation with the same values as `a` for the variables of the
+-- literals `ls`
 abbrev pub IsLeftOn : List Step → List ℕ → Valuation → Type 0
 IsLeftOn steps ls a = (b : Valuation) × Holds steps b × ((v : ℕ) → mentions ls v ≡ true → b v ≡ a v)
 
--- Everything that the search can see is unchanged; only units of variables without an index may be forgotten. For
--- every valuation that is admitted now, an earlier one has the same values for the assumptions.
+-- `IsAlike old new from to` holds if everything that the search can see is unchanged; only units of variables without
+-- an index may be forgotten. For every valuation that is admitted now, an earlier one has the same values for the
+-- assumptions.
 pub record IsAlike (old new : Variables) (from to : List Step) : Type 0 where
   pub solvers : new.solver_from_global ≡ old.solver_from_global
   pub globals : new.globals ≡ old.globals

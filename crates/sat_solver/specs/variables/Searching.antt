@@ -11,11 +11,12 @@ use Rattle.sat_solver.specs.variables.Naming.{PutsUnit}
 use Rattle.sat_solver.specs.variables.Calls.{NamesInvariant, NamesAgree}
 use Rattle.sat_solver.specs.declared.variables.Variables.{Variables}
 
--- the literals are over variables that have indices
+-- `AreIndexed n ls` holds if the literals are over variables that have indices
 abbrev pub AreIndexed : Variables → List ℕ → Type 0
 AreIndexed n = AllByRecursion (λ l. (x : ℕ) × (solver_of n (variable l) ≡ Some x))
 
--- a step of the search, over variables that have indices; the variables of a model are in use
+-- `IsOfSearch n step` holds if `step` is a step of the search, over variables that have indices; the variables of a
+-- model are in use
 abbrev pub IsOfSearch : Variables → Step → Type 0
 IsOfSearch n (AtClause redundant clause hashes) = AreIndexed n clause
 IsOfSearch n (UnitClauses us) = AreIndexed n (map (λ u. u.0) us)
@@ -26,14 +27,15 @@ IsOfSearch n (FailedAssumptions core hashes) = Unit {0}
 IsOfSearch n End = Unit {0}
 IsOfSearch n step = ⊥
 
--- such a step, if allowed, preserves the invariant of names
+-- `SearchesPreserveNames` holds if every allowed step of the search preserves the invariant of names
 abbrev pub SearchesPreserveNames : Type 0
 SearchesPreserveNames = (n : Variables) (steps : List Step) (step : Step) → NamesInvariant n steps → IsAllowedStep (session_after steps) step → IsOfSearch n step → NamesInvariant n (step ∷ steps)
 
--- such a step, if allowed, leaves the judge's state unchanged
+-- `SearchesAgree` holds if every allowed step of the search leaves the judge's state unchanged
 abbrev pub SearchesAgree : Type 0
 SearchesAgree = (n : Variables) (steps : List Step) (step : Step) → NamesInvariant n steps → IsAllowedStep (session_after steps) step → IsOfSearch n step → (j : ScriptState) (live : LiveVariables) → NamesAgree n steps j live → NamesAgree n (step ∷ steps) j live
 
--- storing the value of the unit of a variable that has an index preserves the invariant of names and the judge's state
+-- `UnitsPreserveNames` holds if storing the value of the unit of a variable that has an index preserves the invariant
+-- of names and the judge's state
 abbrev pub UnitsPreserveNames : Type 0
 UnitsPreserveNames = (old new : Variables) (steps : List Step) (v x : ℕ) (value : Option Bool) → NamesInvariant old steps → solver_of old v ≡ Some x → PutsUnit old new v value → NamesInvariant new steps × ((j : ScriptState) (live : LiveVariables) → NamesAgree old steps j live → NamesAgree new steps j live)

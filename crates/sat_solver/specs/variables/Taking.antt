@@ -10,8 +10,8 @@ use Rattle.sat_solver.specs.session.Making.{BreaksEmitting}
 use Rattle.sat_solver.specs.proof.ProofView.{FailsCheck}
 use Rattle.sat_solver.specs.declared.proof.Proof.{Proof}
 
--- A call of the target failed while writing the text of the last of these steps, or the checker failed at the step.
--- The underlying error is stored.
+-- `StepNotAccepted seen old e new` holds if a call of the target failed while writing the text of the last of some
+-- steps, or the checker failed at the step. The underlying error is stored.
 abbrev pub StepNotAccepted : {W L : Type 0} {G : Ghosts L} → (W → Writer) → Proof W L G → NameError → Proof W L G → Type 0
 StepNotAccepted seen old (errors.Write cause) new = BreaksEmitting seen old new × (new.cause ≡ Some cause)
 StepNotAccepted seen old (errors.Check fault) new = (steps : List Step) × FailsCheck seen fault steps old new × IsListenerError fault new.made.complaint

@@ -19,23 +19,23 @@ use Rattle.sat_checker.specs.matching.Bridge.{LiveVariables, AreDistinctVariable
 use Rattle.sat_solver.specs.variables.Live.{given, given_of}
 use Rattle.sat_solver.specs.declared.variables.Variables.{Variables}
 
--- what the solver stores for a proof variable; a variable past the end of the list is not in use
+-- the stored data of a proof variable; a variable past the end of the list is not in use
 abbrev pub data_at : Variables → ℕ → VarData
 data_at n v = get_or n.var_data.items v unused_variable
 
--- the variable of a name
+-- the variable of a name, or `None`
 abbrev pub global_of : Variables → ℕ → Option ℕ
 global_of n user = target n.global_from_user.fwd user
 
--- the name of a variable
+-- the name of a variable, or `None`
 abbrev pub user_of : Variables → ℕ → Option ℕ
 user_of n v = target n.global_from_user.bwd v
 
--- the index of a variable
+-- the index of a variable, or `None`
 abbrev pub solver_of : Variables → ℕ → Option ℕ
 solver_of n v = target n.solver_from_global.fwd v
 
--- the variable of an index
+-- the variable of an index, or `None`
 abbrev pub global_at : Variables → ℕ → Option ℕ
 global_at n x = target n.solver_from_global.bwd x
 
@@ -51,13 +51,13 @@ variables_used n = length n.var_data.items
 abbrev pub indices_used : Variables → ℕ
 indices_used n = length n.solver_from_global.bwd
 
--- whether a variable is stored as one of mode witness
+-- `is_witness_kept mode` is true if a variable is stored as one of mode witness
 abbrev pub is_witness_kept : SamplingMode → Bool
 is_witness_kept kept.Sample = false
 is_witness_kept kept.Witness = true
 is_witness_kept kept.Hide = false
 
--- the maps, the data of variables and the sets of free numbers are consistent
+-- `VariablesInvariant n` holds if the maps, the data of variables and the sets of free numbers are consistent
 pub record VariablesInvariant (n : Variables) : Type 0 where
   pub users : AreInverse n.global_from_user
   pub solvers : AreInverse n.solver_from_global
@@ -89,33 +89,34 @@ pub record VariablesInvariant (n : Variables) : Type 0 where
   pub free_globals : (v : ℕ) → is_free n.free_globals v ≡ (nat_lt v (variables_used n) && (data_at n v).deleted)
   pub free_solvers : (x : ℕ) → is_free n.free_solvers x ≡ (nat_lt x (indices_used n) && not (is_some (global_at n x)))
 
--- the same mode in the checker's terms
+-- the checker's mode for a stored mode
 abbrev pub checker_mode : SamplingMode → Mode
 checker_mode kept.Sample = Sample
 checker_mode kept.Witness = Witness
 checker_mode kept.Hide = Hide
 
--- the state of the variable in the checker
+-- the checker's state of a variable, as the stored names have it
 abbrev pub checker_variable_at : Variables → ℕ → Variable
 checker_variable_at n v =
     if (data_at n v).deleted then unknown
     else record { known = true; mode = checker_mode (data_at n v).sampling_mode; name = user_of n v }
 
--- whether this is the value of a variable's unit
+-- `says_unit unit b` is true if `b` is the value of a variable's unit
 abbrev pub says_unit : Option Bool → Bool → Bool
 says_unit None b = false
 says_unit (Some value) true = value
 says_unit (Some value) false = not value
 
--- the stored unit of the variable is that of the session
+-- `IsUnitOf n s v` holds if the stored unit of variable `v` is that of the session
 abbrev pub IsUnitOf : Variables → Session → ℕ → Type 0
 IsUnitOf n s v = (b : Bool) → s.units (mk_lit v b) ≡ says_unit (data_at n v).unit b
 
--- no clause with two or more literals has the variable
+-- `IsInNoNonUnitClause s v` holds if no clause with two or more literals has variable `v`
 abbrev pub IsInNoNonUnitClause : Session → ℕ → Type 0
 IsInNoNonUnitClause s v = (r : Bool) (set : List ℕ) → 0 < s.live r set → mentions set v ≡ false
 
--- The stored names match the proof. The unit of a variable that has an index is stored by the search.
+-- `NamesMatchSteps n s` holds if the stored names match the proof. The unit of a variable that has an index is stored
+-- by the search.
 pub record NamesMatchSteps (n : Variables) (s : Session) : Type 0 where
   pub variables : (v : ℕ) → s.variables v ≡ checker_variable_at n v
   pub solver_names : (v : ℕ) → s.solver_names v ≡ solver_of n v
@@ -124,13 +125,14 @@ pub record NamesMatchSteps (n : Variables) (s : Session) : Type 0 where
   pub unused : (v : ℕ) → solver_of n v ≡ None → IsInNoNonUnitClause s v
   pub marked : (v : ℕ) → mentions s.assumed v ≡ (data_at n v).assumed
 
--- the mode of an identity matches the stored mode of its variable; if the variable is hidden, every mode does
+-- `IsModeOf mode m` holds if the mode `m` of an identity matches the stored mode of its variable; if the variable is
+-- hidden, every mode does
 abbrev pub IsModeOf : SamplingMode → judged.NameMode → Type 0
 IsModeOf kept.Sample m = m ≡ Sampled
 IsModeOf kept.Witness m = m ≡ Witnessed
 IsModeOf kept.Hide m = Unit {0}
 
--- The stored names match the judge's state. Name k has index k - 1.
+-- `NamesMatchState n j live` holds if the stored names match the judge's state. Name k has index k - 1.
 pub record NamesMatchState (n : Variables) (j : ScriptState) (live : LiveVariables) : Type 0 where
   pub first_unused : j.first_unused ≡ names_used n + 1
   pub no_zero : identity_of j 0 ≡ None
@@ -145,12 +147,12 @@ pub record NamesMatchState (n : Variables) (j : ScriptState) (live : LiveVariabl
   pub increasing : NamesIncrease j.in_use
   pub modes : (v i : ℕ) → given live v ≡ Some i → IsModeOf (data_at n v).sampling_mode (get_or j.modes i Sampled)
 
--- the mode that a user may set, in the solver's terms
+-- the stored mode for a flag: sample if it is true, witness otherwise
 abbrev pub mode_for : Bool → SamplingMode
 mode_for true = kept.Sample
 mode_for false = kept.Witness
 
--- the same mode in the judge's terms
+-- the mode of a name in scripts: sample if the flag is true, witness otherwise
 abbrev pub script_mode : Bool → judged.NameMode
 script_mode true = Sampled
 script_mode false = Witnessed

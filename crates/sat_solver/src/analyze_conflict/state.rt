@@ -20,7 +20,7 @@ use std::alloc::{AllocError, Global};
 use std::marker::Model;
 
 /// The lists of an analysis, whose memory the next analysis reuses, and a flag for every variable. Contracts describe
-/// this as a `AnalysisState`.
+/// this as an `AnalysisState`.
 #[derive(Drop)]
 pub struct AnalyzeConflict {
     clause: Vec<Lit>,
@@ -100,8 +100,8 @@ impl AnalyzeConflict {
         &self.seen
     }
 
-    /// Returns the long clauses that were used: the falsified clause if it is long, and then the reasons for literals,
-    /// going backwards from the end of the trail.
+    /// Returns the antecedents, which are long clauses: the falsified clause if it is long, and then the reasons for
+    /// literals, going backwards from the end of the trail.
     pub fn antecedents(&self) -> &[ClauseRef]
         ensures { result.now ≡ self.now.antecedents }
     {
@@ -158,8 +158,8 @@ impl AnalyzeConflict {
         Ok(())
     }
 
-    /// Adds the false literals `lits`, one after another. A literal whose level is 0 or whose variable is already flagged
-    /// changes nothing.
+    /// Adds the false literals `lits`, one after another. A literal whose level is 0 or whose variable is already
+    /// flagged changes nothing.
     ///
     /// A literal below level `top` is added to the learned clause; any other literal is still to be resolved.
     #[inline(always)] // called for each clause that analysis uses
@@ -242,7 +242,7 @@ impl AnalyzeConflict {
     }
 
     /// Uses `reason`, the reason for the true literal `lit`. Clears the literal's flag, and adds the literal to the
-    /// used literals. If the reason is a long clause, adds it to the clauses involved.
+    /// used literals. If the reason is a long clause, adds it to the antecedents.
     #[inline(always)] // called for each literal that is resolved
     pub(crate) fn take_up(&mut self, reason: &Reason, lit: Lit) -> Result<(), AllocError>
         requires flag { variable lit < length self.old.flags }
@@ -299,8 +299,8 @@ impl AnalyzeConflict {
         unflag(&mut self.flags, &self.used, 0);
     }
 
-    /// Whether the literal's variable is flagged. During minimization, only variables of the learned clause and of used
-    /// literals are flagged.
+    /// Returns `true` if the literal's variable is flagged. During minimization, only variables of the learned clause
+    /// and of used literals are flagged.
     pub(crate) fn is_flagged(&self, lit: Lit) -> bool
         requires flag { variable lit < length self.now.flags }
         ensures { result ≡ slice_index_or self.now.flags (variable lit) false }

@@ -52,7 +52,7 @@ fn assume_or_decide(
     Ok(Some(FoundConflict::Complete))
 }
 
-/// Propagates, assumes and decides until the search stops.
+/// Propagates, assumes and decides until the search stops. Returns why it stopped.
 ///
 /// The search stops if a clause is falsified, if an assumption is false, or if every variable that is in a clause has a
 /// value. New literals at level 0 are written, and removed from the trail.

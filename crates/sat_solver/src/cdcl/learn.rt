@@ -58,10 +58,10 @@ fn name_learned(search: &mut Search, _level: usize, conflict: &Conflict) -> Resu
     )
 }
 
-/// Backtracks to `level`, bumps the activities of the clauses that the analysis used, and stores the learned clause
-/// with the header `header`.
+/// Backtracks to `level`, bumps the activities of the antecedents, and stores the learned clause with the header
+/// `header`.
 ///
-/// Also updates the headers of the used clauses, based on the levels of their literals before backtracking.
+/// Also updates the headers of the antecedents, based on the levels of their literals before backtracking.
 fn take_in(search: &mut Search, header: ClauseHeader, level: usize) -> Result<(), StoreError>
     requires holds { SearchStateInvariantBelow (length search.old.parts.trail.starts) search.old.parts }
     requires units { UnitsHaveNoReason (state search.old.parts) }
@@ -88,8 +88,8 @@ fn take_in(search: &mut Search, header: ClauseHeader, level: usize) -> Result<()
     learn(&mut search.parts, header, search.analysis.clause())
 }
 
-/// Whether the step that derives the clause `lits` marks it as redundant. It does if `header` does and there are at
-/// least three literals.
+/// Returns `true` if the step that derives the clause `lits` marks it as redundant: if `header` does, and there are
+/// at least three literals.
 fn says_redundant(header: &ClauseHeader, lits: &[Lit]) -> bool
     ensures { FlagFits result header.now lits.now }
 {
@@ -168,7 +168,7 @@ fn learn_clause<W: CountedWrite + Drop, P: ProofProcessor>(
 
 /// Learns a clause from a conflict above level 0, writes the clause's step, backtracks, and stores the clause.
 ///
-/// Bumps the activities of the clauses and variables that are involved in the conflict.
+/// Bumps the activities of the antecedents and of the variables that the analysis has seen.
 pub fn learn_from<W: CountedWrite + Drop, P: ProofProcessor>(
     proof: &mut Proof<W, P>,
     search: &mut Search,

@@ -1,4 +1,4 @@
-//! Bumps activities: variables that an analysis visited are picked sooner, and clauses that it used are kept longer.
+//! Bumps activities: variables that an analysis has seen are picked sooner, and its antecedents are kept longer.
 ghost use Rattle.std.specs.Prelude.{◌≡◌, length};
 ghost use Rattle.sat_store.specs.clause.Buffer.{header_at, lits_at};
 ghost use Rattle.sat_store.specs.heap.Vsids.{decayed};
@@ -35,7 +35,8 @@ fn bump_variables(parts: &mut SearchState, vars: &[Var])
     decay_variables(parts);
 }
 
-/// Bumps the activities of the variables that the last analysis visited, and increases the amount that later bumps add.
+/// Bumps the activities of the variables that the last analysis has seen, and increases the amount that later bumps
+/// add.
 pub fn bump_seen_vars(search: &mut Search)
     requires holds { SearchStateInvariant search.old.parts }
     requires there { AreBelow search.old.analysis.seen (length search.old.parts.assignment.current) }
@@ -81,7 +82,7 @@ fn count_levels(parts: &SearchState, flags: &mut TmpFlags, cref: ClauseRef) -> u
     compute_clause_glue_below(flags, &parts.graph, &parts.clauses, cref, header.glue())
 }
 
-/// Bumps the activity of a clause that an analysis used.
+/// Bumps the activity of an antecedent.
 ///
 /// Also marks the clause as active, and lowers its glue if its literals have fewer levels.
 fn bump_clause(
@@ -104,8 +105,8 @@ fn bump_clause(
     update_glue(parts, cref, levels);
 }
 
-/// Bumps the activities of the clauses `crefs`, which an analysis used, and updates their headers with `update_glue`.
-/// Afterwards, all clause activities decay.
+/// Bumps the activities of the antecedents `crefs`, and updates their headers with `update_glue`. Afterwards, all
+/// clause activities decay.
 pub fn bump_clauses(
     parts: &mut SearchState,
     activity: &mut ClauseActivity,

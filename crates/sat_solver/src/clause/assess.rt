@@ -37,8 +37,8 @@ pub fn assess_learned_clause(flags: &mut TmpFlags, graph: &ImplGraph, lits: &[Li
     header
 }
 
-/// Marks a clause as active because an analysis used it. If the clause is redundant and `levels` is lower than its
-/// glue, its glue becomes `levels`, and its tier is set accordingly.
+/// Marks an antecedent as active. If the clause is redundant and `levels` is lower than its glue, its glue becomes
+/// `levels`, and its tier is set accordingly.
 pub fn update_glue(parts: &mut SearchState, cref: ClauseRef, levels: usize)
     requires holds { SearchStateInvariant parts.old }
     requires live { HasClause parts.old cref }

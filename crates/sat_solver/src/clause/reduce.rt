@@ -47,7 +47,7 @@ pub fn map_clause(
     Ok(())
 }
 
-/// Deletes a learned clause and writes the step for the deletion, unless the clause is a reason. Returns whether the
+/// Deletes a learned clause and writes the step for the deletion, unless the clause is a reason. Returns `true` if the
 /// clause was deleted.
 fn delete_learned<W: CountedWrite + Drop, P: ProofProcessor>(
     proof: &mut Proof<W, P>,

@@ -1,7 +1,9 @@
 //! Laws about solvers. Each law is the contract of a function that does nothing.
 ghost use Rattle.std.specs.Prelude.{◌≡◌, false};
-ghost use Rattle.sat_solver.specs.facade.Laws.{CallsGoOn};
+ghost use Rattle.sat_solver.specs.facade.Laws.{CallsGoOn, FlushedIsText};
+ghost use Rattle.sat_solver.specs.facade.Recording.{RecordsAnswer};
 ghost use Rattle.sat_solver.specs.facade.View.{MatchesSomeState};
+ghost use Rattle.sat_solver.specs.session.Session.{AreAllowedSteps};
 
 use crate::facade::Solver;
 use sat_base::CountedWrite;
@@ -24,3 +26,18 @@ pub fn solvers_are_judged<W: CountedWrite + Drop, P: ProofProcessor>(solver: &So
     // The invariant of the fields says so.
     let _ = &solver.inner;
 }
+
+/// States that every step of a solver was allowed when it was made, even if a call has failed. If no call has failed,
+/// the steps record unsat exactly if the answer is `Unsat`.
+pub fn steps_record_answers<W: CountedWrite + Drop, P: ProofProcessor>(solver: &Solver<W, P>)
+    ensures allowed { ∥ AreAllowedSteps solver.now.steps ∥₁ }
+    ensures records { solver.now.failed ≡ false → RecordsAnswer solver.now }
+{
+    // The fields say so.
+    let _ = &solver.inner;
+}
+
+/// States that a flushed target has received the text of all steps since it was opened, if all calls to it succeeded.
+pub fn flushed_targets_took_texts()
+    ensures { FlushedIsText }
+{}

@@ -44,7 +44,7 @@ fn write_clause<W: StepLog>(
 }
 
 /// Lists the literals of `taken.order` in `taken.lits`, sorted and without repetitions, and lists the result over proof
-/// variables in `taken.globals`. Returns whether the clause contains both literals of some variable.
+/// variables in `taken.globals`. Returns `true` if the clause contains both literals of some variable.
 fn map_clause(
     variables: &Variables,
     _user: &[Lit],
@@ -64,7 +64,7 @@ fn map_clause(
 }
 
 /// Introduces the names of a clause, none of which may have the mode witness, and writes the clause. Stores what the
-/// search needs in `taken`. Returns whether the clause contains both literals of some variable.
+/// search needs in `taken`. Returns `true` if the clause contains both literals of some variable.
 pub fn add_clause<W: StepLog>(
     variables: &mut Variables,
     writer: &mut W,

@@ -15,7 +15,7 @@ use sat_checker::{Checker, CheckerError, Nobody, Processors, ProofProcessor, Sel
 use std::alloc::Global;
 use std::mem;
 
-/// Whether the step is the end of a proof.
+/// Returns `true` if the step is the end of a proof.
 #[inline(always)]
 pub fn is_end(step: &ProofStep<'_>) -> bool
     ensures { result ≡ is_end (step_of step.now) }

@@ -92,14 +92,14 @@ impl<P: ProofProcessor> EmittedSteps<P> {
         }
     }
 
-    /// Whether there is a checker.
+    /// Returns `true` if there is a checker.
     pub fn is_checked(&self) -> bool
         ensures { result ≡ emitted_is_checked self.now }
     {
         self.own.is_some()
     }
 
-    /// Whether a step other than the end of a proof has been made.
+    /// Returns `true` if a step other than the end of a proof has been made.
     pub fn has_begun(&self) -> bool
         ensures { result ≡ has_begun self.now.history.steps }
     {

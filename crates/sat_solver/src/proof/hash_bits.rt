@@ -82,7 +82,7 @@ fn sqrt_hash_count(bits: u32) -> u64
     1 << (bits / 2)
 }
 
-/// Whether the width `bits` is too short for `clauses` clauses.
+/// Returns `true` if the width `bits` is too short for `clauses` clauses.
 fn is_short(clauses: u64, bits: u32) -> bool
     requires { bits ≤ 64 }
     ensures { result ≡ too_short clauses bits }
@@ -90,7 +90,7 @@ fn is_short(clauses: u64, bits: u32) -> bool
     bits < 64 && sqrt_hash_count(bits) < clauses
 }
 
-/// Whether the width `bits` is longer than `clauses` clauses need.
+/// Returns `true` if the width `bits` is longer than `clauses` clauses need.
 fn is_long(clauses: u64, bits: u32) -> bool
     requires { bits ≤ 64 }
     ensures { result ≡ too_long clauses bits }
@@ -131,7 +131,7 @@ fn shorten(clauses: u64, from: u32) -> u32
     bits
 }
 
-/// Whether the width `bits` is kept for `clauses` clauses, which is the usual case.
+/// Returns `true` if the width `bits` is kept for `clauses` clauses, which is the usual case.
 fn fits(solving: bool, clauses: u64, bits: u32) -> bool
     requires { bits ≤ 64 }
     ensures { result ≡ (not (too_short clauses bits) && not (solving && too_long clauses bits)) }

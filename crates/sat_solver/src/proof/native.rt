@@ -25,8 +25,8 @@ fn write_width<W: CountedWrite>(
     Ok(())
 }
 
-/// Buffers a step if it has the same width as the previous step and is certain to fit. Returns whether the step
-/// was buffered.
+/// Buffers a step if it has the same width as the previous step and is certain to fit. Returns `true` if the step was
+/// buffered.
 ///
 /// `widths` contains the width of the previous step and that of this step.
 #[inline(always)]

@@ -94,7 +94,7 @@ impl<W: CountedWrite> ProofOutput<W> {
         }
     }
 
-    /// Whether DRAT lines are written.
+    /// Returns `true` if DRAT lines are written.
     pub fn is_drat(&self) -> bool
         ensures { result ≡ is_lines (output_format self.now) }
     {
@@ -124,7 +124,7 @@ impl<W: CountedWrite> ProofOutput<W> {
     }
 
     /// Buffers the bytes of a step if it has the same width as the previous step and they are certain to fit. Returns
-    /// whether the bytes were buffered; DRAT lines never are. Never calls the writer.
+    /// `true` if the bytes were buffered; DRAT lines never are. Never calls the writer.
     #[inline(always)]
     pub fn try_write(&mut self, widths: (HashBits, HashBits), step: &ProofStep<'_>) -> bool
         ensures format { output_format self.new ≡ output_format self.old }

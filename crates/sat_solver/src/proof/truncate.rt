@@ -88,7 +88,7 @@ pub fn narrow_units(
     Ok(())
 }
 
-/// Whether a step has hashes.
+/// Returns `true` if a step has hashes.
 #[inline(always)]
 pub fn has_hashes(step: &ProofStep<'_>) -> bool
     ensures { result ≡ false → (bits : ℕ) → step_of step.now ≡ narrowed bits (step_of step.now) }

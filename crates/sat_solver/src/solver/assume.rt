@@ -6,7 +6,7 @@ ghost use Rattle.sat_base.specs.script.ScriptState.{introduce_all};
 ghost use Rattle.sat_solver.specs.load.Literals.{NoWitness};
 ghost use Rattle.sat_solver.specs.variables.Refusing.{names_in};
 ghost use Rattle.sat_solver.specs.declared.state.SatState.TheVariants.{Unsat};
-ghost use Rattle.sat_solver.specs.solver.Adding.{AssumesOrRefuses, IsDrat, due_for_asked};
+ghost use Rattle.sat_solver.specs.solver.Adding.{EngineAssumesOrRefuses, EngineIsDrat, due_for_asked};
 ghost use Rattle.sat_solver.specs.solver.Asking.{SetAssumptionsResult};
 ghost use Rattle.sat_solver.specs.solver.View.{has_failed};
 ghost use Rattle.sat_solver.specs.solver.Whole.{IsSolver, SolverInvariant};
@@ -14,7 +14,7 @@ ghost use Rattle.sat_solver.specs.solver.Whole.{IsSolver, SolverInvariant};
 use crate::SolverError;
 use crate::cdcl::fault::{Fault, FaultKind};
 use crate::load::assume::assume;
-use crate::solver::Solver;
+use crate::solver::Engine;
 use crate::solver::load::take_assumptions;
 use crate::state::SatState;
 use crate::variables::refuse::leftmost_witness;
@@ -22,7 +22,7 @@ use crate::variables::room::has_room;
 use sat_base::{CountedWrite, Lit};
 use sat_checker::ProofProcessor;
 
-impl<W: CountedWrite + Drop, P: ProofProcessor> Solver<W, P> {
+impl<W: CountedWrite + Drop, P: ProofProcessor> Engine<W, P> {
     /// Accepts the assumptions `lits` without passing them to the search. The clauses must be known to be
     /// unsatisfiable, and none of the names in `lits` may have the mode witness.
     fn ask_known(&mut self, lits: &[Lit]) -> Result<(), Fault>
@@ -33,7 +33,12 @@ impl<W: CountedWrite + Drop, P: ProofProcessor> Solver<W, P> {
         ensures room { HasVariablesFor self.old.names (user_vars_in lits.now) → IfErr result IsFault }
         ensures clock { self.new.clock ≡ self.old.clock }
     {
-        assume(&mut self.names, &mut self.core.proof, lits, &mut self.asked)?;
+        assume(
+            &mut self.names,
+            &mut self.context.proof,
+            lits,
+            &mut self.asked,
+        )?;
         Ok(())
     }
 
@@ -51,27 +56,22 @@ impl<W: CountedWrite + Drop, P: ProofProcessor> Solver<W, P> {
             SatState::Sat => {}
             SatState::UnsatUnderAssumptions => {}
         }
-        take_assumptions(&mut self.core, &mut self.names, lits, &mut self.asked)?;
+        take_assumptions(&mut self.context, &mut self.names, lits, &mut self.asked)?;
         self.state = SatState::Unknown;
         Ok(())
     }
 
     /// Replaces the assumptions with `lits`, and introduces the names in `lits` from left to right.
-    ///
-    /// The assumptions apply to every later `solve` until the next `assume`. The answer is discarded even if the
-    /// assumptions are unchanged, unless the clauses alone are known to be unsatisfiable. Errors: `NotInDrat` if DRAT
-    /// lines are written; `WitnessVariable` if a name in `lits` has the mode witness; `VariableLimit` if there is no
-    /// variable for a name that would be introduced.
     pub fn assume(&mut self, lits: &[Lit]) -> Result<(), SolverError>
         requires { IsSolver self.old }
         ensures solver { IsSolver self.new }
-        ensures assumes { AssumesOrRefuses W.seen result self.old self.new lits.now }
-        ensures drat { has_failed self.old ≡ false → IsDrat W.seen self.old → IsErrOf result SolverError.NotInDrat }
+        ensures assumes { EngineAssumesOrRefuses W.seen result self.old self.new lits.now }
+        ensures drat { has_failed self.old ≡ false → EngineIsDrat W.seen self.old → IsErrOf result SolverError.NotInDrat }
     {
         if self.failed {
             return Err(SolverError::HasFailed);
         }
-        if self.core.proof.is_drat() {
+        if self.context.proof.is_drat() {
             return Err(SolverError::NotInDrat);
         }
         if leftmost_witness(&self.names, lits).is_some() {

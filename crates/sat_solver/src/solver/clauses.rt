@@ -4,14 +4,14 @@ ghost use Rattle.sat_solver.specs.variables.VariableRoom.{HasVariablesFor, user_
 ghost use Rattle.sat_solver.specs.cdcl.StepEffects.{IsFault, IsFaultOr};
 ghost use Rattle.sat_solver.specs.load.Literals.{NoWitness};
 ghost use Rattle.sat_solver.specs.declared.state.SatState.TheVariants.{Unsat};
-ghost use Rattle.sat_solver.specs.solver.Adding.{AddsClause, IsBeforeDrat, IsPastDrat, AddClauseResult};
+ghost use Rattle.sat_solver.specs.solver.Adding.{EngineAddsClause, EngineIsBeforeDrat, EngineIsPastDrat, AddClauseResult};
 ghost use Rattle.sat_solver.specs.solver.View.{has_failed};
-ghost use Rattle.sat_solver.specs.solver.Whole.{HasFullStore, IsSolver, SolverInvariant};
+ghost use Rattle.sat_solver.specs.solver.Whole.{EngineHasFullStore, IsSolver, SolverInvariant};
 
 use crate::SolverError;
 use crate::cdcl::fault::Fault;
 use crate::load::clause::leave_out_clause;
-use crate::solver::Solver;
+use crate::solver::Engine;
 use crate::solver::load::take_clause;
 use crate::state::SatState;
 use crate::variables::refuse::leftmost_witness;
@@ -19,16 +19,16 @@ use crate::variables::room::has_room;
 use sat_base::{CountedWrite, Lit};
 use sat_checker::ProofProcessor;
 
-impl<W: CountedWrite + Drop, P: ProofProcessor> Solver<W, P> {
-    /// Whether DRAT lines are written and an ask has begun.
+impl<W: CountedWrite + Drop, P: ProofProcessor> Engine<W, P> {
+    /// Returns `true` if DRAT lines are written and an ask has begun.
     fn is_past_drat(&self) -> bool
-        ensures yes { result ≡ true → IsPastDrat W.seen self.now }
-        ensures no { result ≡ false → IsBeforeDrat W.seen self.now }
+        ensures yes { result ≡ true → EngineIsPastDrat W.seen self.now }
+        ensures no { result ≡ false → EngineIsBeforeDrat W.seen self.now }
     {
-        if !self.core.proof.is_drat() {
+        if !self.context.proof.is_drat() {
             return false;
         }
-        self.core.proof.has_asked()
+        self.context.proof.has_asked()
     }
 
     /// Introduces the names of a clause, but does not add the clause. The clauses must be known to be unsatisfiable.
@@ -40,7 +40,7 @@ impl<W: CountedWrite + Drop, P: ProofProcessor> Solver<W, P> {
         ensures assumed { self.new.assumed ≡ self.old.assumed }
         ensures clock { self.new.clock ≡ self.old.clock }
     {
-        leave_out_clause(&mut self.names, &mut self.core.proof, lits)?;
+        leave_out_clause(&mut self.names, &mut self.context.proof, lits)?;
         Ok(())
     }
 
@@ -49,7 +49,7 @@ impl<W: CountedWrite + Drop, P: ProofProcessor> Solver<W, P> {
         requires whole { SolverInvariant self.old }
         requires sampled { NoWitness self.old.names lits.now }
         ensures takes { AddClauseResult W.seen result self.old self.new lits.now }
-        ensures room { HasVariablesFor self.old.names (user_vars_in lits.now) → IfErr result (IsFaultOr (HasFullStore self.new)) }
+        ensures room { HasVariablesFor self.old.names (user_vars_in lits.now) → IfErr result (IsFaultOr (EngineHasFullStore self.new)) }
         ensures assumed { self.new.assumed ≡ self.old.assumed }
         ensures clock { self.new.clock ≡ self.old.clock }
     {
@@ -59,7 +59,7 @@ impl<W: CountedWrite + Drop, P: ProofProcessor> Solver<W, P> {
             SatState::Sat => {}
             SatState::UnsatUnderAssumptions => {}
         }
-        let left = take_clause(&mut self.core, &mut self.names, lits, &mut self.loading)?;
+        let left = take_clause(&mut self.context, &mut self.names, lits, &mut self.loading)?;
         self.state = if left {
             SatState::Unknown
         } else {
@@ -69,17 +69,11 @@ impl<W: CountedWrite + Drop, P: ProofProcessor> Solver<W, P> {
     }
 
     /// Adds a clause, and introduces its names from left to right.
-    ///
-    /// A hidden name gets a new variable. A name that was never used is introduced together with all lower names that
-    /// were never used. Clauses can also be added after asks, which discards the answer. Once the clauses alone are
-    /// known to be unsatisfiable, only the names of the clause are introduced. Errors: `NotInDrat` after the first
-    /// `solve` if DRAT lines are written; `WitnessVariable` if a name in `lits` has the mode witness; `VariableLimit`
-    /// if there is no variable for a name that would be introduced.
     pub fn add_clause(&mut self, lits: &[Lit]) -> Result<(), SolverError>
         requires { IsSolver self.old }
         ensures solver { IsSolver self.new }
-        ensures adds { AddsClause W.seen result self.old self.new lits.now }
-        ensures drat { has_failed self.old ≡ false → IsPastDrat W.seen self.old → IsErrOf result SolverError.NotInDrat }
+        ensures adds { EngineAddsClause W.seen result self.old self.new lits.now }
+        ensures drat { has_failed self.old ≡ false → EngineIsPastDrat W.seen self.old → IsErrOf result SolverError.NotInDrat }
     {
         if self.failed {
             return Err(SolverError::HasFailed);

@@ -5,19 +5,19 @@ ghost use Rattle.sat_solver.specs.solver.Failing.{failed_with};
 
 use crate::SolverError;
 use crate::cdcl::fault::{Fault, report};
-use crate::solver::Solver;
+use crate::solver::Engine;
 use sat_base::CountedWrite;
 use sat_checker::ProofProcessor;
 
-impl<W: CountedWrite + Drop, P: ProofProcessor> Solver<W, P> {
+impl<W: CountedWrite + Drop, P: ProofProcessor> Engine<W, P> {
     /// Marks the solver as failed, and returns the error for `fault`. From now on, every call that can return an error
     /// returns `HasFailed`.
     pub(crate) fn fail(&mut self, fault: Fault) -> SolverError
-        requires kept { IsKept fault self.old.core.proof }
+        requires kept { IsKept fault self.old.context.proof }
         ensures error { result ≡ fault }
         ensures fails { self.new ≡ failed_with self.old }
     {
         self.failed = true;
-        report(fault, &mut self.core.proof)
+        report(fault, &mut self.context.proof)
     }
 }

@@ -4,7 +4,7 @@ ghost use Rattle.sat_solver.specs.schedule.Counting.{AnswersWithin, CountsOn, Sp
 ghost use Rattle.sat_solver.specs.schedule.Counting.{round_allowance};
 ghost use Rattle.sat_solver.specs.schedule.Solving.{values_in};
 ghost use Rattle.sat_solver.specs.solver.Joined.{NamesSearchInvariant};
-ghost use Rattle.sat_solver.specs.solver.Answering.{BreaksOff};
+ghost use Rattle.sat_solver.specs.solver.Answering.{EngineBreaksOff};
 ghost use Rattle.sat_solver.specs.solver.Found.{FindsBy, OutcomeHolds, SearchedBy, ReportsOutcome, state_found};
 
 use crate::cdcl::fault::Fault;
@@ -34,22 +34,22 @@ pub struct Schedule {
 /// Writes the step for a model or a failed core, and stores the answer in `reported`. Returns the state that follows
 /// from `outcome`, or `None` if `outcome` is not an answer.
 fn report<W: CountedWrite + Drop, P: ProofProcessor>(
-    core: &mut Context<W, P>,
+    context: &mut Context<W, P>,
     names: &Variables,
     reported: &mut LastAnswers,
     outcome: RoundOutcome,
 ) -> Result<Option<SatState>, Fault>
-    requires { OutcomeHolds outcome names.now core.old }
-    ensures { ReportsOutcome W.seen result outcome names.now core.old core.new reported.new.failed_core.items }
+    requires { OutcomeHolds outcome names.now context.old }
+    ensures { ReportsOutcome W.seen result outcome names.now context.old context.new reported.new.failed_core.items }
 {
     match outcome {
         RoundOutcome::Learned => Ok(None),
         RoundOutcome::Model => {
-            show_model(core, names, &mut reported.model)?;
+            show_model(context, names, &mut reported.model)?;
             Ok(Some(SatState::Sat))
         }
         RoundOutcome::Failed => {
-            fail_core(core, names, &mut reported.failed_core)?;
+            fail_core(context, names, &mut reported.failed_core)?;
             Ok(Some(SatState::UnsatUnderAssumptions))
         }
         RoundOutcome::Unsat => Ok(Some(SatState::Unsat)),
@@ -59,29 +59,29 @@ fn report<W: CountedWrite + Drop, P: ProofProcessor>(
 /// Runs rounds until there is an answer, but at most as many as the parameters allow, and writes the step for the
 /// answer. Returns the state that follows from the answer, or `None` if there is no answer.
 pub fn find_answer<W: CountedWrite + Drop, P: ProofProcessor>(
-    core: &mut Context<W, P>,
+    context: &mut Context<W, P>,
     names: &mut Variables,
     reported: &mut LastAnswers,
     clock: &mut Schedule,
 ) -> Result<Option<SatState>, Fault>
-    requires joined { NamesSearchInvariant names.old core.old }
+    requires joined { NamesSearchInvariant names.old context.old }
     requires scale { 0 < clock.old.restarts.scale }
     ensures scale { clock.new.restarts.scale ≡ clock.old.restarts.scale }
-    ensures counts { CountsOn (values_in core.old) core.old.config.max_steps clock.old.rounds clock.new.rounds }
+    ensures counts { CountsOn (values_in context.old) context.old.config.max_steps clock.old.rounds clock.new.rounds }
     ensures round { TakesRound result clock.old.rounds clock.new.rounds }
-    ensures interrupted { SpendsRounds result (round_allowance core.old.config.max_steps clock.old.rounds) clock.old.rounds
+    ensures interrupted { SpendsRounds result (round_allowance context.old.config.max_steps clock.old.rounds) clock.old.rounds
         clock.new.rounds }
-    ensures answered { AnswersWithin result (values_in core.old)
-        (round_allowance core.old.config.max_steps clock.old.rounds) }
-    ensures finds { IfOk result (λ r. FindsBy W.seen r clock.old clock.new names.old names.new core.old core.new
+    ensures answered { AnswersWithin result (values_in context.old)
+        (round_allowance context.old.config.max_steps clock.old.rounds) }
+    ensures finds { IfOk result (λ r. FindsBy W.seen r clock.old clock.new names.old names.new context.old context.new
         reported.new) }
     ensures searched { IfOk result (λ r. SearchedBy W.seen (state_found r) clock.old clock.new names.old names.new
-        core.old core.new reported.new.failed_core.items) }
-    ensures breaks { IfErr result (λ e. BreaksOff W.seen e core.old core.new) }
+        context.old context.new reported.new.failed_core.items) }
+    ensures breaks { IfErr result (λ e. EngineBreaksOff W.seen e context.old context.new) }
 {
-    let max_steps = core.config.max_steps;
+    let max_steps = context.config.max_steps;
     let found = search(
-        core,
+        context,
         names,
         &mut clock.restarts,
         &mut clock.rounds,
@@ -89,6 +89,6 @@ pub fn find_answer<W: CountedWrite + Drop, P: ProofProcessor>(
     )?;
     match found {
         None => Ok(None),
-        Some(outcome) => report(core, names, reported, outcome),
+        Some(outcome) => report(context, names, reported, outcome),
     }
 }

@@ -4,11 +4,11 @@ ghost use Rattle.std.specs.Prelude.{◌≡◌, ◌<◌, ◌≤◌, ◌+◌, fals
 ghost use Rattle.sat_base.specs.device.Device.{most_reads};
 ghost use Rattle.sat_base.specs.dimacs.Faults.{ReadsNext};
 ghost use Rattle.sat_base.specs.dimacs.Parsing.{all_taken, no_progress, ReportsEnded, StopsReading};
-ghost use Rattle.sat_solver.specs.solver.Formulas.{AddsFormula, AddsText, AddsFormulaRead, text_fault, is_solver_out_of_memory};
+ghost use Rattle.sat_solver.specs.solver.Formulas.{EngineAddsFormula, EngineAddsText, AddsFormulaRead, text_fault, is_solver_out_of_memory};
 ghost use Rattle.sat_solver.specs.solver.Whole.{IsSolver};
 
 use crate::SolverError;
-use crate::solver::Solver;
+use crate::solver::Engine;
 use sat_base::{CnfFormula, CountedRead, CountedWrite, DimacsError, DimacsParser};
 use sat_checker::ProofProcessor;
 use std::io;
@@ -32,7 +32,7 @@ fn text_fault(error: DimacsError) -> SolverError
     }
 }
 
-/// Whether `error` makes the solver fail, which only `OutOfMemory` does.
+/// Returns `true` if `error` makes the solver fail, which only `OutOfMemory` does.
 fn is_want(error: DimacsError) -> bool
     ensures { result ≡ is_solver_out_of_memory error }
 {
@@ -46,6 +46,7 @@ fn is_want(error: DimacsError) -> bool
 }
 
 /// Reads the next bytes of the text that `parser` receives, or none if a line that begins with `%` has ended the text.
+/// Returns the number of bytes that were read.
 fn read_next<R: CountedRead>(
     parser: &DimacsParser,
     reader: &mut R,
@@ -61,13 +62,13 @@ fn read_next<R: CountedRead>(
     reader.read_counted(room)
 }
 
-impl<W: CountedWrite + Drop, P: ProofProcessor> Solver<W, P> {
+impl<W: CountedWrite + Drop, P: ProofProcessor> Engine<W, P> {
     /// Adds the clauses of a formula in order, as if by calling `add_clause` for each, and stops at the first that is
     /// refused. The clauses before it remain. The formula's variable count introduces no name.
     pub fn add_formula(&mut self, formula: &CnfFormula) -> Result<(), SolverError>
         requires { IsSolver self.old }
         ensures solver { IsSolver self.new }
-        ensures adds { AddsFormula W.seen result self.old self.new formula.now.clauses }
+        ensures adds { EngineAddsFormula W.seen result self.old self.new formula.now.clauses }
     {
         if self.failed {
             return Err(SolverError::HasFailed);
@@ -109,7 +110,7 @@ impl<W: CountedWrite + Drop, P: ProofProcessor> Solver<W, P> {
         requires going { self.old.failed ≡ false }
         requires fresh { parser.old ≡ no_progress }
         ensures solver { IsSolver self.new }
-        ensures adds { AddsText W.seen result self.old self.new (R.seen reader.old) (R.seen reader.new) }
+        ensures adds { EngineAddsText W.seen result self.old self.new (R.seen reader.old) (R.seen reader.new) }
         ensures stops { StopsReading (R.seen reader.old) (R.seen reader.new) }
         ensures reads { (R.seen reader.new).calls ≤ (R.seen reader.old).calls + most_reads }
     {
@@ -131,17 +132,10 @@ impl<W: CountedWrite + Drop, P: ProofProcessor> Solver<W, P> {
     }
 
     /// Adds the clauses of a text in DIMACS CNF, in order. The text is read in chunks of 4,096 bytes.
-    ///
-    /// The text may have one header, before its first clause; a header anywhere else is malformed. The numbers in the
-    /// header are ignored, and its variable count introduces no name. A line that begins with `%` ends the text, and
-    /// nothing is read after it. A text that ends inside a clause is malformed.
-    ///
-    /// Clauses before an error, or before a clause that is refused, remain. The solver can still be used if the text is
-    /// malformed (`Malformed`), has a number above the limit (`VariableLimit`), or cannot be read (`Read`).
     pub fn add_dimacs_cnf<R: CountedRead>(&mut self, reader: &mut R) -> Result<(), SolverError>
         requires { IsSolver self.old }
         ensures solver { IsSolver self.new }
-        ensures adds { AddsText W.seen result self.old self.new (R.seen reader.old) (R.seen reader.new) }
+        ensures adds { EngineAddsText W.seen result self.old self.new (R.seen reader.old) (R.seen reader.new) }
         // Nothing is read after the line that ends the text.
         ensures stops { StopsReading (R.seen reader.old) (R.seen reader.new) }
         ensures reads { (R.seen reader.new).calls ≤ (R.seen reader.old).calls + most_reads }
@@ -149,7 +143,7 @@ impl<W: CountedWrite + Drop, P: ProofProcessor> Solver<W, P> {
         if self.failed {
             return Err(SolverError::HasFailed);
         }
-        let mut parser = DimacsParser::new(self.core.search.alloc);
+        let mut parser = DimacsParser::new(self.context.search.alloc);
         self.add_text(&mut parser, reader)
     }
 }

@@ -29,28 +29,28 @@ pub struct Loading {
     pub sorting: Sorting,
 }
 
-/// Restarts the search and adds the clause `lits`, none of whose names may have the mode witness. Returns whether the
-/// formula may still be satisfiable.
+/// Restarts the search and adds the clause `lits`, none of whose names may have the mode witness. Returns `true` if
+/// the formula may still be satisfiable.
 pub fn take_clause<W: CountedWrite + Drop, P: ProofProcessor>(
-    core: &mut Context<W, P>,
+    context: &mut Context<W, P>,
     names: &mut Variables,
     lits: &[Lit],
     loading: &mut Loading,
 ) -> Result<bool, Fault>
-    requires joined { NamesSearchInvariant names.old core.old }
+    requires joined { NamesSearchInvariant names.old context.old }
     requires sampled { NoWitness names.old lits.now }
-    ensures takes { TakesClause W.seen result names.old names.new core.old core.new lits.now }
-    ensures room { HasVariablesFor names.old (user_vars_in lits.now) → IfErr result (IsFaultOr (IsFull core.new.search.parts)) }
+    ensures takes { TakesClause W.seen result names.old names.new context.old context.new lits.now }
+    ensures room { HasVariablesFor names.old (user_vars_in lits.now) → IfErr result (IsFaultOr (IsFull context.new.search.parts)) }
 {
-    full_restart(&mut core.search);
-    let both_signs = add_clause(names, &mut core.proof, lits, &mut loading.taken)?;
-    new_indices(&mut core.search, &names.globals, &loading.taken.given)?;
+    full_restart(&mut context.search);
+    let both_signs = add_clause(names, &mut context.proof, lits, &mut loading.taken)?;
+    new_indices(&mut context.search, &names.globals, &loading.taken.given)?;
     if both_signs {
         return Ok(true);
     }
     load_clause(
-        &mut core.proof,
-        &mut core.search,
+        &mut context.proof,
+        &mut context.search,
         &loading.taken.lits,
         &mut loading.sorting,
     )
@@ -58,20 +58,20 @@ pub fn take_clause<W: CountedWrite + Drop, P: ProofProcessor>(
 
 /// Restarts the search and replaces the assumptions with `lits`, none of whose names may have the mode witness.
 pub fn take_assumptions<W: CountedWrite + Drop, P: ProofProcessor>(
-    core: &mut Context<W, P>,
+    context: &mut Context<W, P>,
     names: &mut Variables,
     lits: &[Lit],
     asked: &mut MappedLits,
 ) -> Result<(), Fault>
-    requires joined { NamesSearchInvariant names.old core.old }
+    requires joined { NamesSearchInvariant names.old context.old }
     requires sampled { NoWitness names.old lits.now }
-    requires asked { asked.old.globals.items ≡ (session_of core.old.proof).assumed }
-    ensures takes { TakesAssumptions W.seen result names.old names.new core.old core.new lits.now asked.new }
+    requires asked { asked.old.globals.items ≡ (session_of context.old.proof).assumed }
+    ensures takes { TakesAssumptions W.seen result names.old names.new context.old context.new lits.now asked.new }
     ensures room { HasVariablesFor names.old (user_vars_in lits.now) → IfErr result IsFault }
 {
-    full_restart(&mut core.search);
-    assume(names, &mut core.proof, lits, asked)?;
-    new_indices(&mut core.search, &names.globals, &asked.given)?;
-    set_assumptions(&mut core.search, &asked.order)?;
+    full_restart(&mut context.search);
+    assume(names, &mut context.proof, lits, asked)?;
+    new_indices(&mut context.search, &names.globals, &asked.given)?;
+    set_assumptions(&mut context.search, &asked.order)?;
     Ok(())
 }

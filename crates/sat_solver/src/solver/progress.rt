@@ -2,18 +2,18 @@
 ghost use Rattle.std.specs.Prelude.{◌≡◌, false, slice_index_or};
 ghost use Rattle.sat_solver.specs.variables.Variables.{VariablesInvariant};
 ghost use Rattle.sat_solver.specs.solver.Progressing.{is_unassigned_at, unassigned_count, solver_unassigned_count};
-ghost use Rattle.sat_solver.specs.solver.Progressing.{IsOngoing, CountsClausesIn};
+ghost use Rattle.sat_solver.specs.solver.Progressing.{EngineIsOngoing, CountsClausesIn};
 ghost use Rattle.sat_solver.specs.solver.View.{has_failed, restarts_in, rounds_in};
 ghost use Rattle.sat_solver.specs.solver.Whole.{IsSolver};
 
 use crate::Progress;
-use crate::solver::Solver;
+use crate::solver::Engine;
 use crate::variables::Variables;
 use sat_base::{CountedWrite, Var};
 use sat_checker::ProofProcessor;
 use sat_store::Tier;
 
-/// Whether the variable `global` has the index `index`, and this index has no value.
+/// Returns `true` if the variable `global` has the index `index`, and this index has no value.
 fn is_open(names: &Variables, global: Var, index: usize, values: &[Option<bool>]) -> bool
     ensures { VariablesInvariant names.now → slice_index_or names.now.globals.items index 0 ≡ global
         → result ≡ is_unassigned_at names.now values.now index }
@@ -40,19 +40,16 @@ fn unassigned_count(names: &Variables, values: &[Option<bool>]) -> u64
     count
 }
 
-impl<W: CountedWrite + Drop, P: ProofProcessor> Solver<W, P> {
+impl<W: CountedWrite + Drop, P: ProofProcessor> Engine<W, P> {
     /// Returns the current numbers of rounds, restarts, variables without a value, and clauses of each kind.
     /// Never allocates.
-    ///
-    /// After a failed call, only the numbers of rounds and restarts are exact. Once the clauses are known to be
-    /// unsatisfiable, the numbers of clauses are not exact either.
     pub fn progress(&self) -> Progress
         ensures conflicts { result.conflicts ≡ rounds_in self.now }
         ensures restarts { result.restarts ≡ restarts_in self.now }
         ensures vars { IsSolver self.now → has_failed self.now ≡ false → result.vars ≡ solver_unassigned_count self.now }
-        ensures clauses { IsOngoing self.now → CountsClausesIn result self.now }
+        ensures clauses { EngineIsOngoing self.now → CountsClausesIn result self.now }
     {
-        let parts = &self.core.search.parts;
+        let parts = &self.context.search.parts;
         Progress {
             conflicts: self.clock.rounds,
             restarts: self.clock.restarts.count,

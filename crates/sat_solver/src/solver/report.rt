@@ -47,33 +47,33 @@ fn name_lits(names: &Variables, lits: &[Lit], named: &mut Vec<Lit>) -> Result<()
 
 /// Writes the model that a search found: a literal for every proof variable in use. Stores the literals in `model`.
 pub fn show_model<W: CountedWrite + Drop, P: ProofProcessor>(
-    core: &mut Context<W, P>,
+    context: &mut Context<W, P>,
     names: &Variables,
     model: &mut Vec<Lit>,
 ) -> Result<(), Fault>
-    requires joined { NamesSearchInvariant names.now core.old }
-    requires complete { IsComplete core.old.search.assumptions.lits.items core.old.search.parts }
-    ensures { ShowsModel W.seen result names.now core.old core.new }
+    requires joined { NamesSearchInvariant names.now context.old }
+    requires complete { IsComplete context.old.search.assumptions.lits.items context.old.search.parts }
+    ensures { ShowsModel W.seen result names.now context.old context.new }
 {
-    let values = core.search.parts.assignment.assignment();
+    let values = context.search.parts.assignment.assignment();
     reconstruct_global_model(names, values, model)?;
     let step = ProofStep::Model { assignment: model };
-    core.proof.add_step(&step)?;
+    context.proof.add_step(&step)?;
     Ok(())
 }
 
 /// Writes the failed core, which consists of assumptions that contradict the clauses. Lists the core over names
 /// in `failed_core`.
 pub fn fail_core<W: CountedWrite + Drop, P: ProofProcessor>(
-    core: &mut Context<W, P>,
+    context: &mut Context<W, P>,
     names: &Variables,
     failed_core: &mut Vec<Lit>,
 ) -> Result<(), Fault>
-    requires joined { NamesSearchInvariant names.now core.old }
-    requires failing { IsFailing core.old.search.assumptions.lits.items core.old.search.parts core.old.search.failed }
-    ensures { FailsCore W.seen result names.now core.old core.new failed_core.new.items }
+    requires joined { NamesSearchInvariant names.now context.old }
+    requires failing { IsFailing context.old.search.assumptions.lits.items context.old.search.parts context.old.search.failed }
+    ensures { FailsCore W.seen result names.now context.old context.new failed_core.new.items }
 {
-    write_core(&mut core.proof, &mut core.search)?;
-    name_lits(names, core.search.analysis.core(), failed_core)?;
+    write_core(&mut context.proof, &mut context.search)?;
+    name_lits(names, context.search.analysis.core(), failed_core)?;
     Ok(())
 }

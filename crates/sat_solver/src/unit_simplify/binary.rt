@@ -17,7 +17,7 @@ use sat_checker::ProofProcessor;
 use sat_parts::SearchState;
 use sat_parts::parts::clauses::remove_binary;
 
-/// Whether neither `first` nor `second` has a value.
+/// Returns `true` if neither `first` nor `second` has a value.
 fn are_open(parts: &SearchState, first: Lit, second: Lit) -> bool
     requires first { variable first < length parts.now.assignment.current }
     requires second { variable second < length parts.now.assignment.current }

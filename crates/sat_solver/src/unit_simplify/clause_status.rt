@@ -19,8 +19,8 @@ pub enum ClauseStatus {
     Shorter,
 }
 
-/// Returns the status of a clause whose literal at position `from` is assigned, and none of whose literals before `from`
-/// is true.
+/// Returns the status of a clause whose literal at position `from` is assigned, and none of whose literals before
+/// `from` is true.
 #[tactic(auto, using(crate::proofs::lemmas::unit_simplify::StatusLemmas::false_from_assigned))]
 fn clause_status_from(parts: &SearchState, cref: ClauseRef, from: usize) -> ClauseStatus
     requires holds { SearchStateInvariant parts.now }

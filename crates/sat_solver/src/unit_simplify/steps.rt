@@ -23,8 +23,8 @@ pub fn deletion_for(redundant: bool, other: DeleteClauseProof) -> DeleteClausePr
     other
 }
 
-/// Whether the step that strengthens a clause to `len` literals marks the result as redundant. It does exactly when the
-/// clause was redundant and `len` is at least three.
+/// Returns `true` if the step that strengthens a clause to `len` literals marks the result as redundant: if the
+/// clause was redundant, and `len` is at least three.
 fn left_redundant(redundant: bool, len: usize) -> bool
     ensures { result ≡ (redundant && nat_lt 2 len) }
 {

@@ -40,7 +40,7 @@ fn recount_free(count: usize, before: bool, after: bool) -> usize
     if after { count + 1 } else { count - 1 }
 }
 
-/// Whether a node agrees with its children.
+/// Returns `true` if a node agrees with its children.
 fn is_fresh(nodes: &Vec<bool>, at: usize) -> bool
     requires within { 2 * at + 1 < length nodes.now.items }
     ensures { result ≡ true → slice_index_or nodes.now.items at false

@@ -20,10 +20,11 @@ pub trait StepLog: Drop {
     /// The invariant between steps.
     ghost keeps: { Self → Type 0 };
 
-    /// Whether steps were made and accepted between two states.
+    /// `took old new` holds if steps were made and accepted between the states `old` and `new`.
     ghost took: { Self → Self → Type 0 };
 
-    /// Whether steps were made between two states, and the last step was not accepted because of this fault.
+    /// `broke old fault new` holds if steps were made between the states `old` and `new`, and the last step was not
+    /// accepted because of `fault`.
     ghost broke: { Self → Fault → Self → Type 0 };
 
     /// Receives a step, which must be allowed after the steps so far.

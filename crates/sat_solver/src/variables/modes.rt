@@ -145,7 +145,7 @@ fn mode_of(sample: bool) -> SamplingMode
     }
 }
 
-/// Whether `mode` is sample if `sample` is true, or witness otherwise.
+/// Returns `true` if `mode` is the mode that `sample` stands for: sample if it is true, and witness otherwise.
 #[tactic(auto, using(crate::proofs::lemmas::variables::ModeChanges::other_modes))]
 fn is_mode(mode: SamplingMode, sample: bool) -> bool
     ensures same { result ≡ true → mode ≡ mode_for sample }

@@ -10,7 +10,7 @@ use crate::variables::error::NameError;
 use crate::variables::log::StepLog;
 use sat_base::{ProofStep, Var};
 
-/// Whether a variable is in use and has no name. The variable must have been introduced at some point.
+/// Returns `true` if a variable is in use and has no name. The variable must have been introduced at some point.
 fn is_hidden(variables: &Variables, global: Var) -> bool
     requires within { global < variables_used variables.now }
     ensures hidden { result ≡ true → IsHidden variables.now global }

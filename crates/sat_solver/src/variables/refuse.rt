@@ -10,7 +10,7 @@ use crate::variables::Variables;
 use sat_base::{Lit, Var};
 use sat_store::SamplingMode;
 
-/// Whether clauses and assumptions are refused if they contain a name with this mode.
+/// Returns `true` if clauses and assumptions are refused that contain a name with this mode.
 fn is_witness_mode(mode: SamplingMode) -> bool
     ensures { result ≡ is_witness_kept mode }
 {
@@ -20,7 +20,7 @@ fn is_witness_mode(mode: SamplingMode) -> bool
     }
 }
 
-/// Whether a name is in use and has the mode witness.
+/// Returns `true` if a name is in use and has the mode witness.
 fn is_witness(variables: &Variables, user: Var) -> bool
     requires { VariablesInvariant variables.now }
     ensures judged { (j : ScriptState) (live : LiveVariables) → NamesMatchState variables.now j live
@@ -53,7 +53,7 @@ pub fn leftmost_witness(variables: &Variables, lits: &[Lit]) -> Option<Var>
     None
 }
 
-/// Whether a name is in use and assumed, so that it cannot be hidden and its mode cannot be set.
+/// Returns `true` if a name is in use and assumed, so that it cannot be hidden and its mode cannot be set.
 pub fn is_assumed(variables: &Variables, user: Var) -> bool
     requires { VariablesInvariant variables.now }
     ensures assumed { result ≡ true → IsAssumed variables.now user }

@@ -32,7 +32,7 @@ fn name_reach(used: usize, lits: &[Lit]) -> usize
     top
 }
 
-/// Whether one of the literals has the name `user`.
+/// Returns `true` if one of the literals has the name `user`.
 #[tactic(auto, using(sat_checker::proofs::lemmas::state::Scanning::any_literal))]
 fn has_name(lits: &[Lit], user: Var) -> bool
     ensures { result ≡ mentions lits.now user }
@@ -78,7 +78,7 @@ fn count_hidden(variables: &Variables, lits: &[Lit]) -> usize
     count
 }
 
-/// Whether there is a variable for every name that would be introduced with `lits`.
+/// Returns `true` if there is a variable for every name that would be introduced with `lits`.
 ///
 /// If this depends on how many times names occur, every hidden name is searched for among the later literals.
 pub fn has_room(variables: &Variables, lits: &[Lit]) -> bool
@@ -98,7 +98,7 @@ pub fn has_room(variables: &Variables, lits: &[Lit]) -> bool
     hidden <= left - never
 }
 
-/// Whether there is a variable for every name that would be introduced with `user`.
+/// Returns `true` if there is a variable for every name that would be introduced with `user`.
 pub fn has_room_for(variables: &Variables, user: Var) -> bool
     requires { VariablesInvariant variables.now }
     ensures { ReportsRoom result variables.now (user ∷ []) }

@@ -18,8 +18,8 @@ pub struct Given {
     pub unit: Option<bool>,
 }
 
-/// Gives the lowest free index to a variable that has no index. Appends the index and the value of the variable's unit
-/// to `given`.
+/// Gives the lowest free index to a variable that has no index, and returns the index. Appends the index and the value
+/// of the variable's unit to `given`.
 fn new_index<W: StepLog>(
     variables: &mut Variables,
     writer: &mut W,

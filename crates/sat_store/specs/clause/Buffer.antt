@@ -12,7 +12,8 @@ header_at words o = header_of (get_or words o 0) (get_or words (o + 1) 0) (get_o
 unfoldable pub lits_at : List ℕ → ℕ → List ℕ
 lits_at words o = take (get_or words (o + 2) 0) (drop (o + 3) words)
 
--- there is a clause at o: all of its words are in the buffer, its flags fit, and its literals are codes
+-- `IsClause words o` holds if there is a clause at `o`: all of its words are in the buffer, its flags fit, and its
+-- literals are codes.
 pub record IsClause (words : List ℕ) (o : ℕ) : Type 0 where
   pub flags : get_or words (o + 1) 0 < 2 ^ 11
   pub whole : o + 3 + get_or words (o + 2) 0 ≤ length words
@@ -22,16 +23,16 @@ pub record IsClause (words : List ℕ) (o : ℕ) : Type 0 where
 abbrev pub swapped : List ℕ → ℕ → ℕ → List ℕ
 swapped ls i j = set (set ls i (get_or ls j 0)) j (get_or ls i 0)
 
--- the clauses at o and p share no word
+-- `HaveNoCommonWord words o p` holds if the clauses at `o` and `p` share no word.
 unfoldable pub HaveNoCommonWord : List ℕ → ℕ → ℕ → Type 0
 HaveNoCommonWord words o p = (o + 3 + get_or words (o + 2) 0 ≤ p) ⊎ (p + 3 + get_or words (p + 2) 0 ≤ o)
 
--- that a clause is at every one of these offsets, and no two of these clauses share a word
+-- `HoldsClauses words live` holds if a clause is at every offset of `live`, and no two of these clauses share a word.
 pub record HoldsClauses (words : List ℕ) (live : List ℕ) : Type 0 where
   pub clauses : (o : ℕ) → Contains live o → IsClause words o
   pub apart : (o p : ℕ) → Contains live o → Contains live p → o ≢ p → HaveNoCommonWord words o p
 
--- the clause at p is the same in both buffers
+-- `SameClauseAt old new p` holds if the clause at `p` is the same in both buffers.
 pub record SameClauseAt (old new : List ℕ) (p : ℕ) : Type 0 where
   pub clause : IsClause new p
   pub header : header_at new p ≡ header_at old p
@@ -42,14 +43,15 @@ pub record HeadedClause : Type 0 where
   pub header : Header
   pub lits : List ℕ
 
--- only the clause at o changed, and it is still a clause
+-- `ChangesAt old new o` holds if only the clause at `o` changed, and it is still a clause.
 pub record ChangesAt (old new : List ℕ) (o : ℕ) : Type 0 where
   pub clause : IsClause new o
   pub size : length new ≡ length old
   pub others : (p : ℕ) → IsClause old p → HaveNoCommonWord old o p → SameClauseAt old new p
   pub holds_clauses : (live : List ℕ) → Contains live o → HoldsClauses old live → HoldsClauses new live
 
--- a clause with these literals and this header, except for its length, was appended at c
+-- `AppendsClause old new c header lits` holds if a clause with the literals `lits` and this header, except for its
+-- length, was appended at `c`.
 pub record AppendsClause (old new : List ℕ) (c : ℕ) (header : Header) (lits : List ℕ) : Type 0 where
   pub place : c ≡ length old
   pub clause : IsClause new c

@@ -4,7 +4,7 @@ use Rattle.sat_store.specs.declared.clause.edit.ClauseMut.{ClauseMut}
 use Rattle.sat_store.specs.clause.Header.{Header}
 use Rattle.sat_store.specs.clause.Buffer.{IsClause, header_at, lits_at, ChangesAt}
 
--- the view names a clause of its buffer
+-- `IsViewOfClause view` holds if the view names a clause of its buffer.
 abbrev pub IsViewOfClause : ClauseMut → Type 0
 IsViewOfClause view = IsClause view.buffer.now view.cref
 
@@ -16,7 +16,8 @@ header_there view = header_at view.buffer.now view.cref
 abbrev pub lits_there : ClauseMut → List ℕ
 lits_there view = lits_at view.buffer.now view.cref
 
--- the view's clause now has this header and these literals, and no other clause changed
+-- `Edits old new header lits` holds if the clause of the view has this header and these literals in `new`, and no other
+-- clause changed.
 pub record Edits (old new : ClauseMut) (header : Header) (lits : List ℕ) : Type 0 where
   pub cref : new.cref ≡ old.cref
   pub valid : IsViewOfClause new

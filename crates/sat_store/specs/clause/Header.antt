@@ -20,11 +20,11 @@ index_of Core = 1
 index_of Mid = 2
 index_of Local = 3
 
--- the tier with this number
+-- the tier with the number `n`
 abbrev pub tier_of : ℕ → Tier
 tier_of n = if n == 0 then Irred else (if n == 1 then Core else (if n == 2 then Mid else Local))
 
--- whether a tier is that of a learned clause
+-- `is_learned tier` is true if the tier is that of a learned clause.
 abbrev pub is_learned : Tier → Bool
 is_learned Irred = false
 is_learned Core = true

@@ -8,7 +8,7 @@ pub record Queue : Type 0 where
   pub bump : ℕ
   pub decay : ℕ
 
--- whether a variable may be picked
+-- `is_available q v` is true if the variable `v` may be picked.
 abbrev pub is_available : Queue → ℕ → Bool
 is_available q v = get_or q.available v false
 
@@ -20,14 +20,15 @@ activity_of q v = get_or q.activities v 0
 abbrev pub no_variables : Queue
 no_variables = record { available = []; activities = []; bump = 2 ^ 20; decay = 950 }
 
--- the queue with new variables up to this count, which may not be picked and have activity 0
+-- the queue with new variables up to `count`, which may not be picked and have activity 0
 abbrev pub with_variables : ℕ → Queue → Queue
 with_variables count q = record q {
   available = q.available ++ replicate (count - length q.available) false;
   activities = q.activities ++ replicate (count - length q.available) 0;
 }
 
--- the old variables stay as they were; the new ones may not be picked and have activity 0
+-- `GrowsQueue count old new` holds if the old variables stay as they were, and the new ones, up to `count`, may not be
+-- picked and have activity 0.
 pub record GrowsQueue (count : ℕ) (old new : Queue) : Type 0 where
   pub size : length new.available ≡ max (length old.available) count
   pub kept_available : (v : ℕ) → v < length old.available → is_available new v ≡ is_available old v
@@ -57,20 +58,21 @@ decayed q =
     let later = record q { bump = quotient_up (q.bump * 1000) q.decay } in
     if nat_lt later.bump (2 ^ 60) then later else rescaled later
 
--- the queue in which the flag says whether the variable may be picked
+-- the queue in which `flag` says whether the variable `v` may be picked
 abbrev pub with_available : ℕ → Bool → Queue → Queue
 with_available v flag q = record q { available = set q.available v flag }
 
--- that the variable may be picked, and every other variable that may be picked has a lower activity, or the same
--- activity and a higher index
+-- `IsFirst q v` holds if the variable `v` may be picked, and every other variable that may be picked has a lower
+-- activity, or the same activity and a higher index.
 pub record IsFirst (q : Queue) (v : ℕ) : Type 0 where
   pub available : is_available q v ≡ true
   pub first : (u : ℕ) → is_available q u ≡ true → (activity_of q u < activity_of q v) ⊎ ((activity_of q u ≡ activity_of q v) × (v ≤ u))
 
--- no variable may be picked
+-- `NonePickable q` holds if no variable may be picked.
 abbrev pub NonePickable : Queue → Type 0
 NonePickable q = (v : ℕ) → is_available q v ≡ false
 
--- the result of `next`: the first variable, which may then not be picked, or `None` if no variable may be picked
+-- `Picks q result after` holds if `result` is that of `next`: the first variable, which may then not be picked, or
+-- `None` if no variable may be picked.
 abbrev pub Picks : Queue → Option ℕ → Queue → Type 0
 Picks q result after = MatchOption result (NonePickable q × (after ≡ q)) (λ v. IsFirst q v × (after ≡ with_available v false q))

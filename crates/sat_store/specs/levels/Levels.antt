@@ -2,6 +2,6 @@
 use Rattle.std.specs.Prelude.{ℕ, ◌%◌, ◌==◌, Bool}
 use Rattle.std.specs.Int.{bit_at}
 
--- whether the level, or one with the same remainder, was added to the filter
+-- `level_passes filter level` is true if the level, or one with the same remainder, was added to the filter.
 unfoldable pub level_passes : ℕ → ℕ → Bool
 level_passes filter level = bit_at filter (level % 64) == 1

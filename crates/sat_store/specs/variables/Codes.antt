@@ -10,6 +10,6 @@ decoded code = if code == 0 then None else Some (code - 1)
 abbrev pub targets_of : List ℕ → List (Option ℕ)
 targets_of codes = map decoded codes
 
--- that every code means a variable within the limit, or none
+-- `AreCodes codes` holds if every code means a variable within the limit, or none.
 abbrev pub AreCodes : List ℕ → Type 0
 AreCodes codes = (v : ℕ) → slice_index codes v ≤ var_limit

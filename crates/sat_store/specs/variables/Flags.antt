@@ -5,7 +5,8 @@ use Rattle.std.specs.Prelude.{ℕ, ◌≡◌, ◌*◌, ◌-◌, ◌<◌, ◌++�
 abbrev pub flags_for : ℕ → List Bool → List Bool
 flags_for count flags = take (2 * count) flags ++ replicate (2 * count - length flags) false
 
--- two flags for each of `count` variables: the old ones are kept, and the others are false
+-- `GrowsFlags count old new` holds if there are two flags for each of `count` variables: the old ones are kept, and the
+-- others are false.
 pub record GrowsFlags (count : ℕ) (old new : List Bool) : Type 0 where
   pub size : length new ≡ 2 * count
   pub kept : (l : ℕ) → l < 2 * count → get_or new l false ≡ get_or old l false

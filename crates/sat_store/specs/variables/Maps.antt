@@ -5,12 +5,14 @@ use Rattle.std.specs.Prelude.{ℕ, ◌+◌, ◌==◌, ◌≡◌, ◌≢◌, ◌�
 abbrev pub target : List (Option ℕ) → ℕ → Option ℕ
 target map from = slice_index_or map from None
 
--- that the variable `from` now has the target `into`, or none, and every other variable keeps its target
+-- `PutsTarget old new from into` holds if the variable `from` has the target `into` in `new`, or none, and every other
+-- variable keeps its target.
 abbrev pub PutsTarget : List (Option ℕ) → List (Option ℕ) → ℕ → Option ℕ → Type 0
 PutsTarget old new from into = (v : ℕ) → target new v ≡ (if v == from then into else target old v)
 
--- That the variable `from` now has the target `into`, and every other variable keeps its target. Variables that the map
--- did not reach before have none. The length is one more than the largest index that was ever mapped.
+-- `GrowsMap old new from into` holds if the variable `from` has the target `into` in `new`, and every other variable
+-- keeps its target. Variables that the map did not reach before have none. The length is one more than the largest
+-- index that was ever mapped.
 pub record GrowsMap (old new : List (Option ℕ)) (from into : ℕ) : Type 0 where
   pub there : target new from ≡ Some into
   pub kept : (v : ℕ) → v ≢ from → target new v ≡ target old v
@@ -22,30 +24,30 @@ pub record MapAndInverse : Type 0 where
   pub fwd : List (Option ℕ)
   pub bwd : List (Option ℕ)
 
--- each map is the inverse of the other
+-- `AreInverse maps` holds if each map is the inverse of the other.
 pub record AreInverse (maps : MapAndInverse) : Type 0 where
   pub back : (v u : ℕ) → target maps.fwd v ≡ Some u → target maps.bwd u ≡ Some v
   pub forth : (v u : ℕ) → target maps.bwd u ≡ Some v → target maps.fwd v ≡ Some u
 
--- the same maps with their directions exchanged
+-- the two maps with their directions exchanged
 abbrev pub turned : MapAndInverse → MapAndInverse
 turned maps = record { fwd = maps.bwd; bwd = maps.fwd }
 
--- `from` is now mapped to `into`, and back
+-- `Links old new from into` holds if `from` is now mapped to `into`, and back.
 pub record Links (old new : MapAndInverse) (from into : ℕ) : Type 0 where
   pub fwd : PutsTarget old.fwd new.fwd from (Some into)
   pub bwd : PutsTarget old.bwd new.bwd into (Some from)
   pub fwd_watermark : length new.fwd ≡ max (length old.fwd) (from + 1)
   pub bwd_watermark : length new.bwd ≡ max (length old.bwd) (into + 1)
 
--- `from` is no longer mapped to `into`, nor back
+-- `Unlinks old new from into` holds if `from` is no longer mapped to `into`, nor back.
 pub record Unlinks (old new : MapAndInverse) (from into : ℕ) : Type 0 where
   pub fwd : PutsTarget old.fwd new.fwd from None
   pub bwd : PutsTarget old.bwd new.bwd into None
   pub fwd_watermark : length new.fwd ≡ length old.fwd
   pub bwd_watermark : length new.bwd ≡ length old.bwd
 
--- both maps gained one target
+-- `GrowsBoth old new from into` holds if each of the maps gained a target: `into` for `from`, and `from` for `into`.
 pub record GrowsBoth (old new : MapAndInverse) (from into : ℕ) : Type 0 where
   pub fwd : GrowsMap old.fwd new.fwd from into
   pub bwd : GrowsMap old.bwd new.bwd into from

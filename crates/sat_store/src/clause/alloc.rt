@@ -120,8 +120,8 @@ impl ClauseAlloc {
         self.words.len()
     }
 
-    /// Appends a clause of three or more literals. The length of the clause is the number of literals, whatever the
-    /// header says.
+    /// Appends a clause of three or more literals, and returns the reference to it. The length of the clause is the
+    /// number of literals, whatever the header says.
     pub fn add_clause(
         &mut self,
         header: ClauseHeader,

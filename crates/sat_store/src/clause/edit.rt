@@ -46,7 +46,7 @@ impl<'a> ClauseMut<'a> {
         self.buffer.header(self.cref)
     }
 
-    /// Whether the clause was deleted.
+    /// Returns `true` if the clause was deleted.
     pub fn deleted(&self) -> bool
         requires { IsViewOfClause self.now }
         ensures { result ≡ (header_there self.now).deleted }
@@ -62,7 +62,7 @@ impl<'a> ClauseMut<'a> {
         self.header().tier()
     }
 
-    /// Whether the clause is learned: its tier is not `Irred`.
+    /// Returns `true` if the clause is learned: its tier is not `Irred`.
     pub fn redundant(&self) -> bool
         requires { IsViewOfClause self.now }
         ensures { result ≡ is_learned (header_there self.now).tier }
@@ -70,7 +70,7 @@ impl<'a> ClauseMut<'a> {
         self.header().redundant()
     }
 
-    /// Whether the clause is marked.
+    /// Returns `true` if the clause is marked.
     pub fn mark(&self) -> bool
         requires { IsViewOfClause self.now }
         ensures { result ≡ (header_there self.now).mark }
@@ -78,7 +78,7 @@ impl<'a> ClauseMut<'a> {
         self.header().mark()
     }
 
-    /// Whether the clause has been used since this flag was last cleared.
+    /// Returns `true` if the clause has been used since this flag was last cleared.
     pub fn active(&self) -> bool
         requires { IsViewOfClause self.now }
         ensures { result ≡ (header_there self.now).active }

@@ -94,7 +94,7 @@ impl ClauseHeader {
         self.len = len as u32;
     }
 
-    /// Whether the clause was deleted. A deleted clause stays in the buffer until garbage is collected.
+    /// Returns `true` if the clause was deleted. A deleted clause stays in the buffer until garbage is collected.
     pub fn deleted(&self) -> bool
         ensures { result ≡ self.now.deleted }
     {
@@ -127,14 +127,14 @@ impl ClauseHeader {
         self.flags = self.flags / 4 * 4 + tier.index() as u32;
     }
 
-    /// Whether the clause is learned: its tier is not `Irred`.
+    /// Returns `true` if the clause is learned: its tier is not `Irred`.
     pub fn redundant(&self) -> bool
         ensures { result ≡ is_learned self.now.tier }
     {
         self.flags % 4 != 0
     }
 
-    /// Whether the clause is marked. The mark is for use in passes over all clauses.
+    /// Returns `true` if the clause is marked. The mark is for use in passes over all clauses.
     pub fn mark(&self) -> bool
         ensures { result ≡ self.now.mark }
     {
@@ -148,7 +148,7 @@ impl ClauseHeader {
         self.flags = self.flags / 16 * 16 + u32::from(mark) * 8 + self.flags % 8;
     }
 
-    /// Whether the clause has been used since this flag was last cleared.
+    /// Returns `true` if the clause has been used since this flag was last cleared.
     pub fn active(&self) -> bool
         ensures { result ≡ self.now.active }
     {

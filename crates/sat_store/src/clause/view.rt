@@ -101,7 +101,7 @@ impl<'a> Lits<'a> {
         self.words.len()
     }
 
-    /// Whether there are no literals.
+    /// Returns `true` if there are no literals.
     pub fn is_empty(&self) -> bool
         ensures { IsTrue result ↔ self.now ≡ [] }
     {

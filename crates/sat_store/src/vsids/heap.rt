@@ -41,8 +41,8 @@ pub(super) fn exchange(heap: &mut Vec<Entry>, positions: &mut Vec<u32>, i: usize
     put(heap, positions, j, first);
 }
 
-/// Whether `a` comes before `b`: the activity of `a` is higher, or the activities are equal and the index of `a`
-/// is lower.
+/// Returns `true` if `a` comes before `b`: the activity of `a` is higher, or the activities are equal and the index of
+/// `a` is lower.
 #[inline(always)] // called at least once for each step through the heap
 fn is_above(a: Entry, b: Entry) -> bool
     requires first { a.var < var_limit }
@@ -53,7 +53,7 @@ fn is_above(a: Entry, b: Entry) -> bool
         > u128::from(b.key) * 18446744073709551616 + u128::from(a.var)
 }
 
-/// Whether an entry comes before the parent of a position.
+/// Returns `true` if an entry comes before the parent of a position.
 #[inline(always)] // called at each step up
 fn goes_up(heap: &[Entry], entry: Entry, at: usize) -> bool
     requires listed { HoldsVariables heap.now }

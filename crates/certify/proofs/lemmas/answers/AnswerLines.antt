@@ -19,6 +19,7 @@ pub record Lines (o : Outcome) (tail bytes : List ℕ) : Type 0 where
   pub is : outcome_of kind line ≡ o
   pub text : bytes ≡ first_answer_line kind ++ (second_line o ++ tail)
 
+-- the lines of an outcome at the beginning of bytes
 pub lines_of : (o : Outcome) (tail bytes : List ℕ) → bytes ≡ outcome_text o ++ tail → Lines o tail bytes
 lines_of (Sat line) tail bytes e = record { kind = kind.Sat; line = line; is = refl; text = e ∙ append_assoc s_satisfiable (v_line line) tail }
 lines_of (Unsat core) tail bytes e = record { kind = kind.Unsat; line = core; is = refl; text = e ∙ append_assoc s_unsatisfiable (f_line core) tail }

@@ -8,7 +8,7 @@ use Rattle.certify.specs.answers.AnswerReading.{HasLine, outcome_of, literal_pla
 use Rattle.certify.specs.declared.answers.read.AnswerKind.{AnswerKind}
 use Rattle.certify.specs.declared.answers.read.AnswerKind.TheVariants as kind
 
--- that the places rise strictly, and the first is at least `least`
+-- `RiseFrom least places` holds if the places rise strictly, and the first is at least `least`.
 abbrev pub RiseFrom : ℕ → List ℕ → Type 0
 RiseFrom least [] = Unit {0}
 RiseFrom least (p ∷ ps) = (least ≤ p) × RiseFrom (p + 1) ps

@@ -11,6 +11,7 @@ use Rattle.certify.specs.declared.answers.read.AnswerKind.TheVariants as kind
 use Rattle.certify.specs.declared.answers.read.AnswerFault.{AnswerFault}
 use Rattle.certify.specs.declared.answers.read.AnswerFault.TheVariants.{Missing, Text, OutOfMemory}
 
+-- the second line of an answer is its head and its literals
 pub line_text : (k : AnswerKind) (head : List ℕ) (ls : List Literal) → IsHead k head → second_line (outcome_of k ls) ≡ head ++ literals_text ls
 line_text kind.Sat head ls h = ap (λ t. t ++ literals_text ls) (sym h)
 line_text kind.Unsat head ls h = ap (λ t. t ++ literals_text ls) (sym h)

@@ -17,11 +17,12 @@ abbrev pub words_text : List Literal → List ℕ
 words_text [] = []
 words_text (l ∷ ls) = literal_text l ++ (32 ∷ words_text ls)
 
--- that places rise after those of the line exactly when they rise from `least`
+-- `GoOnFrom k line least` holds if places rise after those of the line exactly when they rise from `least`.
 abbrev pub GoOnFrom : AnswerKind → List ℕ → ℕ → Type 0
 GoOnFrom k line least = (places : List ℕ) → RiseFrom 0 (map (literal_place k) line ++ places) ↔ RiseFrom least places
 
--- that the literals of the line have been read word by word and in order, and `rest` is left
+-- `ReadInOrder k bytes line rest least` holds if the literals of the line have been read word by word and in order, and
+-- `rest` is left.
 pub record ReadInOrder (k : AnswerKind) (bytes line rest : List ℕ) (least : ℕ) : Type 0 where
   pub read : Read bytes line rest
   pub words : bytes ≡ words_text (named_literals line) ++ rest
@@ -64,9 +65,11 @@ goes_on k line l least g h places =
 in_full_order : (k : AnswerKind) (line : List ℕ) (least : ℕ) → GoOnFrom k line least → IsOrdered (outcome_of k (named_literals line))
 in_full_order k line least g = rise_ordered k line (subst (RiseFrom 0) (append-nil (map (literal_place k) line)) ((g []).1 tt))
 
+-- literals that were read in order, up to the end of the line, are in form
 pub in_form : (k : AnswerKind) (bytes line rest : List ℕ) (least : ℕ) → HasLine k → ReadInOrder k bytes line rest least → IsPrintable (outcome_of k (named_literals line))
 in_form k bytes line rest least d r = (subst HaveNames (sym (line_literals k (named_literals line) d)) r.read.names, in_full_order k line least r.order)
 
+-- one more literal was read in order
 pub one_in_order : (k : AnswerKind) (bytes line rest following : List ℕ) (l least : ℕ) → ReadInOrder k bytes line rest least → IsName (named_literal l).name → rest ≡ literal_text (named_literal l) ++ (32 ∷ following) → least ≤ literal_place k l
     → ReadInOrder k bytes (line ++ (l ∷ [])) following (literal_place k l + 1)
 one_in_order k bytes line rest following l least r n e h = record {
@@ -113,7 +116,7 @@ no_room k bytes line rest following l least d r n e h =
 
 -- PREFIXES OF A TEXT
 
--- that the literals were read in order, whatever bytes follow
+-- `ReadSoFar k bytes rest least` holds if the literals were read in order, whatever bytes follow.
 pub record ReadSoFar (k : AnswerKind) (bytes rest : List ℕ) (least : ℕ) : Type 0 where
   pub line : List ℕ
   pub before : (more : List ℕ) → ReadInOrder k (bytes ++ more) line (rest ++ more) least
@@ -129,11 +132,13 @@ one_so_far k bytes rest following l least r n e h = record {
   before = λ more. one_in_order k (bytes ++ more) r.line (rest ++ more) (following ++ more) l least (r.before more) n (after_space l rest following more e) h;
 }
 
+-- a literal out of order begins no line
 pub starts_out_of_order : (k : AnswerKind) (bytes rest following : List ℕ) (l least : ℕ) → HasLine k → ReadSoFar k bytes rest least → IsName (named_literal l).name → rest ≡ literal_text (named_literal l) ++ (32 ∷ following) → literal_place k l < least
     → StartsNoLiterals k bytes
 starts_out_of_order k bytes rest following l least d r n e low ls more o f =
     out_of_order k (bytes ++ more) r.line (rest ++ more) (following ++ more) l least d (r.before more) n (after_space l rest following more e) low ls [] o (sym f ∙ sym (append-nil (literals_text ls)))
 
+-- bytes that begin neither with a literal nor with `0` and LF begin no line
 pub starts_neither : (k : AnswerKind) (bytes rest : List ℕ) (least : ℕ) → HasLine k → ReadSoFar k bytes rest least → StartsNoLiteral rest → ((more : List ℕ) → 48 ∷ 10 ∷ [] ≡ rest ++ more → ⊥) → StartsNoLiterals k bytes
 starts_neither k bytes rest least d r none end ls more o f =
     not_read (bytes ++ more) r.line (rest ++ more) (r.before more).read (none more) ls [] (λ e. end more (sym e)) (subst HaveNames (line_literals k ls d) o.0) (sym f ∙ sym (append-nil (literals_text ls)))

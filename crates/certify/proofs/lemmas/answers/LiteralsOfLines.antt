@@ -17,8 +17,8 @@ within_limit (l ∷ ls) h = (h.0.1, within_limit ls h.1)
 pub same_literals : (ls ks : List Literal) (x y : List ℕ) → HaveNames ls → HaveNames ks → literals_text ls ++ x ≡ literals_text ks ++ y → (ls ≡ ks) × (x ≡ y)
 same_literals ls ks x y h k e = literals_of_texts ls ks x y (within_limit ls h) (within_limit ks k) e
 
--- That the literals of the line have been read, and `rest` is left. Any line at the beginning of the bytes
--- continues in `rest`, and conversely.
+-- `Read bytes line rest` holds if the literals of the line have been read, and `rest` is left. Any line at the
+-- beginning of the bytes continues in `rest`, and conversely.
 pub record Read (bytes line rest : List ℕ) : Type 0 where
   pub names : HaveNames (named_literals line)
   pub forth : (ls : List Literal) (tail : List ℕ) → HaveNames ls → bytes ≡ literals_text ls ++ tail → (more : List Literal) × (HaveNames more × (rest ≡ literals_text more ++ tail))
@@ -34,6 +34,7 @@ after_word m (l ∷ ls) following tail h k e =
     let p = at_space (literal_text m) (literal_text l) following (literals_text ls ++ tail) (plain_word m h.1) (plain_word l k.0.1) (e ∙ append_assoc (literal_text l) (32 ∷ literals_text ls) tail) in
     (ls, (k.1, p.1))
 
+-- one more literal was read
 pub one_read : (bytes line rest following : List ℕ) (l : ℕ) → Read bytes line rest → IsName (named_literal l).name → rest ≡ literal_text (named_literal l) ++ (32 ∷ following) → Read bytes (line ++ (l ∷ [])) following
 one_read bytes line rest following l r h e = record {
   names = subst HaveNames (sym (map-append named_literal line (l ∷ []))) (have_names_snoc (named_literals line) (named_literal l) r.names h);

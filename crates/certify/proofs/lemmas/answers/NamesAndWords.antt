@@ -25,6 +25,7 @@ no_minus n x y h e = go (decimal n) (numeral n h).0 (decimal_nonempty n (small n
     go [] d k e = omega arith
     go (c ∷ cs) d k e = let r = digit_from_value c d.0 in let s : c ≡ 45 = cc in omega arith
 
+-- without a name after the sign, there is no literal
 pub no_negative : (bytes following : List ℕ) → bytes ≡ 45 ∷ following → NoWord decimal IsName following → NoLiteral bytes
 no_negative bytes following e none l tail h f = go l.positive l.name h f
   where
@@ -34,11 +35,13 @@ no_negative bytes following e none l tail h f = go l.positive l.name h f
 
 -- THE SIGN BEFORE A NAME
 
--- that the bytes are a minus sign and the rest, if the flag is true, and else are the rest and do not begin with a minus sign
+-- `SkipsSign bytes rest negative` holds if the bytes are a minus sign and then `rest`, or, if `negative` is false, are
+-- `rest` and do not begin with a minus sign.
 abbrev pub SkipsSign : List ℕ → List ℕ → Bool → Type 0
 SkipsSign bytes rest true = bytes ≡ 45 ∷ rest
 SkipsSign bytes rest false = (bytes ≡ rest) × ((tail : List ℕ) → bytes ≡ 45 ∷ tail → ⊥)
 
+-- the code skips the sign, if there is one
 pub sign_skipped : (bytes rest : List ℕ) (negative : Bool) (start : ℕ) → 0 < length bytes → negative ≡ eqb (get_or bytes 0 0) 45 → (negative ≡ true → start ≡ 1) → (negative ≡ false → start ≡ 0) → rest ≡ take (length bytes - start) (drop start bytes) → SkipsSign bytes rest negative
 sign_skipped [] rest negative start h is one none r = absurd (omega arith)
 sign_skipped (b ∷ bs) rest true start h is one none r =
@@ -48,6 +51,7 @@ sign_skipped (b ∷ bs) rest false start h is one none r =
     let e : rest ≡ b ∷ bs = r ∙ ap (λ m. take (length (b ∷ bs) - m) (drop m (b ∷ bs))) (none refl) ∙ take_all (length (b ∷ bs) - 0) (b ∷ bs) (omega arith) in
     (sym e, (λ tail f. let g : b ≡ 45 = cc in true≢false (sym (eq-eqb b 45 g) ∙ sym is)))
 
+-- without a name after the sign, if there is one, there is no literal
 pub no_literal_after : (bytes rest : List ℕ) (negative : Bool) → SkipsSign bytes rest negative → NoWord decimal IsName rest → NoLiteral bytes
 no_literal_after bytes rest true e none = no_negative bytes rest e none
 no_literal_after bytes rest false e none = λ l tail h f. go l.positive l.name tail h f
@@ -68,6 +72,7 @@ sign_coded : (v : ℕ) (s : Bool) → is_positive (mk_lit v s) ≡ s
 sign_coded v true = eq-eqb (mk_lit v true % 2) 0 (omega arith)
 sign_coded v false = ne_eqb (mk_lit v false % 2) 0 (λ e. omega arith)
 
+-- a name after the sign, if there is one, gives a literal
 pub literal_begins : (bytes rest tail : List ℕ) (negative : Bool) (name l : ℕ) → SkipsSign bytes rest negative → BeginsWithWord decimal IsName rest name tail → l ≡ mk_lit (name - 1) (not negative) → BeginsWithLiteral bytes l tail
 literal_begins bytes rest tail negative name l s b is =
     let v : variable l + 1 ≡ name = ap (λ c. variable c + 1) is ∙ name_coded name (not negative) b.0.0 in

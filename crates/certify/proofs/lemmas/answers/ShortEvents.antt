@@ -64,7 +64,7 @@ same_answers commands ending outcomes = same_lines 1 code_initial commands endin
 
 -- OUTCOMES
 
--- that outcomes are correct for the commands exactly when they are correct for their events
+-- `Same j commands` holds if outcomes are correct for the commands exactly when they are correct for their events.
 abbrev Same : CodeState → List Command → Type 0
 Same j commands = (k : ℕ) (ending : ScriptEnding) (os : List Outcome)
     → AreRight j (accepted_commands j commands) os ↔ EachIsRight (events k (short_state j) commands ending) os
@@ -134,7 +134,7 @@ right_by_events commands ending outcomes = same_right code_initial commands kept
 
 -- REFUSALS AND VARIABLES
 
--- that events have the refusals and the variables of commands
+-- `Counted j all accepted es` holds if events have the refusals and the variables of commands.
 abbrev pub Counted : CodeState → List Command → List Command → List Event → Type 0
 Counted j all accepted es = (refusals_among es ≡ refused_count j all) × (variables_at es ≡ identities_given j accepted)
 

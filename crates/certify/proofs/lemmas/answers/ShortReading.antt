@@ -18,7 +18,7 @@ names_append : (ls : List Literal) (l : Literal) → names_of ls ++ l.name ∷ [
 names_append [] l = refl
 names_append (k ∷ ls) l = ap (λ (ns : List ℕ). k.name ∷ ns) (names_append ls l)
 
--- that both definitions read the rest in the same way, whatever command has begun
+-- `Agree short long` holds if both definitions read the rest in the same way, whatever command has begun.
 abbrev Agree : (Option Command → Reading) → (PartialCommand → Reading) → Type 0
 Agree short long = (h : PartialCommand) → short (hand_in h) ≡ long h
 

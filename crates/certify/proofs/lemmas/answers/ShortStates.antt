@@ -21,7 +21,7 @@ short_name modes n = with_this n (get_or modes n.identity Sampled)
 abbrev pub short_state : CodeState → ScriptState
 short_state j = record { first_unused = j.first_unused; in_use = map (short_name j.modes) j.in_use; identity_count = j.identity_count; clauses = j.clauses }
 
--- that different names in use have different identities
+-- `Apart names` holds if different names in use have different identities.
 abbrev pub Apart : List CodeNamed → Type 0
 Apart [] = Unit {0}
 Apart (n ∷ ns) = AllByRecursion (λ m. n.identity ≡ m.identity → ⊥) ns × Apart ns
@@ -329,6 +329,7 @@ same_accepted (Witness names) j h =
 same_accepted (Sample names) j h =
     each_same (moded Sampled) (λ name s. with_mode false name (introduce name s)) (moded_kept Sampled) (same_moded Sampled) names j h
 
+-- `Keeps` still holds after an accepted command
 pub accepted_kept : (c : Command) (j : CodeState) → Keeps j → Keeps (code_accepted c j)
 accepted_kept (Clause ls) j h = clause_kept ls (code_for_each code_introduce (names_of ls) j) (each_kept code_introduce introduce bring_kept (names_of ls) j h)
 accepted_kept (Ask ls) j h = each_kept code_introduce introduce bring_kept (names_of ls) j h
@@ -355,6 +356,7 @@ same_first may j (name ∷ names) =
     let rest = same_first may j names in
     λ i. cond (ltb var_limit name) (Some PastLimit) (cond (not may && witness i) (Some (WitnessName name)) (rest i))
 
+-- both definitions refuse the same commands, for the same reasons
 pub same_refusal : (j : CodeState) (c : Command) → refusal_of (short_state j) c ≡ code_refusal_of j c
 same_refusal j (Clause ls) = same_first false j (names_of ls)
 same_refusal j (Ask ls) = same_first false j (names_of ls)
@@ -366,12 +368,14 @@ short_cond : (b : Bool) (j k : CodeState) → short_state (cond b j k) ≡ cond 
 short_cond true j k = refl
 short_cond false j k = refl
 
+-- both definitions have the same state after a command
 pub same_after : (c : Command) (j : CodeState) → Keeps j → short_state (code_after_command c j) ≡ after_command c (short_state j)
 same_after c j h =
     let refused = sym (same_refusal j c) in
     let next = same_accepted c j h in
     short_cond (is_some (code_refusal_of j c)) j (code_accepted c j) ∙ (λ i. cond (is_some (refused i)) (short_state j) (next i))
 
+-- `Keeps` still holds after a command
 pub after_kept : (c : Command) (j : CodeState) → Keeps j → Keeps (code_after_command c j)
 after_kept c j h = go (is_some (code_refusal_of j c))
   where
@@ -409,6 +413,7 @@ model_from j ask line m = record {
   asked = same_true m.valuation j ask m.asked;
 }
 
+-- both definitions find the same outcomes correct
 pub same_outcome : (j : CodeState) (ask : List Literal) (o : Outcome) → CodeIsRight j ask o ↔ IsRight (short_state j) ask o
 same_outcome j ask (Sat line) = (model_to j ask line, model_from j ask line)
 same_outcome j ask (Unsat core) = (

@@ -22,7 +22,7 @@ use Rattle.certify.proofs.lemmas.answers.AnswerLines.{printed}
 use Rattle.certify.proofs.lemmas.laws.DistinctTexts.{same_outcome}
 use Rattle.certify.proofs.lemmas.confirm.UsedNames.{used_names, line_form}
 
--- that every line that lists the names in use has valid names in increasing order
+-- `Listed j` holds if every line that lists the names in use has valid names in increasing order.
 abbrev pub Listed : ScriptState → Type 0
 Listed j = (line : List Literal) → names_of line ≡ map (λ n. n.name) j.in_use → HaveNames line × NamesRise (names_of line)
 
@@ -32,7 +32,7 @@ all_listed names j h up line e =
     let l = h.limit in
     line_form names line (omega arith) (e ∙ used_names names j h up)
 
--- that every name that has a variable is valid
+-- `Within earlier` holds if every name that has a variable is valid.
 abbrev pub Within : List Step → Type 0
 Within earlier = (name v : ℕ) → variable_of earlier name ≡ Some v → IsName name
 
@@ -61,7 +61,8 @@ form_of (Sat line) h = tt
 form_of (Unsat core) h = h.1
 form_of Unknown h = tt
 
--- that an outcome can be read next, and the steps that show it and close the ask are still to be met
+-- `Answerable j n earlier ask cs ending answers certificate` holds if an outcome can be read next, and the steps that
+-- show it and close the ask are still to be met.
 pub record Answerable (j : ScriptState) (n : ℕ) (earlier : List Step) (ask : List Literal) (cs : List Command) (ending : ScriptEnding) (answers certificate : List ℕ) : Type 0 where
   pub outcome : Outcome
   pub tail : List ℕ

@@ -14,18 +14,22 @@ use Rattle.sat_checker.specs.matching.ProofChecking.{checker_rules}
 use Rattle.certify.specs.confirm.CertificatePlaces.{CanMeet, MeetsExactly, MeetsNoneOf, MeetsSameSteps, MeetsNothing, NextIsOrdered}
 use Rattle.certify.proofs.lemmas.confirm.NextStep.{taken, skipped}
 
+-- between a place and itself, no expected step is met
 pub leads_nowhere : (earlier : List Step) (certificate : List ℕ) → MeetsExactly earlier certificate [] earlier certificate
 leads_nowhere earlier certificate = record { on = λ es m. m; back = λ es m. m }
 
+-- what is met up to a place and after it is met together
 pub leads_on : {earlier mid later : List Step} {bytes between rest : List ℕ} {p q : List Expected} → MeetsExactly earlier bytes p mid between → MeetsExactly mid between q later rest → MeetsExactly earlier bytes (p ++ q) later rest
 leads_on {earlier} {mid} {later} {bytes} {between} {rest} {p} {q} l m = record {
   on = λ es h. m.on es (l.on (q ++ es) (subst (λ xs. CanMeet earlier xs bytes) (append_assoc p q es) h));
   back = λ es h. subst (λ xs. CanMeet earlier xs bytes) (sym (append_assoc p q es)) (l.back (q ++ es) (m.back es h));
 }
 
+-- what cannot be met after a place cannot be met before it
 pub bars_after : {earlier mid : List Step} {bytes between : List ℕ} {p q : List Expected} → MeetsExactly earlier bytes p mid between → MeetsNoneOf mid between q → MeetsNoneOf earlier bytes (p ++ q)
 bars_after {earlier} {mid} {bytes} {between} {p} {q} l b = record { none = λ es h. b.none es (l.on (q ++ es) (subst (λ xs. CanMeet earlier xs bytes) (append_assoc p q es) h)) }
 
+-- if steps cannot be met, no more can be
 pub bars_more : {earlier : List Step} {bytes : List ℕ} {p : List Expected} (q : List Expected) → MeetsNoneOf earlier bytes p → MeetsNoneOf earlier bytes (p ++ q)
 bars_more {earlier} {bytes} {p} q b = record { none = λ es h. b.none (q ++ es) (subst (λ xs. CanMeet earlier xs bytes) (append_assoc p q es) h) }
 
@@ -39,6 +43,7 @@ when_cut earlier es bytes u m = go m.steps es m.meets
     go steps es (other v n a k) = absurd (true≢false (sym u ∙ v))
     go steps es (ordered v f a k) = absurd (true≢false (sym u ∙ v))
 
+-- once unsat is recorded, expected steps that may be unmet are met without a step
 pub cut_met : (earlier : List Step) (es : List Expected) (bytes : List ℕ) → (ready_after earlier).unsat ≡ true → AllByRecursion MayBeUnmet es → CanMeet earlier es bytes
 cut_met earlier es bytes u x = record { steps = []; text = []; rest = bytes; begins = refl; spelt = refl; meets = cut u x }
 
@@ -54,12 +59,14 @@ all_before : (p es : List Expected) → AllByRecursion MayBeUnmet (p ++ es) → 
 all_before [] es x = tt
 all_before (e ∷ p) es x = (x.0, all_before p es x.1)
 
+-- once unsat is recorded, expected steps that may be unmet are met where they are
 pub leads_cut : (earlier : List Step) (bytes : List ℕ) (p : List Expected) → (ready_after earlier).unsat ≡ true → AllByRecursion MayBeUnmet p → MeetsExactly earlier bytes p earlier bytes
 leads_cut earlier bytes p u x = record {
   on = λ es h. cut_met earlier es bytes u (all_after p es (when_cut earlier (p ++ es) bytes u h));
   back = λ es h. cut_met earlier (p ++ es) bytes u (all_back p es x (when_cut earlier es bytes u h));
 }
 
+-- once unsat is recorded, an expected step that may not be unmet cannot be met
 pub bars_cut : (earlier : List Step) (bytes : List ℕ) (p : List Expected) → (ready_after earlier).unsat ≡ true → (AllByRecursion MayBeUnmet p → ⊥) → MeetsNoneOf earlier bytes p
 bars_cut earlier bytes p u x = record { none = λ es h. x (all_before p es (when_cut earlier (p ++ es) bytes u h)) }
 
@@ -75,7 +82,7 @@ no_step earlier bytes u none = record { none = λ e es m. go e es m.rest m.steps
     go e es following [] text b s k = not_over earlier e es u k
     go e es following (step ∷ steps) text b s k = none step s.0 (s.1 ++ following) (b ∙ ap (λ x. x ++ following) s.4 ∙ append_assoc s.0 s.1 following) s.2
 
--- that `step` and steps from the bytes after it meet what is expected
+-- `Begun earlier step es more` holds if `step` and steps from the bytes after it meet what is expected.
 record Begun (earlier : List Step) (step : Step) (es : List Expected) (more : List ℕ) : Type 0 where
   steps : List Step
   text : List ℕ
@@ -102,6 +109,7 @@ begun one earlier step bytes text more e es u b s m = go m.steps m.text m.begins
           meets = subst (λ x. Meets checker_rules earlier (x ∷ steps) (e ∷ es)) (sym same.1) k;
         }
 
+-- an accepted unordered step changes nothing of what is met
 pub skips_step : IsUniquelyDecodable SpellsStep → (earlier : List Step) (step : Step) (bytes text more : List ℕ) → (ready_after earlier).unsat ≡ false → bytes ≡ text ++ more → SpellsStep step text → is_ordered step ≡ false
     → Accepts (ready_after earlier) step → MeetsSameSteps earlier bytes (step ∷ earlier) more
 skips_step one earlier step bytes text more u b s o a = record {
@@ -121,6 +129,7 @@ pub stops_at_step : IsUniquelyDecodable SpellsStep → (earlier : List Step) (st
     → (Accepts (ready_after earlier) step → ⊥) → MeetsNothing earlier bytes
 stops_at_step one earlier step bytes text more u b s o a = record { none = λ e es m. let g = begun one earlier step bytes text more e es u b s m in a (skipped checker_rules o g.meets).0 }
 
+-- an ordered step is the next one
 pub offers_step : IsUniquelyDecodable SpellsStep → (earlier : List Step) (step : Step) (bytes text more : List ℕ) → (ready_after earlier).unsat ≡ false → bytes ≡ text ++ more → SpellsStep step text → is_ordered step ≡ true
     → NextIsOrdered earlier bytes earlier step more
 offers_step one earlier step bytes text more u b s o = record {
@@ -144,9 +153,11 @@ skips_none earlier bytes = record { on = λ e es m. m; back = λ e es m. m }
 pub skips_on : {earlier mid later : List Step} {bytes between rest : List ℕ} → MeetsSameSteps earlier bytes mid between → MeetsSameSteps mid between later rest → MeetsSameSteps earlier bytes later rest
 skips_on s t = record { on = λ e es m. t.on e es (s.on e es m); back = λ e es m. s.back e es (t.back e es m) }
 
+-- if nothing is met after unordered steps, nothing is met before them
 pub skips_stop : {earlier mid : List Step} {bytes between : List ℕ} → MeetsSameSteps earlier bytes mid between → MeetsNothing mid between → MeetsNothing earlier bytes
 skips_stop s t = record { none = λ e es m. t.none e es (s.on e es m) }
 
+-- the next ordered step after unordered steps is the next one before them
 pub skips_offer : {earlier mid later : List Step} {bytes between rest : List ℕ} {step : Step} → MeetsSameSteps earlier bytes mid between → NextIsOrdered mid between later step rest → NextIsOrdered earlier bytes later step rest
 skips_offer s o = record { on = λ e es m. o.on e es (s.on e es m); back = λ e es f a m. s.back e es (o.back e es f a m) }
 
@@ -154,9 +165,11 @@ skips_offer s o = record { on = λ e es m. o.on e es (s.on e es m); back = λ e 
 pub leads_step : {earlier later : List Step} {bytes rest : List ℕ} {step : Step} (e : Expected) → NextIsOrdered earlier bytes later step rest → Fits (checker_rules.knows later) later e step → Accepts (ready_after later) step → MeetsExactly earlier bytes (e ∷ []) (step ∷ later) rest
 leads_step e o f a = record { on = λ es m. (o.on e es m).2; back = λ es m. o.back e es f a m }
 
+-- an expected step that the next ordered step does not fit cannot be met
 pub bars_unfit : {earlier later : List Step} {bytes rest : List ℕ} {step : Step} (e : Expected) → NextIsOrdered earlier bytes later step rest → (Fits (checker_rules.knows later) later e step → ⊥) → MeetsNoneOf earlier bytes (e ∷ [])
 bars_unfit e o n = record { none = λ es m. n (o.on e es m).0 }
 
+-- if the next ordered step is not accepted, no expected step can be met
 pub bars_refused : {earlier later : List Step} {bytes rest : List ℕ} {step : Step} (e : Expected) → NextIsOrdered earlier bytes later step rest → (Accepts (ready_after later) step → ⊥) → MeetsNoneOf earlier bytes (e ∷ [])
 bars_refused e o n = record { none = λ es m. n (o.on e es m).1 }
 
@@ -168,6 +181,7 @@ pub leads_skip : {earlier later : List Step} {bytes rest : List ℕ} (e : Expect
 leads_skip {earlier} {later} {bytes} {rest} e s u x =
     let l = leads_cut later rest (e ∷ []) u (x, tt) in record { on = λ es m. l.on es (s.on e es m); back = λ es m. s.back e es (l.back es m) }
 
+-- if unsat is recorded before an ordered step, a step that may not be unmet cannot be met
 pub bars_skip : {earlier later : List Step} {bytes rest : List ℕ} (e : Expected) → MeetsSameSteps earlier bytes later rest → (ready_after later).unsat ≡ true → (MayBeUnmet e → ⊥) → MeetsNoneOf earlier bytes (e ∷ [])
 bars_skip {earlier} {later} {bytes} {rest} e s u x = record { none = λ es m. (bars_cut later rest (e ∷ []) u (λ h. x h.0)).none es (s.on e es m) }
 

@@ -107,6 +107,7 @@ confirmed before following old new j next earlier later n c t e s on back = reco
   back = λ cs ending h. back cs ending (subst (λ x. ToConfirm x (n + 1) later cs ending following new.rest) e h);
 }
 
+-- a refused command is confirmed exactly if its line is read
 pub command_refused : (before following : List ℕ) (u : CertificateState) (n : ℕ) (c : Command) (t : Table) (r : Refusal) (y : Result (Unit {0}) Why) → ((j : ScriptState) → NamesHaveState t.names j → refusal_of j c ≡ Some r)
     → TakesDueLine before following (refused_line n r) y → ConfirmsNext n c t t before following u u y
 command_refused before following u n c t r (Ok x) refused line = λ j earlier s.
@@ -149,6 +150,7 @@ unnamed_barred (Clause ls) j n earlier cs ending answers certificate e b h = lef
 unnamed_barred (Ask ls) j n earlier cs ending answers certificate e b h = ask_unnamed j n ls cs ending answers e earlier certificate b h
 unnamed_barred x j n earlier cs ending answers certificate e b h = left_barred [] (state_after_accepted x j) (n + 1) cs ending answers b ((command_pending x tt j n earlier cs ending answers certificate e).0 h)
 
+-- a command whose names cannot be met cannot be confirmed
 pub command_unnamed : (kind : Kind) (ls : List Literal) (t next : Table) (before following : List ℕ) (u v : CertificateState) (n : ℕ) (after : NamedVars) (why : Why) → ((j : ScriptState) → NamesHaveState t.names j → refusal_of j (command_of kind ls) ≡ None)
     → ((j : ScriptState) → NamesHaveState t.names j → MeetsAll (naming_all kind (names_of ls) j) t.variables after u v (Err why)) → ConfirmsNext n (command_of kind ls) t next before following u v (Err why)
 command_unnamed kind ls t next before following u v n after why allowed met j earlier s cs ending h =
@@ -162,6 +164,7 @@ module _ (kind : Kind) (ls : List Literal) (a : NoAsk (command_of kind ls)) (t n
   c : Command
   c = command_of kind ls
 
+  -- a command that is not an ask is confirmed as its content is met
   pub plain_confirmed : (next : Table) (w : CertificateState) (y : Result (Unit {0}) Why) → next.names ≡ named.names → MeetsAll (after_names (command_of kind ls)) named.variables next.variables v w y → ConfirmsNext n (command_of kind ls) t next before before u w y
   plain_confirmed next w (Ok x) same met = λ j earlier s.
       let e = is.allowed j s.judged in
@@ -192,6 +195,7 @@ module _ (ls : List Literal) (t named : Table) (u v : CertificateState) (n : ℕ
   first : (j : ScriptState) (earlier : List Step) → HoldsAt t u j earlier → GoesOnTo (introducing (names_of ls) j) named.variables u earlier v
   first j earlier s = named_on OfAsk ls t named u v is j earlier s
 
+  -- an ask whose assumptions cannot be met cannot be confirmed
   pub ask_without_assumptions : (next : Table) (before following : List ℕ) (after : NamedVars) (w : CertificateState) (why : Why) → MeetsDue (λ o ask. Opens ls o) named.variables after v w (Err why) → ConfirmsNext n (Ask ls) t next before following u w (Err why)
   ask_without_assumptions next before following after w why bars j earlier s cs ending h =
       let f = first j earlier s in
@@ -257,14 +261,17 @@ module _ (ls : List Literal) (t named : Table) (u v : CertificateState) (n : ℕ
 
 -- THE END
 
+-- if the end of the certificate cannot be met, the script cannot be confirmed
 pub over_barred : (n : ℕ) (t : Table) (after : NamedVars) (before : List ℕ) (u v : CertificateState) (why : Why) → MeetsAll (Finish ∷ []) t.variables after u v (Err why) → ConfirmsLast n ([], Clean) t before u (Err why)
 over_barred n t after before u v why bars j earlier s h = (bars earlier s.at).none [] (end_on j n earlier Clean before u.rest h).1
 
+-- if the end of the certificate is met and the answers have ended, the script is confirmed
 pub over_done : (n : ℕ) (t : Table) (after : NamedVars) (before : List ℕ) (u v : CertificateState) → MeetsAll (Finish ∷ []) t.variables after u v (Ok tt) → before ≡ [] → ConfirmsLast n ([], Clean) t before u (Ok tt)
 over_done n t after before u v met a j earlier s =
     let o = met earlier s.at in
     end_back j n earlier Clean before u.rest a (o.leads.back [] (nothing_met o.later v.rest))
 
+-- if the answers have not ended, the script cannot be confirmed
 pub over_extra : (n : ℕ) (t : Table) (before : List ℕ) (u : CertificateState) (why : Why) → (before ≡ [] → ⊥) → ConfirmsLast n ([], Clean) t before u (Err why)
 over_extra n t before u why x j earlier s h = x (end_on j n earlier Clean before u.rest h).0
 
@@ -272,6 +279,7 @@ over_extra n t before u why x j earlier s h = x (end_on j n earlier Clean before
 pub malformed_barred : (n : ℕ) (t : Table) (before following : List ℕ) (u : CertificateState) (why : Why) → TakesDueLine before following (malformed_line n) (Err why) → ConfirmsLast n ([], Malformed) t before u (Err why)
 malformed_barred n t before following u why line j earlier s h = line [] ((end_on j n earlier Malformed before u.rest h).0 ∙ sym (append-nil (malformed_line n)))
 
+-- after the line of a malformed command, the rest decides
 pub malformed_then : (n : ℕ) (t : Table) (before following : List ℕ) (u : CertificateState) (y : Result (Unit {0}) Why) → TakesDueLine before following (malformed_line n) (Ok tt) → ConfirmsLast n ([], Clean) t following u y → ConfirmsLast n ([], Malformed) t before u y
 malformed_then n t before following u (Ok x) line k = λ j earlier s.
     let p = end_on j n earlier Clean following u.rest (k j earlier s) in

@@ -42,6 +42,7 @@ at_ask : (due : Due) (o : Outcome) (ask : List Literal) → OpenedCoreIsEmpty (d
 at_ask due o ask free before after u v (Ok x) m = λ earlier s. let k = m earlier s in record { later = k.later; valid = k.valid; leads = k.leads o ask (λ closed. free) }
 at_ask due o ask free before after u v (Err why) m = λ earlier s. m earlier s o ask
 
+-- the result for one expected step is that for a list of this step
 pub expects_one : (due : Due) (o : Outcome) (ask : List Literal) → OpenedCoreIsEmpty (due o ask) → (before after : NamedVars) (r : Result (Unit {0}) Stop) (s t : Stream) → Confirms r s t (MeetsDue due before after) → Confirms r s t (MeetsAll (due o ask ∷ []) before after)
 expects_one due o ask free before after r s t p = confirms_so r s t (MeetsDue due before after) (MeetsAll (due o ask ∷ []) before after) (λ total y m. at_ask due o ask free before after (seen_in total s) (seen_in total t) y m) p
 
@@ -60,10 +61,12 @@ pub shows_nothing : (names : Names) (ask : List Literal) (variables : NamedVars)
 shows_nothing names ask variables s = confirms_none tt s (MeetsShown names ask Unknown variables variables) (λ total j h up. nothing variables (seen_in total s))
 
 module _ (names : Names) (ask : List Literal) (o : Outcome) (before mid after : NamedVars) where
+  -- if showing the outcome stops, so does showing it and closing the ask
   pub unshown : (e : Stop) (s t : Stream) → Confirms {A = Unit {0}} (Err e) s t (MeetsShown names ask o before mid) → Confirms {A = Unit {0}} (Err e) s t (MeetsOutcome names ask o before after)
   unshown e s t p = confirms_stop e s t (MeetsShown names ask o before mid) (MeetsOutcome names ask o before after)
       (λ total why m j h up. first_barred (showing j ask o) (Closes ∷ []) before mid after (seen_in total s) (seen_in total t) why (m j h up)) p
 
+  -- after the outcome is shown, the end of the ask decides
   pub shown_closes : (r : Result (Unit {0}) Stop) (s t u : Stream) → (AtEnd s.source → ⊥) → Confirms (Ok tt) s t (MeetsShown names ask o before mid) → Confirms r t u (MeetsDue (λ p under. Closes) mid after) → Confirms r s u (MeetsOutcome names ask o before after)
   shown_closes r s t u open_yet p q = confirms_then tt r s t u (MeetsShown names ask o before mid) (MeetsDue (λ p under. Closes) mid after) (MeetsOutcome names ask o before after) open_yet
       (λ total y f g j h up. both (showing j ask o) (Closes ∷ []) before mid after (seen_in total s) (seen_in total t) (seen_in total u) y (f j h up) (at_ask (λ p under. Closes) Unknown [] tt mid after (seen_in total t) (seen_in total u) y g)) p q
@@ -71,14 +74,16 @@ module _ (names : Names) (ask : List Literal) (o : Outcome) (before mid after : 
 -- AN ANSWER
 
 module _ (n : ℕ) (ask : List Literal) (asked next : Table) (a b : Source) (s : Stream) (settled : Bool) (settled_is : (steps : List Step) → HasTakenSteps s.checker steps → settled ≡ (ready_after steps).unsat) (reply : Outcome) (here : AtEnd a → ⊥) (open_yet : AtEnd s.source → ⊥) where
+  -- if reading the answer stops, so does confirming the ask
   pub answer_unread : (e : Stop) → Replies {A = Unit {0}} true (Err e) a b (λ before following y. IsReply before following reply settled y) → Joins {A = Unit {0}} ⊥ true (Err e) a b s s (ConfirmsAnswer n ask asked next)
   answer_unread e h = replies_end ⊥ true e a b s (λ before following y. IsReply before following reply settled y) (ConfirmsAnswer n ask asked next) open_yet
       (λ p q more why none t named x v is same opens. ask_without_answer ask t named x v n is asked (seen_in more s) same opens p next q (seen_in more s) why (λ steps taken o tail form alone e. none o tail form (λ closed. alone (sym (settled_is steps taken) ∙ closed)) e)) h
 
-  -- that the answer was read, and `settled` says whether unsat is recorded
+  -- `Answered before following u v y` holds if the answer was read, and `settled` is true exactly if unsat is recorded.
   abbrev Answered : List ℕ → List ℕ → CertificateState → CertificateState → Result (Unit {0}) Why → Type 0
   Answered before following u v y = (u ≡ v) × IsReply before following reply settled (Ok tt) × ((steps : List Step) → HasTakenSteps u.checker steps → settled ≡ (ready_after steps).unsat)
 
+  -- after the answer is read, the steps that show it and close the ask decide
   pub answer_closes : (r : Result (Unit {0}) Stop) (t : Stream) → next.names ≡ asked.names → Replies {A = Unit {0}} true (Ok tt) a b (λ before following y. IsReply before following reply settled y)
       → Confirms r s t (MeetsOutcome asked.names ask reply asked.variables next.variables) → (AtEnd b → ⊥) → Joins ⊥ true r a b s t (ConfirmsAnswer n ask asked next)
   answer_closes r t kept h p after_open = joins_then ⊥ true tt r a b b s s t Answered (λ q z w y (m : Result (Unit {0}) Why). (q ≡ z) × MeetsOutcome asked.names ask reply asked.variables next.variables w y m) (ConfirmsAnswer n ask asked next)
@@ -102,12 +107,14 @@ content_barred n OfAsk ls named mid next p u v why same m = λ t x is. ask_witho
 content_barred n e ls named mid next p u v why same m = λ t x is. plain_confirmed e ls tt t named x u n is p (record mid { names = named.names }) v (Err why) refl m
 
 module _ (n : ℕ) (kind : Kind) (ls : List Literal) (named next : Table) (a : Source) (s t : Stream) (here : AtEnd a → ⊥) where
+  -- if meeting the content of a command stops, so does confirming the command
   pub content_stops : (mid : Table) (e : Stop) → mid.names ≡ named.names → Confirms {A = Unit {0}} (Err e) s t (MeetsContent kind ls named.variables mid.variables) → Joins {A = Unit {0}} ⊥ true (Err e) a a s t (ConfirmsContent n kind ls named next)
   content_stops mid e same p = certificate_stops ⊥ true e a s t (MeetsContent kind ls named.variables mid.variables) (ConfirmsContent n kind ls named next) here (λ q u v why m. content_barred n kind ls named mid next q u v why same m) p
 
   pub content_goes : (kind ≡ OfAsk → ⊥) → next.names ≡ named.names → Confirms (Ok tt) s t (MeetsContent kind ls named.variables next.variables) → Joins {A = Unit {0}} ⊥ true (Ok tt) a a s t (ConfirmsContent n kind ls named next)
   content_goes plain same p = certificate_goes ⊥ tt a s t (MeetsContent kind ls named.variables next.variables) (ConfirmsContent n kind ls named next) (λ q u v m. content n kind ls named next q u v (Ok tt) plain same m) p
 
+-- after the assumptions of an ask are met, its answer decides
 pub content_asked : (n : ℕ) (ls : List Literal) (named asked next : Table) (a b : Source) (s t u : Stream) (r : Result (Unit {0}) Stop) → (AtEnd a → ⊥) → (AtEnd s.source → ⊥) → named.names ≡ asked.names → Confirms (Ok tt) s t (MeetsContent OfAsk ls named.variables asked.variables)
     → Joins ⊥ true r a b t u (ConfirmsAnswer n ls asked next) → Joins ⊥ true r a b s u (ConfirmsContent n OfAsk ls named next)
 content_asked n ls named asked next a b s t u r here open_yet same p h = joins_then ⊥ true tt r a a b s t u (λ p q v w (y : Result (Unit {0}) Why). (p ≡ q) × MeetsDue (λ o under. Opens ls o) named.variables asked.variables v w (Ok tt)) (ConfirmsAnswer n ls asked next) (ConfirmsContent n OfAsk ls named next) here open_yet
@@ -137,6 +144,7 @@ if_ok (Ok x) h = h
 if_ok (Err e) h = tt
 
 module _ (n : ℕ) (lent : Lent) (c : Command) (is : RepresentsCommand lent c) (t next : Table) (a b : Source) (s : Stream) where
+  -- a refused command is confirmed as its line is read
   pub refused : (refusal : CodeRefusal) (r : Result (Unit {0}) Stop) → (AtEnd s.source → ⊥) → ReportsRefusal (Some refusal) t.names lent → next ≡ t → Replies {A = Unit {0}} true r a b (λ before following. TakesDueLine before following (refused_line n (refusal_in refusal)))
       → Joins {A = Unit {0}} ⊥ true r a b s s (ConfirmsNext n c t next)
   refused refusal r open_yet judges same h = subst (λ (x : Table). Joins {A = Unit {0}} ⊥ true r a b s s (ConfirmsNext n c t x)) (sym same)
@@ -144,10 +152,12 @@ module _ (n : ℕ) (lent : Lent) (c : Command) (is : RepresentsCommand lent c) (
       (λ p q more y line. command_refused p q (seen_in more s) n c t (refusal_in refusal) y (λ j h. sym (judges j c h is)) line) h)
 
 module _ (n : ℕ) (kind : Kind) (ls : List Literal) (t next : Table) (a : Source) (s u : Stream) (here : AtEnd a → ⊥) (allowed : (j : ScriptState) → NamesHaveState t.names j → refusal_of j (command_of kind ls) ≡ None) where
+  -- if meeting the names of a command stops, so does confirming the command
   pub names_stop : (after : NamedVars) (e : Stop) → Confirms {A = Unit {0}} (Err e) s u (MeetsNames kind (names_of ls) t.names t.variables after) → Joins {A = Unit {0}} ⊥ true (Err e) a a s u (ConfirmsNext n (command_of kind ls) t next)
   names_stop after e p = certificate_stops ⊥ true e a s u (MeetsNames kind (names_of ls) t.names t.variables after) (ConfirmsNext n (command_of kind ls) t next) here
       (λ q v w why m. command_unnamed kind ls t next q q v w n after why allowed m) p
 
+  -- after the names of a command are met, its content decides
   pub names_go : (named : Table) (b : Source) (v : Stream) (r : Result (Unit {0}) Stop) → (AtEnd s.source → ⊥) → Changes t.names named.names (taken_by kind (names_of ls)) → Confirms (Ok tt) s u (MeetsNames kind (names_of ls) t.names t.variables named.variables)
       → Joins ⊥ true r a b u v (ConfirmsContent n kind ls named next) → Joins ⊥ true r a b s v (ConfirmsNext n (command_of kind ls) t next)
   names_go named b v r open_yet changes p h = joins_then ⊥ true tt r a a b s u v (λ p q x y (m : Result (Unit {0}) Why). (p ≡ q) × MeetsCommandNames kind ls t named x y) (ConfirmsContent n kind ls named next) (ConfirmsNext n (command_of kind ls) t next) here open_yet
@@ -161,6 +171,7 @@ module _ (n : ℕ) (t : Table) (after : NamedVars) (a : Source) (s u : Stream) (
   end_stops e p = certificate_stops ⊥ false e a s u (MeetsDue (λ o under. Finish) t.variables after) (λ before following x y. ConfirmsLast n ([], Clean) t before x) here
       (λ q x y why m. over_barred n t after q x y why (at_ask (λ o under. Finish) Unknown [] tt t.variables after x y (Err why) m)) p
 
+  -- after the end of the certificate is met, the end of the answers decides
   pub end_goes : (b : Source) (r : Result (Unit {0}) Stop) → (AtEnd s.source → ⊥) → (AtEnd u.source → ⊥) → Confirms (Ok tt) s u (MeetsDue (λ o under. Finish) t.variables after) → Replies {A = Unit {0}} false r a b (λ before following. SaysSo (before ≡ []))
       → Joins {A = Unit {0}} ⊥ false r a b s u (λ before following x y. ConfirmsLast n ([], Clean) t before x)
   end_goes b r open_yet after_open p h = joins_then ⊥ false tt r a a b s u u (λ p q x y (m : Result (Unit {0}) Why). (p ≡ q) × MeetsDue (λ o under. Finish) t.variables after x y (Ok tt)) (λ q z x y. SaysSo (q ≡ [])) (λ before following x y. ConfirmsLast n ([], Clean) t before x) here open_yet said
@@ -176,6 +187,7 @@ module _ (n : ℕ) (t : Table) (a b : Source) (s : Stream) (here : AtEnd a → �
   malformed_stops e h = replies_end ⊥ false e a b s (λ before following. TakesDueLine before following (malformed_line n)) (λ before following x y. ConfirmsLast n ([], Malformed) t before x) open_yet
       (λ p q more why line. malformed_barred n t p q (seen_in more s) why line) h
 
+  -- after the line of a malformed command is read, the end decides
   pub malformed_goes : (c : Source) (u : Stream) (r : Result (Unit {0}) Stop) → Replies {A = Unit {0}} true (Ok tt) a b (λ before following. TakesDueLine before following (malformed_line n)) → Joins {A = Unit {0}} ⊥ false r b c s u (λ before following x y. ConfirmsLast n ([], Clean) t before x)
       → Joins {A = Unit {0}} ⊥ false r a c s u (λ before following x y. ConfirmsLast n ([], Malformed) t before x)
   malformed_goes c u r h k = joins_then ⊥ false tt r a b c s s u (λ p q x y (m : Result (Unit {0}) Why). (x ≡ y) × TakesDueLine p q (malformed_line n) (Ok tt)) (λ before following x y. ConfirmsLast n ([], Clean) t before x) (λ before following x y. ConfirmsLast n ([], Malformed) t before x) here open_yet
@@ -192,10 +204,12 @@ module _ (n m : ℕ) (t mid : Table) (a b c : Source) (s u v : Stream) (here : A
       let d = f j earlier s in
       g (after_command w j) d.later d.valid (subst (λ (i : ℕ). ToConfirm (after_command w j) i d.later r.0 r.1 q y.rest) (sym is) (d.on r.0 r.1 e))
 
+  -- after a command is confirmed, the rest of the script decides
   pub command_end : (M : Type 0) (w : Command) (r : Reading) (h : Result (Unit {0}) Stop) → m ≡ n + 1 → Joins {A = Unit {0}} M true (Ok tt) a b s u (ConfirmsNext n w t mid) → Joins {A = Unit {0}} M false h b c u v (λ before following x y. ConfirmsLast m r mid before x)
       → Joins {A = Unit {0}} M false h a c s v (λ before following x y. ConfirmsLast n (w ∷ r.0, r.1) t before x)
   command_end M w r h is p q = joins_then M false tt h a b c s u v (λ p q x y (k : Result (Unit {0}) Why). ConfirmsNext n w t mid p q x y (Ok tt)) (λ before following x y. ConfirmsLast m r mid before x) (λ before following x y. ConfirmsLast n (w ∷ r.0, r.1) t before x) here open_yet
       (λ p q z x y k d f g. asked_end w r p q z x y k d is f g) p q
 
+  -- if confirming a command stops, so does confirming the script
   pub command_stops : (M : Type 0) (w : Command) (r : Reading) (e : Stop) → Joins {A = Unit {0}} M true (Err e) a b s u (ConfirmsNext n w t mid) → Joins {A = Unit {0}} M false (Err e) a b s u (λ before following x y. ConfirmsLast n (w ∷ r.0, r.1) t before x)
   command_stops M w r e p = joins_stop M false e a b s u (ConfirmsNext n w t mid) (λ before following x y. ConfirmsLast n (w ∷ r.0, r.1) t before x) (λ p q x y why f j earlier s k. f j earlier s r.0 r.1 k) p

@@ -27,6 +27,7 @@ use Rattle.certify.proofs.lemmas.confirm.Joining.{covers_given, covers_took, fai
 
 -- BEFORE THE FIRST COMMAND
 
+-- between a place and itself, no command was confirmed
 pub through_none : (text : List ℕ → Reading) (s : ConfirmPlace) (reader : ScriptReader) → ReaderMeans reader text → ConfirmsThrough text s s reader
 through_none text s reader m = record {
   left = text;
@@ -42,6 +43,7 @@ through_none text s reader m = record {
 
 -- ONE MORE COMMAND
 
+-- one more command counts one more
 pub numbers_more : (c : Command) (r : Reading) → command_count (prepend_commands (c ∷ []) r) ≡ command_count r + 1
 numbers_more c (cs, Clean) = omega arith
 numbers_more c (cs, Malformed) = omega arith
@@ -59,7 +61,7 @@ through_command n m k script c left t between next p q z u v w e f g j earlier s
       back = λ h. x.back (y.back left.0 left.1 (subst (λ i. ToConfirm (after_command c x.judge) i y.later left.0 left.1 z w.rest) e h));
     }
 
--- that what is left of the script cannot be confirmed
+-- `Nothing n script t before following old new r` holds if what is left of the script cannot be confirmed.
 abbrev Nothing : ℕ → Reading → Table → List ℕ → List ℕ → CertificateState → CertificateState → Result (Unit {0}) Why → Type 0
 Nothing n script t before following old new r = (j : ScriptState) (earlier : List Step) → HoldsAt t old j earlier → ToConfirm j n earlier script.0 script.1 before old.rest → ⊥
 
@@ -98,6 +100,7 @@ module _ (text : List ℕ → Reading) (old mid : ConfirmPlace) (reader after_re
   pub short_script : (new : Source) → NoReadFailedAhead mid.script new → ConfirmsScript text (Err stop.OutOfMemory) old (record mid { script = new })
   short_script new f = (kept_then old.script mid.script new (took_kept true old.script mid.script through.took) f, quits old.answers mid.answers old.certificate mid.certificate (Through old.number (text (rest_in mid.script.reader.given old.script)) old.table mid.number (through.left (rest_in mid.script.reader.given mid.script)) mid.table) open_yet (through.joins mid.script.reader.given (covers_given mid.script)))
 
+  -- if the script cannot be read, the call stops for this reason
   pub unread : (e : ReadError) (new : Source) → NextCommandResult (Err e) mid.script new reader after_reader → ConfirmsScript text (Err (script_stop e)) old (record mid { script = new })
   unread errors.Failed new f = unread_script new f
   unread errors.OutOfMemory new f = short_script new (took_kept true mid.script new f)
@@ -120,10 +123,12 @@ module _ (text : List ℕ → Reading) (old mid : ConfirmPlace) (reader after_re
         answers_open open_yet (λ p q z u v w y f g. through_last old.number mid.number (text (rest_in total old.script)) left old.table mid.table p q z u v w y f g)
         (subst (λ (x : Reading). Joins M true (Ok tt) old.answers mid.answers old.certificate mid.certificate (Through old.number (text (rest_in total old.script)) old.table mid.number x mid.table)) (is total k) (through.joins total before)) joins)
 
+  -- if no command is left, the end of the script decides
   pub ends_so : (new : ConfirmPlace) (e : ScriptEnd) (r : Result (Unit {0}) Stop) → Arrives (next.End e) mid.script new.script reader after_reader
       → Joins (2 ^ 64 < mid.number + command_count (end_reading e)) false r mid.answers new.answers mid.certificate new.certificate (λ before following u v. ConfirmsLast mid.number (end_reading e) mid.table before u) → ConfirmsScript text r old new
   ends_so new e r a joins = whole new (2 ^ 64 < mid.number + command_count (end_reading e)) a.0 (end_reading e) (a.1 true through.left through.means) r (λ x. x) joins
 
+  -- if the last command was read, this command and the end decide
   pub ends_last : (new : ConfirmPlace) (e : ScriptEnd) (r : Result (Unit {0}) Stop) → Arrives (next.Last e) mid.script new.script reader after_reader
       → ((c : Command) → HasWhole after_reader c → Joins (2 ^ 64 < mid.number + command_count (prepend_commands (c ∷ []) (end_reading e))) false r mid.answers new.answers mid.certificate new.certificate (λ before following u v. ConfirmsLast mid.number (prepend_commands (c ∷ []) (end_reading e)) mid.table before u)) → ConfirmsScript text r old new
   ends_last new e r a joins =

@@ -50,8 +50,8 @@ sound_as (Ok v) script answers certificate h = λ said. gave_right_answers scrip
 
 -- READS THAT FAILED
 
--- What a result says about three readers, with all their reads counted. At most one read failed:
--- that of the text which the fault names.
+-- `ResultSays x a c y b d result` holds if the result is correct for three readers, with all their reads counted: a
+-- verdict is exact, and at most one read failed, that of the text which the fault names.
 abbrev pub ResultSays : Reader → Reader → Reader → Source → Source → Source → Result Verdict ConfirmFault → Type 0
 ResultSays x a c y b d (Ok v) = NoReadFailedAhead (new_source x) y × NoReadFailedAhead (new_source a) b × NoReadFailedAhead (new_source c) d × Exact (x, y.reader) (a, b.reader) (c, d.reader) v
 ResultSays x a c y b d (Err fault.ScriptRead) = FaultsAhead (new_source x) y × NoReadFailedAhead (new_source a) b × NoReadFailedAhead (new_source c) d
@@ -60,7 +60,7 @@ ResultSays x a c y b d (Err fault.CertificateRead) = NoReadFailedAhead (new_sour
 ResultSays x a c y b d (Err fault.OutOfMemory) = NoReadFailedAhead (new_source x) y × NoReadFailedAhead (new_source a) b × NoReadFailedAhead (new_source c) d
 ResultSays x a c y b d (Err fault.CounterEnd) = ⊥
 
--- that no read failed, or that one failed and P holds
+-- `Leaves P x y` holds if no read failed, or one failed and `P` holds.
 abbrev Leaves : Type 0 → Reader → Source → Type 0
 Leaves P x y = NoReadFailedAhead (new_source x) y ⊎ (P × FaultsAhead (new_source x) y)
 
@@ -126,7 +126,7 @@ begun x a c checker step table = record {
   table = table;
 }
 
--- that the table and the checker are those at the start, before any step
+-- `IsBegun checker step table` holds if the table and the checker are those at the start, before any step.
 abbrev pub IsBegun : Kernel → Step → Table → Type 0
 IsBegun checker step table = (rest : List ℕ) → HoldsAt table (record { checker = checker; step = step; rest = rest }) initial_state []
 

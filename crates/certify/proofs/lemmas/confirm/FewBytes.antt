@@ -54,6 +54,7 @@ none_spent earlier done text bytes e s l low (spent_taking step following rest c
     (λ spent. none_is_spent done step (text ++ following) more few
     (subst (λ z. ExhaustsCounters step (stored_after z)) (sym e) (inr (accepts, spent_before (effect step (ready_after earlier)) (length (text ++ following)) ids few spent)))) h
 
+-- bytes of at most this number cannot exhaust the counters
 pub nothing_spent : (bytes : List ℕ) → length bytes ≤ most_bytes → ReachesCounterEnd [] bytes → ⊥
 nothing_spent bytes l = none_spent [] [] [] bytes refl refl (let k : length bytes ≤ most_bytes = l in omega arith) none_begun
   where

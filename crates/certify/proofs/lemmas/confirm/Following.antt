@@ -35,6 +35,7 @@ known_still earlier step m v all a e k = elim (the_checking_sound.keeps earlier 
   | inr d ↦ absurd (the_checking_sound.nameless earlier v m all (subst (λ (s : Step). Accepts (ready_after earlier) s) d a) e)
 ]
 
+-- a step that changes no name's variable leaves the variables of names
 pub stays : (variables : NamedVars) (earlier : List Step) (step : Step) → AreVariablesOfNames variables earlier → Accepts (ready_after earlier) step → variable_of (step ∷ earlier) ≡ variable_of earlier → AreVariablesOfNames variables (step ∷ earlier)
 stays variables earlier step s a same =
     let at : (m v : ℕ) → variable_of (step ∷ earlier) m ≡ Some v → variable_of earlier m ≡ Some v = λ m v e. sym (ap (λ (f : ℕ → Option ℕ). f m) same) ∙ e in
@@ -108,6 +109,7 @@ module _ (old new : NamedVars) (earlier : List Step) (s : AreVariablesOfNames ol
           go true x = absurd (none_some x)
           go false x = x
 
+  -- the step of a new name gives it its variable
   pub puts_new : (name v : ℕ) (step : Step) → Fits (checker_rules.knows earlier) earlier (NewName (name + 1)) step → (u : Option ℕ) → step ≡ UserVarName v u → Accepts (ready_after earlier) step → name < var_limit → PutsVariable old new (name + 1) (Some v) → AreVariablesOfNames new (step ∷ earlier)
   puts_new name v step f u e a low p =
       let q = (fits_new_name checker_rules earlier (name + 1) step).0 f in
@@ -118,6 +120,7 @@ module _ (old new : NamedVars) (earlier : List Step) (s : AreVariablesOfNames ol
       subst (λ (z : Step). AreVariablesOfNames new (z ∷ earlier)) (sym whole)
       (names_a v name (subst (λ (x : ℕ). checker_rules.knows earlier x ≡ false) v_is q.4) (subst (λ (z : Step). Accepts (ready_after earlier) z) whole a) (omega arith) p)
 
+  -- the step that removes a name leaves it without a variable
   pub takes_name : (name : ℕ) (step : Step) → Fits (checker_rules.knows earlier) earlier (NoName name) step → Accepts (ready_after earlier) step → PutsVariable old new name None → AreVariablesOfNames new (step ∷ earlier)
   takes_name name step f a p =
       let q = (fits_no_name checker_rules earlier name step).0 f in

@@ -33,6 +33,7 @@ weaker s t text p = record {
 pub took_none : (s : Source) → TakesSome true s s
 took_none s = ([], passes_none s)
 
+-- a reader that can be read further is not at its end
 pub took_open : (s t : Source) → (AtEnd s → ⊥) → TakesSome true s t → AtEnd t → ⊥
 took_open s t open_yet p = stays_open s t p.0 open_yet p.1
 
@@ -52,6 +53,7 @@ pub took_passed : (goes : Bool) (s t : Source) → TakesSome goes s t → TakesS
 took_passed true s t p = (p.0, weaker s t p.0 p.1)
 took_passed false s t p = p.0
 
+-- what is possible after a call was possible before it
 pub covers_took : (goes : Bool) (s t : Source) (total : List ℕ) → (AtEnd s → ⊥) → TakesSome goes s t → Covers t total → Covers s total
 covers_took true s t total open_yet p c = covers_back 0 s t p.0 total open_yet p.1 c
 covers_took false s t total open_yet p c = covers_back 1 s t p.0.0 total open_yet p.0.1 c
@@ -100,6 +102,7 @@ no_stays s why P open_yet f = (moves_halt s s open_yet ([], passes_none s.source
 short_stays : (A : Type 0) (s : Stream) → (AtEnd s.source → ⊥) → Confirms {A = A} (Err stop.OutOfMemory) s s Any
 short_stays A s open_yet = (moves_halt s s open_yet ([], passes_none s.source), (λ total k. tries_none (seen_in total s) (seen_in total s) refl))
 
+-- a call that reads only answers is one that reads both
 pub replies_join : {A : Type 0} (M : Type 0) (goes : Bool) (r : Result A Stop) (a b : Source) (s : Stream) (P : List ℕ → List ℕ → Result A Why → Type 0) (R : List ℕ → List ℕ → CertificateState → CertificateState → Result A Why → Type 0) → (AtEnd s.source → ⊥)
     → ((p q more : List ℕ) (y : Result A Why) → P p q y → R p q (seen_in more s) (seen_in more s) y) → Replies goes r a b P → Joins M goes r a b s s R
 replies_join {A} M goes (Ok x) a b s P R open_yet f h = (h.0, λ total k. confirms_none x s (R (rest_in total a) (rest_in total b)) (λ more. f (rest_in total a) (rest_in total b) more (Ok x) (h.1 total k)))
@@ -131,6 +134,7 @@ certificate_stops M goes stop.TooMany a s t P R open_yet f h = absurd h
 
 -- ANSWERS AND CERTIFICATE
 
+-- a call that stopped means the same for any later call
 pub joins_stop : {A B : Type 0} (M : Type 0) (goes : Bool) (e : Stop) (a b : Source) (s t : Stream) (P : List ℕ → List ℕ → CertificateState → CertificateState → Result A Why → Type 0) (R : List ℕ → List ℕ → CertificateState → CertificateState → Result B Why → Type 0)
     → ((p q : List ℕ) (u v : CertificateState) (why : Why) → P p q u v (Err why) → R p q u v (Err why)) → Joins {A = A} M goes (Err e) a b s t P → Joins {A = B} M goes (Err e) a b s t R
 joins_stop {A} {B} M goes (stop.No why) a b s t P R f h = (h.0, λ total k. confirms_stop (stop.No why) s t (P (rest_in total a) (rest_in total b)) (R (rest_in total a) (rest_in total b)) (λ more w. f (rest_in total a) (rest_in total b) (seen_in more s) (seen_in more t) w) (h.1 total k))

@@ -13,10 +13,11 @@ use Rattle.sat_checker.specs.matching.ProofChecking.{checker_rules}
 use Rattle.certify.specs.confirm.CertificatePlaces.{CanMeet, MeetsExactly, MeetsNoneOf}
 use Rattle.certify.proofs.lemmas.confirm.StepTags.{unordered_names}
 
--- that the rest matches from command `n` on
+-- `Rest j n earlier pending commands ending answers certificate` holds if the rest matches from command `n` on.
 abbrev pub Rest : ScriptState → ℕ → List Step → List Expected → List Command → ScriptEnding → List ℕ → List ℕ → Type 0
 Rest j n earlier pending commands ending answers certificate = RemainsToMatch checker_rules j n earlier pending commands ending answers certificate
 
+-- what matches is what remains to be matched at the start
 pub left_begins : (commands : List Command) (ending : ScriptEnding) (answers certificate : List ℕ) → MatchesCommands checker_rules commands ending answers certificate ↔ Rest initial_state 1 [] [] commands ending answers certificate
 left_begins commands ending answers certificate = (
   (λ m. record { outcomes = m.outcomes; answered = m.answered; one_each = m.match.one_each; in_form = m.match.in_form; certified = record { steps = m.steps; text = m.text; rest = m.rest; begins = m.begins; spelt = m.spelt; meets = m.match.meets } }),
@@ -29,6 +30,7 @@ pub refused_on : (j : ScriptState) (n : ℕ) (earlier : List Step) (c : Command)
 refused_on j n earlier c cs ending answers certificate refusal e l =
     (answers_from (n + 1) j cs ending l.outcomes, rw e at l.answered, record { outcomes = l.outcomes; answered = refl; one_each = rw e at l.one_each; in_form = l.in_form; certified = rw e at l.certified })
 
+-- if the rest after a refused command matches, so does the rest before it
 pub refused_back : (j : ScriptState) (n : ℕ) (earlier : List Step) (c : Command) (cs : List Command) (ending : ScriptEnding) (answers tail certificate : List ℕ) (refusal : Refusal) → refusal_of j c ≡ Some refusal
     → answers ≡ refused_line n refusal ++ tail → Rest j (n + 1) earlier [] cs ending tail certificate → Rest j n earlier [] (c ∷ cs) ending answers certificate
 refused_back j n earlier c cs ending answers tail certificate refusal e a l =
@@ -54,9 +56,11 @@ module _ (j : ScriptState) (n : ℕ) (earlier : List Step) (ls : List Literal) (
     left = record { outcomes = vs; answered = refl; one_each = o; in_form = f.1; certified = subst (λ es. CanMeet earlier es certificate) (sym (same v vs)) m };
   }
 
+  -- before an ask, the rest matches only if it does from the answer on
   pub ask_on : refusal_of j (Ask ls) ≡ None → Rest j n earlier [] (Ask ls ∷ cs) ending answers certificate → AskRemainsToMatch checker_rules (state_after_accepted (Ask ls) j) (n + 1) earlier (introducing (names_of ls) j) ls cs ending answers certificate
   ask_on e l = to l.outcomes (rw e at l.one_each) l.in_form (rw e at l.answered) (rw e at l.certified)
 
+  -- if the rest matches from the answer to an ask on, it does before the ask
   pub ask_back : refusal_of j (Ask ls) ≡ None → AskRemainsToMatch checker_rules (state_after_accepted (Ask ls) j) (n + 1) earlier (introducing (names_of ls) j) ls cs ending answers certificate → Rest j n earlier [] (Ask ls ∷ cs) ending answers certificate
   ask_back e p =
       let l = p.left in
@@ -75,12 +79,14 @@ left_on {earlier} {later} {certificate} {rest} {p} q j n cs ending answers l m =
     let more = expected j (accepted_commands j cs) m.outcomes in
     record { outcomes = m.outcomes; answered = m.answered; one_each = m.one_each; in_form = m.in_form; certified = l.on (q ++ more) (subst (λ es. CanMeet earlier es certificate) (append_assoc p q more) m.certified) }
 
+-- if the rest matches after the expected steps, it does before them
 pub left_back : {earlier later : List Step} {certificate rest : List ℕ} {p : List Expected} (q : List Expected) (j : ScriptState) (n : ℕ) (cs : List Command) (ending : ScriptEnding) (answers : List ℕ)
     → MeetsExactly earlier certificate p later rest → Rest j n later q cs ending answers rest → Rest j n earlier (p ++ q) cs ending answers certificate
 left_back {earlier} {later} {certificate} {rest} {p} q j n cs ending answers l m =
     let more = expected j (accepted_commands j cs) m.outcomes in
     record { outcomes = m.outcomes; answered = m.answered; one_each = m.one_each; in_form = m.in_form; certified = subst (λ es. CanMeet earlier es certificate) (sym (append_assoc p q more)) (l.back (q ++ more) m.certified) }
 
+-- if the expected steps cannot be met, the rest does not match
 pub left_barred : {earlier : List Step} {certificate : List ℕ} {p : List Expected} (q : List Expected) (j : ScriptState) (n : ℕ) (cs : List Command) (ending : ScriptEnding) (answers : List ℕ)
     → MeetsNoneOf earlier certificate p → Rest j n earlier (p ++ q) cs ending answers certificate → ⊥
 left_barred {earlier} {certificate} {p} q j n cs ending answers b m =
@@ -95,6 +101,7 @@ end_on j n earlier ending answers certificate l = go l.outcomes l.one_each l.ans
     go [] o a m = (a, m)
     go (v ∷ vs) o a m = absurd o
 
+-- if the answers end and the end of the certificate is met, the rest matches
 pub end_back : (j : ScriptState) (n : ℕ) (earlier : List Step) (ending : ScriptEnding) (answers certificate : List ℕ) → answers ≡ ending_text n ending → CanMeet earlier (Finish ∷ []) certificate → Rest j n earlier [] [] ending answers certificate
 end_back j n earlier ending answers certificate a m = record { outcomes = []; answered = a; one_each = tt; in_form = tt; certified = m }
 
@@ -107,7 +114,7 @@ shown_names earlier (step ∷ steps) names ask line es (ordered u (shows n s k) 
 pub met_shows : (earlier : List Step) (names : List ℕ) (ask line : List Literal) (es : List Expected) (certificate : List ℕ) → CanMeet earlier (Shows names ask line ∷ es) certificate → names_of line ≡ names
 met_shows earlier names ask line es certificate m = shown_names earlier m.steps names ask line es m.meets
 
--- that the name of every literal has a variable
+-- `HaveVariables earlier core` holds if the name of every literal has a variable.
 abbrev pub HaveVariables : List Step → List Literal → Type 0
 HaveVariables earlier core = AllByRecursion (λ l. (v : ℕ) × (variable_of earlier l.name ≡ Some v)) core
 

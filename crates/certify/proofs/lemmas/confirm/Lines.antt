@@ -66,6 +66,7 @@ in_front (x ∷ xs) (y ∷ ys) more tail h e =
 
 -- TEXTS THAT ARE LINES
 
+-- bytes without LF and then a line are a line
 pub line_on : (xs ys : List ℕ) → HasNoLf xs → IsOneLine ys → IsOneLine (xs ++ ys)
 line_on xs ys h l = record { front = xs ++ l.front; none = no_lf_append xs l.front h l.none; whole = ap (λ (z : List ℕ). xs ++ z) l.whole ∙ sym (append_assoc xs l.front (10 ∷ [])) }
 
@@ -128,7 +129,8 @@ second_is_line kind.Unknown u ls h = absurd u
 
 -- THE LINE THAT WAS READ
 
--- that `line` is a line, or all bytes without LF, or bytes that begin no expected line
+-- `FirstLine P line bytes more` holds if `line` is a line, or all bytes without LF, or bytes that begin no expected
+-- line.
 abbrev FirstLine : (List ℕ → Type 0) → List ℕ → List ℕ → List ℕ → Type 0
 FirstLine P line bytes more = (IsOneLine line × (bytes ≡ line ++ more)) ⊎ ((HasNoLf line × (bytes ≡ line)) ⊎ ((HasNoLf line × (bytes ≡ line ++ more)) × IsWrong P line))
 
@@ -176,6 +178,7 @@ module _ (P : List ℕ → Type 0) (a b : Source) (line : List ℕ) (open_yet : 
   pub due_taken : (due : List ℕ) → IsOneLine due → line ≡ due → IsNextLine P a b line → Replies {A = Unit {0}} true (Ok tt) a b (λ before following. TakesDueLine before following due)
   due_taken due d e h = let r = line_taken due [] d (e ∙ sym (append-nil due)) h in (r.0, r.1)
 
+  -- a line that is not the expected one is rejected
   pub due_differs : (due : List ℕ) (why : Why) → P due → IsOneLine due → (line ≡ due → ⊥) → IsNextLine P a b line → Replies {A = Unit {0}} true (Err (stop.No why)) a b (λ before following. TakesDueLine before following due)
   due_differs due why right d differ h = (line_halts h, λ total c tail e. differ (the_line P line (rest_in total a) (rest_in total b) due tail right d (first_of P a b line total c h) e).0)
 
@@ -183,6 +186,7 @@ module _ (P : List ℕ → Type 0) (a b : Source) (line : List ℕ) (open_yet : 
   pub kind_read : (k : AnswerKind) (following : List ℕ) → line ≡ first_answer_line k ++ following → IsNextLine P a b line → Replies true (Ok k) a b ReadsFirst
   kind_read k following e h = line_taken (first_answer_line k) following (first_is_line k) e h
 
+  -- a line that is not the first of an answer is rejected
   pub kind_differs : ((k : AnswerKind) → P (first_answer_line k)) → (w : AnswerFault) → NoKind line w → IsNextLine P a b line → Replies {A = AnswerKind} true (Err (stop_after w)) a b ReadsFirst
   kind_differs right fault.Missing n h = (line_halts h, none)
     where
@@ -205,6 +209,7 @@ module _ (P : List ℕ → Type 0) (a b : Source) (line : List ℕ) (open_yet : 
   pub second_read : (k : AnswerKind) (ls : List Literal) (following : List ℕ) → HasLine k → IsPrintable (outcome_of k ls) → line ≡ second_line (outcome_of k ls) ++ following → IsNextLine P a b line → Replies {A = Unit {0}} true (Ok tt) a b (ReadsSecond k ls)
   second_read k ls following u f e h = let r = line_taken (second_line (outcome_of k ls)) following (second_is_line k u ls f) e h in (r.0, λ total c. (r.1 total c, f))
 
+  -- a line that is not the second of an answer of this kind is rejected, or memory runs out for it
   pub second_differs : (k : AnswerKind) (ls : List Literal) → ((ks : List Literal) → IsPrintable (outcome_of k ks) → P (second_line (outcome_of k ks))) → (w : AnswerFault) → HasLine k → NoLine k line w → IsNextLine P a b line → Replies {A = Unit {0}} true (Err (stop_after w)) a b (ReadsSecond k ls)
   second_differs k ls right fault.Missing u n h = (line_halts h, none)
     where
@@ -233,6 +238,7 @@ module _ (P : List ℕ → Type 0) (a b : Source) (line : List ℕ) (open_yet : 
       here total c (inr (inl k)) = nothing_after a b line total k.0 c ∙ e
       here total c (inr (inr k)) = absurd (k.1.1 e)
 
+  -- if there are more bytes, the answers have not ended
   pub more_here : (why : Why) → (line ≡ [] → ⊥) → IsNextLine P a b line → Replies {A = Unit {0}} false (Err (stop.No why)) a b (λ before following. SaysSo (before ≡ []))
   more_here why some h = (line_halts h, λ total c e. some (nothing total c h e))
     where
@@ -272,6 +278,7 @@ no_second k p q e none o tail form f =
     let is : outcome_of k l.line ≡ o = ap (λ (m : AnswerKind). outcome_of m l.line) s.0 ∙ l.is in
     none l.line tail (subst IsPrintable (sym is) form) (s.1 ∙ ap (λ (v : Outcome). second_line v ++ tail) (sym is))
 
+-- the first and the second line together are an answer
 pub whole_answer : (k : AnswerKind) (ls : List Literal) (p q s : List ℕ) → p ≡ first_answer_line k ++ q → ReadsSecond k ls q s (Ok tt) → (p ≡ outcome_text (outcome_of k ls) ++ s) × IsPrintable (outcome_of k ls)
 whole_answer k ls p q s e f = (first_then k ls p q s e f.0, f.1)
 
@@ -335,6 +342,7 @@ line_part false bytes w v count e d h =
     (parts bytes w v count e d, (subst HasNoLf (sym all) h.1, d ∙ drop_all count w over))
 
 module _ (a b c : Source) (before text line : List ℕ) (p : ConsumesBytes a b before) (none : HasNoLf before) (is : line ≡ before ++ text) where
+  -- a line that is complete is the next one
   pub line_came : (F : List ℕ → Type 0) → ConsumesBytes b c text → IsOneLine text → IsNextLine F a c line
   line_came F q l = inl (subst (ConsumesBytes a c) (sym is) (passes_more a b c before text p q), subst IsOneLine (sym is) (line_on before text none l))
 
@@ -383,6 +391,7 @@ pub reply_without_first : (e : Stop) (a b : Source) (reply : Outcome) (settled :
 reply_without_first e a b reply settled h = replies_stop true e a b ReadsFirst (λ before following. IsReply before following reply settled) (λ p q why none o tail form alone x. none o tail x) h
 
 module _ (k : AnswerKind) (a b : Source) (settled : Bool) (open_yet : AtEnd a → ⊥) (first : Replies true (Ok k) a b ReadsFirst) where
+  -- if unsat is recorded, an answer of another kind is rejected
   pub reply_other : (why : Why) (reply : Outcome) → (settled ≡ true) × (k ≡ kind.Unsat → ⊥) → Replies {A = Unit {0}} true (Err (stop.No why)) a b (λ before following. IsReply before following reply settled)
   reply_other why reply u = replies_no true k why a b ReadsFirst (λ before following. IsReply before following reply settled) open_yet (λ p q e o tail form alone x. not_alone k p q u.1 e o tail (alone u.0) x) first
 

@@ -53,7 +53,7 @@ spelt_among names [] (c ∷ cs) codes a h = absurd a
 spelt_among names (l ∷ ls) [] codes a h = absurd a
 spelt_among names (l ∷ ls) (c ∷ cs) codes a h = (subst (λ x. Among x codes) (spells_once names l h.0.0 c h.0.1 a.0) h.0.2, spelt_among names ls cs codes a.1 h.1)
 
--- that each code spells one of the literals
+-- `EachFrom names ls codes` holds if each code spells one of the literals.
 abbrev EachFrom : (ℕ → Option ℕ) → List Literal → List ℕ → Type 0
 EachFrom names ls codes = AllByRecursion (λ code. (l : Literal) × Spells names l code × Among l ls) codes
 
@@ -81,6 +81,7 @@ from_each names ls cs (c ∷ codes) a h = (one_from names ls cs c h.0.0 a h.0.1 
 pub same_set : (names : ℕ → Option ℕ) (ls : List Literal) (cs codes : List ℕ) → AreSpelt names ls cs → AllAmong cs codes → AllAmong codes cs → SameSet names ls codes
 same_set names ls cs codes a h k = (among_spelt names ls cs codes a h, each_from names ls cs codes a k)
 
+-- if the first statement holds, the second decides both
 pub both_so : (P Q : Type 0) (first b : Bool) → first ≡ true → MatchBool first P (P → ⊥) → MatchBool b Q (Q → ⊥) → MatchBool b (P × Q) (P × Q → ⊥)
 both_so P Q first true e m n = (subst (λ x. MatchBool x P (P → ⊥)) e m, n)
 both_so P Q first false e m n = λ p. n p.1
@@ -96,6 +97,7 @@ each_answer names ls cs given codes first b N e m g h = go b (subst (λ x. Match
     go true a h = among_spelt names ls cs codes a h
     go false a h = λ s. h (spelt_among names ls cs codes a s)
 
+-- the comparison of the spelt literals as sets decides whether the sets are the same
 pub set_answer : (names : ℕ → Option ℕ) (ls : List Literal) (cs given codes : List ℕ) (first b : Bool) (N : Type 0) → first ≡ true → MatchBool first (AreSpelt names ls cs) N → given ≡ cs
     → MatchBool b (AllAmong given codes × AllAmong codes given) (AllAmong given codes × AllAmong codes given → ⊥) → MatchBool b (SameSet names ls codes) (SameSet names ls codes → ⊥)
 set_answer names ls cs given codes first b N e m g h = go b (subst (λ x. MatchBool x (AreSpelt names ls cs) N) e m) (subst (λ x. MatchBool b (AllAmong x codes × AllAmong codes x) (AllAmong x codes × AllAmong codes x → ⊥)) g h)

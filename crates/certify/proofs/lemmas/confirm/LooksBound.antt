@@ -19,7 +19,7 @@ use Rattle.certify.specs.confirm.Walks.{LooksReach, same_looks, looks_tried, loo
 
 -- A TEXT IS AT LEAST AS LONG AS ITS ITEMS
 
--- that each text has at least one byte
+-- `HasByte F` holds if every text of the format has at least one byte.
 abbrev HasByte : {A : Type 0} → Format A → Type 0
 HasByte {A} F = (x : A) (bytes : List ℕ) → F x bytes → 1 ≤ length bytes
 

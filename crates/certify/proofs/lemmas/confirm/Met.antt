@@ -82,6 +82,7 @@ unmet_met due names old mid h x = λ earlier s.
     }
 
 module _ (due : Due) (before after : NamedVars) (a b : Stream) (open_yet : AtEnd a.source → ⊥) where
+  -- if finding an ordered step stops, so does meeting the expected step
   pub expects_stop : (e : Stop) → Confirms {A = Awaited} (Err e) a b (AwaitsNext before) → Confirms {A = Unit {0}} (Err e) a b (MeetsDue due before after)
   expects_stop e p = confirms_stop e a b (AwaitsNext before) (MeetsDue due before after) (λ total why. met_stop due before after (seen_in total a) (seen_in total b) why) p
 
@@ -109,6 +110,7 @@ module _ (due : Due) (before after : NamedVars) (a b : Stream) (open_yet : AtEnd
     expects_fed known at next fed most k f = feeds_on a b next (λ u v. AwaitsNext before u v (Ok awaited.Step)) (λ u v. MeetsDue due before after u v (Ok tt)) (subst (λ z. FeedsStep (Ok tt) b.checker z next) held fed) (subst (λ z. LooksAtMost b.checker z next) held most)
         (λ total h. met_fed due before after (seen_in total a) (seen_in total b) h known at next (subst (λ z. Compares due known z None) held k) (subst (λ z. FeedsStep (Ok tt) b.checker z next) held fed) (subst (λ z. NamesFollow due before z after) held f)) p
 
+-- once unsat is recorded, the expected step is met if it may be unmet, and cannot be met otherwise
 pub expects_cut : (due : Due) (names : NamedVars) (a b : Stream) → (AtEnd a.source → ⊥) → (r : Result (Unit {0}) Stop) → GoesOrStops is_fed (Ok awaited.Cut) a b (AwaitsNext names) → SaysUnmet due r → Confirms r a b (MeetsDue due names names)
 expects_cut due names a b open_yet (Ok u) p s = (p.0, (λ total k. unmet_met due names (seen_in total a) (seen_in total b) (p.1 total k) s), p.2)
 expects_cut due names a b open_yet (Err (stop.No why)) p s = says_stop {B = ℕ} true (stop.No why) a b (λ u v. AwaitsNext names u v (Ok awaited.Cut)) (λ y. ExcusesDue due (Some why)) (MeetsDue due names names) open_yet

@@ -38,7 +38,7 @@ listed_append (x ∷ xs) ys = ap (λ (ns : List ℕ). (variable x + 1) ∷ ns) (
 listed_more : (codes : List ℕ) (i code : ℕ) → i < length codes → code ≡ get_or codes i code → listed (take (i + 1) codes) ≡ listed (take i codes) ++ (variable code + 1) ∷ []
 listed_more codes i code low at = ap listed (take_more codes i code low ∙ ap (λ (c : ℕ). take i codes ++ c ∷ []) (sym at)) ∙ listed_append (take i codes) (code ∷ [])
 
--- that the first `i` names of the command were processed
+-- `SoFar kind codes i first now` holds if the first `i` names of the command were processed.
 abbrev pub SoFar : Kind → List ℕ → ℕ → Names → Names → Type 0
 SoFar kind codes i first now = Changes first now (taken_by kind (listed (take i codes)))
 
@@ -105,9 +105,11 @@ unnamed_all kind (name ∷ list) j k h =
     ap (λ (es : List Expected). es ++ naming_all kind list (taken kind name j)) (unnamed kind name j k h.0)
     ∙ ap (naming_all kind list) (untaken kind name j k h.0) ∙ unnamed_all kind list j k h.1
 
+-- names that are all known do not change
 pub known_taken : (kind : Kind) (codes : List ℕ) (names : Names) → IntroducesNothing kind (listed codes) names → Changes names names (taken_by kind (listed codes))
 known_taken kind codes names b j h = subst (NamesHaveState names) (sym (unmoved kind (listed codes) j b.of_literals (b.known j h))) h
 
+-- names that are all known expect no step
 pub known_met : (kind : Kind) (codes : List ℕ) (names : Names) (vars : NamedVars) (a : Stream) → IntroducesNothing kind (listed codes) names → Confirms (Ok tt) a a (MeetsNames kind (listed codes) names vars vars)
 known_met kind codes names vars a b = confirms_none tt a (MeetsNames kind (listed codes) names vars vars)
     (λ total j h. subst (λ (es : List Expected). MeetsAll es vars vars (seen_in total a) (seen_in total a) (Ok tt)) (sym (unnamed_all kind (listed codes) j b.of_literals (b.known j h))) (nothing vars (seen_in total a)))

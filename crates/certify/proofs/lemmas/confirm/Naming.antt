@@ -54,6 +54,7 @@ first_barred p q before after end u v why f earlier s = bars_more q (f earlier s
 pub meets_one : (due : Due) (e : Expected) → ((o : Outcome) (ask : List Literal) → due o ask ≡ e) → OpenedCoreIsEmpty e → (before after : NamedVars) (r : Result (Unit {0}) Stop) (a b : Stream) → Confirms r a b (MeetsDue due before after) → Confirms r a b (MeetsAll (e ∷ []) before after)
 meets_one due e is free before after r a b p = confirms_so r a b (MeetsDue due before after) (MeetsAll (e ∷ []) before after) (λ total y m. one due e is free before after (seen_in total a) (seen_in total b) y m) p
 
+-- after some expected steps are met, the others decide
 pub meets_both : (p q : List Expected) (first mid last : NamedVars) (r : Result (Unit {0}) Stop) (a b c : Stream) → (AtEnd a.source → ⊥) → Confirms (Ok tt) a b (MeetsAll p first mid) → Confirms r b c (MeetsAll q mid last) → Confirms r a c (MeetsAll (p ++ q) first last)
 meets_both p q first mid last r a b c open_yet f g = confirms_then tt r a b c (MeetsAll p first mid) (MeetsAll q mid last) (MeetsAll (p ++ q) first last) open_yet
     (λ total y x z. both p q first mid last (seen_in total a) (seen_in total b) (seen_in total c) y x z) f g

@@ -15,9 +15,11 @@ module _ {R : Type 0} (seen : R → Reader) (old new : StepReader R Buffers) (go
   came : AdvanceEffect seen old new (Ok (step_in new)) → AnswersStepRead (Ok (step_in new)) (reader_source seen old) (reader_source seen new)
   came n = answered (Ok (step_in new)) (reader_source seen old) (reader_source seen new) (sym n.was ∙ goes_on.well) n.answer
 
+  -- a step that the reader gives is read from the bytes
   pub read_one : AdvanceEffect seen old new (Ok (step_in new)) → (checker : Kernel) → GoesOrStops {A = Unit {0}} (λ x. false) (Ok tt) (stream_of seen old checker) (stream_of seen new checker) ReadsOne
   read_one n checker = step_came (step_in new) (stream_of seen old checker) (stream_of seen new checker) refl refl (came n)
 
+  -- if the reader gives no step, the bytes begin with none, or the error says why
   pub read_none : (e : StepError) → AdvanceEffect seen old new (Err e) → (checker : Kernel) → Confirms {A = Unit {0}} (Err (stop_of e)) (stream_of seen old checker) (stream_of seen new checker) ReadsOne
   read_none e n checker = none_came e (stream_of seen old checker) (stream_of seen new checker) ReadsOne goes_on.open_yet refl
       (answered (Err e) (reader_source seen old) (reader_source seen new) (sym n.was ∙ goes_on.well) n.answer) (λ total why none. none)

@@ -3,6 +3,7 @@ use Rattle.std.proofs.Common.{ℕ, ◌≡◌, Option, Some, None, refl}
 use Rattle.sat_checker.specs.Stored.{Stored}
 use Rattle.sat_checker.specs.Storing.{with_conflict_settled, settled_by}
 
+-- settling a conflict does not change whether unsat is recorded
 pub settled_unsat : (f : Stored) → (with_conflict_settled f).unsat ≡ f.unsat
 settled_unsat f = go f.conflict
   where

@@ -42,7 +42,7 @@ covers_back n s t text total open_yet p c = record {
   none = λ h. absurd (open_yet h);
 }
 
--- the same if the read failed
+-- a total that is possible after a read that failed was possible before it
 pub covers_fault : (s t : Source) (text total : List ℕ) → (AtEnd s → ⊥) → ConsumesAndFails s t text → Covers t total → Covers s total
 covers_fault s t text total open_yet p c = record {
   later = p.fresh ++ c.later;
@@ -73,14 +73,17 @@ nothing_after s t text total p c =
 
 -- NO STEP CAN BE READ
 
+-- a byte after which no step can continue begins none
 pub no_step_at_byte : (s t : Source) (front : List ℕ) (byte : ℕ) (total : List ℕ) → ConsumesBytes s t (front ++ byte ∷ []) → IsProperPrefix SpellsStep front → (IsPrefixOfText SpellsStep (front ++ byte ∷ []) → ⊥) → Covers t total
     → BeginsNoStep (rest_in total s)
 no_step_at_byte s t front byte total p live shut c =
     no_way SpellsStep one_step (rest_in total s) front (rest_in total t) byte (taken_front 0 s t (front ++ byte ∷ []) total p c ∙ append_assoc front (byte ∷ []) (rest_in total t)) live shut
 
+-- a text that ends within a step begins none
 pub no_step_cut : (s t : Source) (text total : List ℕ) → ConsumesToEnd s t text → IsProperPrefix SpellsStep text → Covers t total → BeginsNoStep (rest_in total s)
 no_step_cut s t text total p live c = no_whole SpellsStep one_step (rest_in total s) (subst (IsProperPrefix SpellsStep) (sym (nothing_after s t text total p c)) live)
 
+-- a text that has ended begins no step
 pub no_step_over : (s t : Source) (total : List ℕ) → ConsumesToEnd s t [] → Covers t total → BeginsNoStep (rest_in total s)
 no_step_over s t total p c step text rest e h = let u : [] ≡ tag_of step ∷ (h.0 ++ rest) = sym (nothing_after s t [] total p c) ∙ e ∙ ap (λ (z : List ℕ). z ++ rest) h.1 in cc
 
@@ -260,6 +263,7 @@ less_left m a b ls lt lx lf h e k n = omega arith
 flowed : (ws fs xs vs : List ℕ) → ws ++ fs ≡ xs ++ vs → length ws + length fs ≡ length xs + length vs
 flowed ws fs xs vs e = sym (length-append ws fs) ∙ ap length e ∙ length-append xs vs
 
+-- fewer bytes can be read after some were consumed
 pub passes_fewer : (s t : Source) (text : List ℕ) → t.reads ≤ most_reads → ConsumesBytes s t text → 0 < length text → most_bytes_left t < most_bytes_left s
 passes_fewer s t text k p some = less_left most_reads s.reads t.reads (length s.waiting) (length t.waiting) (length text) (length p.fresh) p.room (flowed s.waiting p.fresh text t.waiting p.flows) some k
 
@@ -279,7 +283,7 @@ none_came errors.Cut a b P o c h f =
 none_came errors.BadByte a b P o c h f =
     (moves_halt a b o (h.0 ++ h.1 ∷ [], h.2), (λ total k. f total StepRefused (no_step_at_byte a.source b.source h.0 h.1 total h.2 h.3 h.4 k)), (λ total k. tries_none (seen_in total a) (seen_in total b) c))
 none_came errors.Read a b P o c h f = ((h.0, h.1), (λ total k. tries_none (seen_in total a) (seen_in total b) c))
-none_came errors.OutOfMemory a b P o c h f = (moves_halt a b o (h.0 ∷ h.1, h.2), (λ total k. tries_none (seen_in total a) (seen_in total b) c))
+none_came errors.OutOfMemory a b P o c h f = (moves_halt a b o (h.0 ∷ h.1, h.2.0), (λ total k. tries_none (seen_in total a) (seen_in total b) c))
 none_came errors.HasFailed a b P o c h f = absurd h
 
 -- WHAT THE READER GAVE
@@ -316,6 +320,7 @@ gave_enough r t text P p over f = record {
 few_read : (lf tr : ℕ) → lf + 4096 * 0 ≤ 4096 * tr → tr ≤ most_reads → lf ≤ most_bytes
 few_read lf tr h k = omega arith
 
+-- not more bytes are given than the largest number of reads can
 pub few_given : (n : ℕ) (r : Reader) (t : Source) (text : List ℕ) → ConsumesWithReads n (new_source r) t text → t.reads ≤ most_reads → length (rest_in t.reader.given (new_source r)) ≤ most_bytes
 few_given n r t text p k = subst (λ bytes. length bytes ≤ most_bytes) (sym (rest_is (new_source r) t.reader.given p.fresh p.gave)) (few_read (length p.fresh) t.reads p.room k)
 
@@ -339,6 +344,7 @@ passed_front n r t text P p f = record {
       (f (t.reader.given ++ rest) (record { later = rest; whole = refl; none = λ h. k (called_some r.calls t.reader.calls t.reads p.calls h.0) h.1 }));
 }
 
+-- what holds whatever follows a failed read holds of a prefix
 pub faulted_front : (r : Reader) (t : Source) (text : List ℕ) (P : List ℕ → Type 0) → ConsumesAndFails (new_source r) t text → ((total : List ℕ) → Covers t total → P (rest_in total (new_source r))) → GavePrefixOf r t.reader P
 faulted_front r t text P p f = record {
   text = p.fresh;
@@ -358,7 +364,7 @@ took_looks n r t text to p f = takes_looks r t.reader p.fresh 0 to
     subst (λ bytes. LooksReach [] bytes 0 to) (rest_is (new_source r) (t.reader.given ++ rest) (p.fresh ++ rest) whole)
     (f (t.reader.given ++ rest) (record { later = rest; whole = refl; none = λ h. k (called_some r.calls t.reader.calls t.reads p.calls h.0) h.1 })))
 
--- the same if a read failed
+-- the looks of the steps that were read before a read failed, whatever bytes could follow
 pub took_faulted : (r : Reader) (t : Source) (text : List ℕ) (to : ℕ) → ConsumesAndFails (new_source r) t text → ((total : List ℕ) → Covers t total → LooksReach [] (rest_in total (new_source r)) 0 to) → TakesLooks r t.reader 0 to
 took_faulted r t text to p f = takes_looks r t.reader p.fresh 0 to
     (record { gave = p.gave; known_bytes = known_front r.to_come t.reader.to_come t.waiting text p.fresh (p.flows ∙ sym (append-nil text) ∙ ap (λ (z : List ℕ). text ++ z) (sym p.none)) p.bytes; loans = p.loans }) (omega arith)

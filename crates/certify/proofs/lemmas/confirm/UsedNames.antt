@@ -15,7 +15,7 @@ use Rattle.certify.specs.declared.judge.names.Names.{Names}
 
 -- THE SAME NAMES
 
--- that from name `first` on, exactly the names that are not hidden have an identity
+-- `Agree first ns ss` holds if from name `first` on, exactly the names that are not hidden have an identity.
 abbrev Agree : ℕ → List Named → List NameState → Type 0
 Agree first ns ss = (i : ℕ) → is_some (identity_in ns (first + i)) ≡ not (is_hidden (get_or ss i state.Hidden))
 
@@ -139,6 +139,7 @@ have_names : (line : List Literal) (bound : ℕ) → bound ≤ var_limit → Bet
 have_names [] bound low h = tt
 have_names (l ∷ ls) bound low h = let a = h.0.0 in let b = h.0.1 in ((omega arith, omega arith), have_names ls bound low h.1)
 
+-- a line that lists the names in use is in form
 pub line_form : (names : Names) (line : List Literal) → names.used ≤ var_limit → names_of line ≡ used_in (states_of names) → HaveNames line × NamesRise (names_of line)
 line_form names line low e =
     let ss = states_of names in

@@ -48,6 +48,7 @@ tries_none u v e earlier t = subst (λ (c : Kernel). LooksReach earlier u.rest (
 
 -- THE NEXT STEP
 
+-- a step that was read, but not fed, is the only one not fed
 pub walks_read : (u v : CertificateState) (text : List ℕ) → SpellsStep v.step text → u.rest ≡ text ++ v.rest → v.checker ≡ u.checker → WalksBefore u v
 walks_read u v text spelt front same = (
   text,
@@ -60,6 +61,7 @@ walks_read u v text spelt front same = (
   })),
 )
 
+-- once the step is fed and accepted, all steps are fed
 pub walks_fed : (u v w : CertificateState) → w.rest ≡ v.rest → FeedsStep (Ok tt) v.checker v.step w.checker → LooksAtMost v.checker v.step w.checker → WalksBefore u v → FeedsAllSteps u w
 walks_fed u v w same fed most f earlier t =
     let x = f.2 earlier t in
@@ -73,9 +75,11 @@ walks_fed u v w same fed most f earlier t =
       spends = λ s. x.spends (spent_taking v.step f.0 w.rest here f.1 y.0 s);
     }
 
+-- a step that is fed counts for the looks, accepted or not
 pub tries_fed : (u v w : CertificateState) → LooksAtMost v.checker v.step w.checker → WalksBefore u v → FeedsSomeSteps u w
 tries_fed u v w most f earlier t = let x = f.2 earlier t in x.reaches (kernel_looks w.checker) (looks_tried v.step f.0 v.rest refl f.1 (most x.later x.taken.valid))
 
+-- if feeding a step exhausts a counter, the steps do
 pub runs_fed : (u v w : CertificateState) (next : Kernel) → FeedsStep (Err stop.CounterEnd) v.checker v.step next → WalksBefore u v → RunsOut u w
 runs_fed u v w next fed f earlier t = let x = f.2 earlier t in x.spends (spent_trying v.step f.0 v.rest refl f.1 (fed x.later x.taken))
 
@@ -91,6 +95,7 @@ settled_walk old bytes mid next rest earlier settled x =
       spends = x.spends;
     }
 
+-- settling a conflict does not change which steps are fed
 pub walks_settled : (fed : Bool) (u v w : CertificateState) → w.rest ≡ v.rest → w.step ≡ v.step → SettlesConflict (Ok tt) v.checker w.checker → walks_if fed u v → walks_if fed u w
 walks_settled true u v w r s settled f = λ earlier t.
     subst (λ bytes. IsFedPrefix u.checker u.rest w.checker bytes earlier) (sym r) (settled_walk u.checker u.rest v.checker w.checker v.rest earlier settled (f earlier t))
@@ -121,6 +126,7 @@ pub tries_spent : (fed : Bool) (u v w : CertificateState) → SettlesConflict (E
 tries_spent fed u v w settled f earlier t =
     let x = reached fed u v f earlier t in subst (LooksReach earlier u.rest (kernel_looks u.checker)) (sym (settled x.later x.taken).1) x.looks
 
+-- if settling a conflict exhausts a counter, the steps do
 pub runs_spent : (fed : Bool) (u v w : CertificateState) → SettlesConflict (Err stop.CounterEnd) v.checker w.checker → walks_if fed u v → RunsOut u w
 runs_spent fed u v w settled f earlier t = let x = reached fed u v f earlier t in x.spent (settled x.later x.taken).0
 
@@ -132,6 +138,7 @@ never_settled fed u v T earlier none f t = let x = reached fed u v f earlier t i
 more_looks : (a b m k : ℕ) → b ≤ a + m → b + k ≤ a + k + m
 more_looks a b m k h = omega arith
 
+-- a bound on the rise of the looks does not depend on where they start
 pub looks_from : (k : ℕ) (earlier : List Step) (bytes : List ℕ) (from to : ℕ) → LooksReach earlier bytes from to → LooksReach earlier bytes (from + k) (to + k)
 looks_from k earlier bytes from to same_looks = same_looks
 looks_from k earlier bytes from to (looks_tried step text rest e s h) = looks_tried step text rest e s (more_looks from to (most_looks (ready_after earlier) step) k h)

@@ -16,7 +16,7 @@ use Rattle.certify.proofs.lemmas.judge.States.{item_at, states_length}
 abbrev pub Left : List NameState → List ℕ → ℕ → ℕ → Type 0
 Left states line at index = names_of (named_literals (drop at line)) ≡ used_from (index + 1) (drop index states)
 
--- that the two statements are equivalent
+-- `Same P Q` holds if the two statements are equivalent.
 abbrev pub Same : Type 0 → Type 0 → Type 0
 Same P Q = (P → Q) × (Q → P)
 
@@ -52,6 +52,7 @@ module _ (names : Names) (line : List ℕ) (at index : ℕ) (s : NameState) (ins
       let l = states_length names.states names.used in
       passes (states_of names) index s b (omega arith) (item_at names index s inside is) e
 
+  -- a hidden name needs no literal in the line
   pub hidden_left : s ≡ state.Hidden → Same (ListsUsed names line) (Left (states_of names) line at (index + 1))
   hidden_left e =
       let p = passed true (ap is_hidden e) in
@@ -86,6 +87,7 @@ none_named (x ∷ xs) e = absurd (cc)
 some_left : (line : List ℕ) (at : ℕ) → at < length line → drop at line ≡ [] → ⊥
 some_left line at low e = let f : get_or line at 0 ∷ drop (suc at) line ≡ [] = sym (drop-cons line at 0 low) ∙ e in absurd (cc)
 
+-- after the last name, the line lists the names in use exactly if it has ended
 pub end_left : (names : Names) (line : List ℕ) (at index : ℕ) (answer : Bool) → names.used ≤ index → at ≤ length line → Same (ListsUsed names line) (Left (states_of names) line at index) → answer ≡ eqb at (length line)
     → MatchBool answer (ListsUsed names line) (ListsUsed names line → ⊥)
 end_left names line at index answer over low so e = go answer (sym e)

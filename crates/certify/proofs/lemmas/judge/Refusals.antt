@@ -81,6 +81,7 @@ name_refusal OfClause j ls n m = absurd (n refl)
 name_refusal OfAsk j ls n m = absurd (m refl)
 name_refusal e j ls n m = refl
 
+-- a command that lists names is refused only for a name past the limit
 pub says_names : (names : Names) (lent : Lent) (r : Option CodeRefusal) → (kind_of lent.kind ≡ OfClause → ⊥) → (kind_of lent.kind ≡ OfAsk → ⊥) → r ≡ limit_refusal lent.past_limit → ReportsRefusal r names lent
 says_names names lent r n m said j c h (ls, f, e) =
     ap refusal_said said ∙ sym (names_refused j lent.literals.now lent.past_limit ls f) ∙ sym (name_refusal (kind_of lent.kind) j ls n m) ∙ sym (ap (refusal_of j) e)

@@ -143,6 +143,7 @@ named_state : (j : ScriptState) (o : Option ℕ) → ((i : ℕ) → o ≡ Some i
 named_state j None h = refl
 named_state j (Some i) h = ap state_of_mode (get_or-append j.modes (Sampled ∷ []) Sampled i (h i refl))
 
+-- a hidden name that is introduced gets a new identity
 pub named : (old new : Names) (j : ScriptState) (name : ℕ) → NamesHaveState old j → state_in (states_of old) name ≡ state.Hidden → 1 ≤ name → name ≤ var_limit → name ≤ j.first_unused
     → new.used ≡ max old.used name → UnusedAreUnlisted new
     → ((m : ℕ) → state_in (states_of new) m ≡ cond (eqb name m) state.Sampled (state_in (states_of old) m)) → NamesHaveState new (with_name name j)

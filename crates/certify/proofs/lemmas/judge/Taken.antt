@@ -52,6 +52,7 @@ grown_by names j (suc count) low h =
     ∙ ap (λ (name : ℕ). with_name name mid) last in
     subst (λ (k : ScriptState). NamesHaveState (with_used names (names.used + suc count)) k) (sym whole) (subst (λ (n : ℕ). NamesHaveState (with_used names n) (with_name (next + 1) mid)) (sym total) one)
 
+-- the names up to a new one are introduced
 pub grown : (names : Names) (index : ℕ) → names.used ≤ index → index < var_limit → Changes names (with_used names (index + 1)) (introduce (index + 1))
 grown names index past low j h =
     let f = h.first in
@@ -117,6 +118,7 @@ known_end j codes k over = subst (λ (xs : List ℕ). AllByRecursion (λ name. n
 pub clause_stands : (n : Names) (ls : List Literal) (j : ScriptState) → NamesHaveState n j → NamesHaveState n (with_clause ls j)
 clause_stands n ls j h = record { first = h.first; limit = h.limit; each = h.each; fresh = h.fresh; given = h.given; modes = h.modes; apart = h.apart }
 
+-- the state after a command's names is the state after the command
 pub accepted_stands : (n : Names) (kind : Kind) (ls : List Literal) (j : ScriptState) → NamesHaveState n (taken_all kind (names_of ls) j) → NamesHaveState n (state_after_accepted (command_of kind ls) j)
 accepted_stands n OfClause ls j h = clause_stands n ls (introduce_all (names_of ls) j) (subst (NamesHaveState n) (clause_all (names_of ls) j) h)
 accepted_stands n OfAsk ls j h = subst (NamesHaveState n) (ask_all (names_of ls) j) h

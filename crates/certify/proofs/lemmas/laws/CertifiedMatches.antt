@@ -83,7 +83,7 @@ next_accepted {step = step} {earlier = earlier} a c =
 
 -- WHAT IS MET
 
--- that steps after the earlier ones meet what is expected, and others may follow
+-- `Front all earlier es` holds if steps after the earlier ones meet what is expected, and others may follow.
 record Front (all earlier : List Step) (es : List Expected) : Type 0 where
   pub steps : List Step
   pub rest : List Step
@@ -138,7 +138,7 @@ in_form j (Sample names ∷ commands) (o ∷ os) h = in_form (state_after_accept
 
 -- TEXTS
 
--- that the text begins with the text of the steps in `front`
+-- `TextFront front rest text` holds if the text begins with the text of the steps in `front`.
 record TextFront (front rest : List Step) (text : List ℕ) : Type 0 where
   pub begins : List ℕ
   pub following : List ℕ

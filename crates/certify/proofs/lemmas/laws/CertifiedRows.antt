@@ -81,7 +81,9 @@ left_added later step first i u (left_out m r c) = inr c
 left_added later step first i u (other {step = next} o c) = absurd (no_other later step first i next o c)
 left_added {earlier = earlier} {ls = ls} later step first i u (ordered {step = next} s f c) = inl (subst (λ x. Fits (checker_rules.knows earlier) earlier (Adds ls) x) (is_next later step next first c) f)
 
--- that `step` opens an ask, and what is known about its outcome and rounds
+-- `OpenedBy all earlier step o es counts` holds if what follows `step`, which opens an ask with outcome `o`, is
+-- certified, and `counts` begins with its rounds. If unsat was recorded before, the outcome is the empty core, without
+-- a round.
 record OpenedBy (all earlier : List Step) (step : Step) (o : Outcome) (es : List Expected) (counts : List ℕ) : Type 0 where
   rounds : ℕ
   rest : List ℕ

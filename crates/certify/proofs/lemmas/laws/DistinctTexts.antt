@@ -13,7 +13,7 @@ use Rattle.sat_checker.specs.matching.Expected.{Outcome, Sat, Unsat, Unknown}
 use Rattle.certify.specs.confirm.Matches.{OneOutcomePerAsk}
 use Rattle.certify.specs.laws.Laws.{HasPrintableNames, TextsDetermineOutcomes, AskBindsNothing}
 
--- that no byte is a space or LF
+-- `Plain bytes` holds if no byte is a space or LF.
 abbrev pub Plain : List ℕ → Type 0
 Plain = AllByRecursion (λ c. (c ≡ 32 → ⊥) × (c ≡ 10 → ⊥))
 
@@ -78,6 +78,7 @@ same_word l m h k e = go l.positive m.positive l.name m.name h k e
     go false true x y h k e = absurd (no_minus y (decimal x) k (sym e))
     go false false x y h k e = ap (λ n. record { name = n; positive = false }) (same_number x y h k (let r : decimal x ≡ decimal y = cc in r))
 
+-- different literals have different texts
 pub same_literals : (ls ks : List Literal) (x y : List ℕ) → AllByRecursion (λ l. l.name ≤ var_limit) ls → AllByRecursion (λ l. l.name ≤ var_limit) ks → literals_text ls ++ x ≡ literals_text ks ++ y → (ls ≡ ks) × (x ≡ y)
 same_literals [] [] x y h k e = (refl, cc)
 same_literals [] (m ∷ ks) x y h k e = absurd (not_end (literal_text m) x (literals_text ks ++ y) (plain_word m k.0) (e ∙ append_assoc (literal_text m) (32 ∷ literals_text ks) y))

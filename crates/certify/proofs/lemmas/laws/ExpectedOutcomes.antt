@@ -23,7 +23,7 @@ modes_aside (Fails ask core ∷ es) q j m h = ((λ e. let r = h.0 e in record { 
 modes_aside (Closes ∷ es) q j m h = modes_aside es None j m h
 modes_aside (Finish ∷ es) q j m h = modes_aside es q j m h
 
--- that the expected steps show correct answers, for some open ask or none
+-- `From j es` holds if the expected steps show correct answers, for some open ask or none.
 abbrev From : ScriptState → List Expected → Type 0
 From j es = (q : Option (List Literal)) × RightFor q j es
 

@@ -25,6 +25,7 @@ can_be a b P text c g =
     let same : c.given ≡ g.text = append_cancel_left a.given c.given g.text (sym c.front.gave ∙ g.front.gave) in
     subst P (sym (c.whole ∙ ap (λ (xs : List ℕ). xs ++ c.rest) same)) (g.holds c.rest c.follows)
 
+-- what a finished run wrote matches
 pub guaranteed_matches : (budget : ℕ) (summary : Summary) (text answered certified : List ℕ) → CertificateGuarantee text budget summary answered certified → TextsMatch text answered certified
 guaranteed_matches budget summary text answered certified b =
     let a = b.is_answered in

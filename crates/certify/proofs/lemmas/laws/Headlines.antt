@@ -32,7 +32,7 @@ events_of r = events 1 initial_state r.0 r.1
 
 -- ANSWERS
 
--- that outcomes are correct and have these answers, for a reading of the script
+-- `AreRightBy answers outcomes r` holds if outcomes are correct and have these answers, for a reading of the script.
 abbrev AreRightBy : List ℕ → List Outcome → Reading → Type 0
 AreRightBy answers outcomes r = (answers ≡ event_lines (events_of r) outcomes) × EachIsRight (events_of r) outcomes
 
@@ -53,7 +53,7 @@ right_by_outcomes script answers =
 
 -- MATCHING
 
--- that the answers and the steps match a reading of the script
+-- `MatchesBy answers outcomes steps r` holds if the answers and the steps match a reading of the script.
 abbrev MatchesBy : List ℕ → List Outcome → List Step → Reading → Type 0
 MatchesBy answers outcomes steps r = (answers ≡ event_lines (events_of r) outcomes) × StepsMatch checker_rules r.0 outcomes steps
 
@@ -73,7 +73,8 @@ matching_answers script answers certificate h =
 
 -- REPORTS
 
--- that the answers and the summary of a run are correct, for a reading of the script
+-- `ReportsBy budget summary answered outcomes r` holds if the answers and the summary of a run are correct, for a
+-- reading of the script.
 abbrev ReportsBy : ℕ → Summary → List ℕ → List Outcome → Reading → Type 0
 ReportsBy budget summary answered outcomes r =
     (answered ≡ event_lines (events_of r) outcomes) × EachIsRight (events_of r) outcomes × (summary.refused ≡ refusals_among (events_of r))

@@ -13,13 +13,13 @@ use Rattle.sat_checker.specs.matching.Bridge.{LiveVariables, IsBridge}
 use Rattle.sat_base.proofs.lemmas.script.LiteralValues.{all_at, all_map, true_mapped, mapped_true, coded_same}
 use Rattle.sat_checker.proofs.lemmas.matching.Bridge.{line_true, core_true, pulled, pulled_agrees, without, nothing_new, added, named_new, unnamed, deleted}
 
--- that a core is correct, except for its order
+-- `IsCore j ask core` holds if a core is correct, except for its order.
 pub record IsCore (j : ScriptState) (ask core : List Literal) : Type 0 where
   pub among : AllByRecursion (λ l. Among l ask) core
   pub none : (a : Valuation) → EachTrue a (map (identity_lit j) core) → EachHolds a j.clauses → ⊥
 
--- That the expected steps show correct answers, given the script state. `q` is the open ask, if no name was introduced
--- or removed since it was opened.
+-- `RightFor q j es` holds if the expected steps show correct answers, given the script state. `q` is the open ask, if
+-- no name was introduced or removed since it was opened.
 abbrev pub RightFor : Option (List Literal) → ScriptState → List Expected → Type 0
 RightFor q j [] = Unit {0}
 RightFor q j (NewName name ∷ es) = RightFor None (with_name name j) es
@@ -43,7 +43,7 @@ dead_for (Fails ask core ∷ es) q j d x = ((λ e. subst (IsCore j ask) (sym x.0
 dead_for (Closes ∷ es) q j d x = dead_for es None j d x.1
 dead_for (Finish ∷ es) q j d x = dead_for es q j d x.1
 
--- that the open ask is what was assumed last
+-- `Asked q earlier` holds if the open ask, if any, is what was assumed last.
 abbrev Asked : Option (List Literal) → List Step → Type 0
 Asked None earlier = Unit {0}
 Asked (Some ask) earlier = SameSet (variable_of earlier) ask (assumed earlier)
@@ -132,6 +132,7 @@ module _ (k : CheckerRules) (sound : IsSound k) where
         sound.core earlier c hashes a bridge.accepted acc (bridge.back a (b, g, h)) (core_true k j earlier live bridge a b g core c same (mapped_true b (identity_lit j) core t));
   }
 
+  -- expected steps that are met show correct answers
   pub right_for : {earlier steps : List Step} {es : List Expected} → Meets k earlier steps es → (q : Option (List Literal)) (j : ScriptState) (live : LiveVariables) → IsBridge k j earlier live → Asked q earlier → RightFor q j es
   right_for (met u) q j live b w = tt
   right_for (cut {earlier = earlier} {es = es} u x) q j live b w = dead_for es q j (dead j earlier live b u) x

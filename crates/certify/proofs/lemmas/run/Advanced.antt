@@ -62,6 +62,7 @@ pub record IsSame (f : Stored) (s : Session) : Type 0 where
   pub units : (l : ℕ) → is_unit f l ≡ s.units l
   pub live : (r : Bool) (set : List ℕ) → count_of r set f.clauses ≡ s.live r set
 
+-- steps that leave the same contents leave the same state of the checker
 pub is_same : (steps made : List Step) (x : ℕ) → (contents_of steps).state ≡ wide x (contents_of made).state → IsSame (ready_after steps) (session_after made)
 is_same steps made x e =
     let s = session_is made in
@@ -71,7 +72,7 @@ is_same steps made x e =
       live = λ r set. ap (λ (d : ProofState). d.counts r set) c ∙ sym (ap (λ (t : Session). t.live r set) s.1);
     }
 
--- that the clause is stored, and P holds of it as stored
+-- `Kept P cs clause` holds if the clause is stored, and `P` holds of it as stored.
 pub record Kept (P : StoredClause → Type 0) (cs : List StoredClause) (clause : List ℕ) : Type 0 where
   pub stored : StoredClause
   pub is : clause ≡ stored.literals
@@ -168,6 +169,7 @@ advances_as steps s same (l ∷ ls) a =
     } in
     (l, or_left (eqb l l) (is_among ls l) (eq-eqb l l refl), subst (λ (ks : List ℕ). LeavesUnassigned f ks l) (sym (others_first l ls (not_repeated s l ls a))) leaves)
 
+-- a step that is empowering in the session is so after the steps
 pub advancing_as : (steps : List Step) (s : Session) → IsSame (ready_after steps) s → (w : ℕ) (step : Step) → made_steps.IsEmpoweringStep s step → DerivesEmpowering (ready_after steps) (narrowed w step)
 advancing_as steps s same w (AtClause r clause hashes) a = advances_as steps s same clause a
 advancing_as steps s same w step a = absurd a

@@ -20,7 +20,7 @@ use Rattle.certify.proofs.lemmas.run.Advanced.{IsSame, advancing_as, cuts_state,
 
 -- STEPS THAT DERIVE AND RECORD NOTHING
 
--- that the step sets the index of a variable, or the width
+-- `IsAside step` holds if the step sets the index of a variable, or the width.
 pub data IsAside : Step → Type 0 where
   index_aside : {v : ℕ} {index : Option ℕ} → IsAside (SolverVarName v index)
   width_aside : {bits : ℕ} → IsAside (ChangeHashBits bits)
@@ -74,7 +74,7 @@ pub asides_never : (earlier front xs : List Step) (k : ℕ) → AreAside front �
 asides_never earlier [] xs k h t = t
 asides_never earlier (s ∷ front) xs k h t = inl (asides_never earlier front xs k h.1 t, aside_never (ready_after ((front ++ xs) ++ earlier)) h.0)
 
--- whether unsat is recorded
+-- unsat is recorded exactly if the stored state has it
 unsat_is : (steps : List Step) → checker_rules.unsat steps ≡ (contents_of steps).state.unsat
 unsat_is steps = ap (λ (c : Contents). c.state.unsat) (contents_of_steps steps)
 
@@ -90,6 +90,7 @@ asides_contents (s ∷ front) earlier h = aside_unsat (contents_of (front ++ ear
 pub asides_unsat : (front earlier : List Step) → AreAside front → checker_rules.unsat (front ++ earlier) ≡ checker_rules.unsat earlier
 asides_unsat front earlier h = unsat_is (front ++ earlier) ∙ asides_contents front earlier h ∙ sym (unsat_is earlier)
 
+-- cutting hashes does not change whether unsat is recorded
 pub cut_unsat : {c d : Counting} {m w : List Step} → TruncatesHashes c m w d → checker_rules.unsat w ≡ checker_rules.unsat m
 cut_unsat {m = m} {w = w} p = unsat_is w ∙ ap (λ (x : ProofState). x.unsat) (cuts_state p).1 ∙ sym (unsat_is m)
 
@@ -111,6 +112,7 @@ same_later s t ss ts e = cc
 pub same_first : (s t : Step) (ss ts : List Step) → ◌≡◌ {A = List Step} (s ∷ ss) (t ∷ ts) → s ≡ t
 same_first s t ss ts e = cc
 
+-- steps that were cut are split where the steps that were made are
 pub split : {c d : Counting} {m w : List Step} → TruncatesHashes c m w d → (later made : List Step) → m ≡ later ++ made → Split c made w
 split {c} {d} {m} {w} p [] made e = record { front = []; back = w; mid = d; whole = refl; cuts = subst (λ (n : List Step). TruncatesHashes c n w d) e p }
 split none_made (s ∷ later) made e = none_first s (later ++ made) e
@@ -167,7 +169,7 @@ head_cut {c} (one_made {d = d} {made = m} {written = w} s k p) step made e =
       cuts = subst (λ (ms : List Step). TruncatesHashes c ms w d) (same_later s step m made e) p;
     }
 
--- that before the step is written, the checker agrees with the session
+-- `Here d step m w` holds if before the step is written, the checker agrees with the session.
 record Here (d : Counting) (step : Step) (m w : List Step) : Type 0 where
   same : IsSame (ready_after (width_change d.bits (counted step d).bits ++ w)) (session_after m)
 
@@ -178,6 +180,7 @@ here {d = d} {m = m} {w = w} step p =
     let wider = change_wide (nat_eq d.bits now) now w (contents_of m).state h.0 h.1 in
     record { same = is_same (width_change d.bits now ++ w) m wider.0 wider.1 }
 
+-- the cut steps derive as many empowering clauses as the steps that were made
 pub timed : {c d : Counting} {m w : List Step} → TruncatesHashes c m w d → (steps opened : List Step) (k : ℕ) → m ≡ steps ++ opened → made.CountsEmpowering opened steps k → Timed c opened w steps k
 timed {c} {d} {m} {w} p [] opened k e t = record { middle = []; before = w; mid = d; whole = refl; cuts = subst (λ (n : List Step). TruncatesHashes c n w d) e p; times = t; unordered = λ u. tt }
 timed none_made (s ∷ steps) opened k e t = none_first s (steps ++ opened) e

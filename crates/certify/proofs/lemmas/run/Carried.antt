@@ -5,7 +5,6 @@ use Rattle.sat_base.specs.device.Device.{Writer}
 use Rattle.sat_base.specs.script.Script.{Command}
 use Rattle.sat_base.specs.script.ScriptState.{ScriptState, state_after_accepted}
 use Rattle.sat_base.proofs.lemmas.device.Writes.{took_none}
-use Rattle.sat_solver.specs.solver.Whole.{steps_in}
 use Rattle.certify.specs.declared.run.session.RunState.{RunState}
 use Rattle.certify.specs.run.Obeying.{Obeyed}
 use Rattle.certify.specs.run.Serving.{RunPlace, Serves, place_after}
@@ -16,18 +15,18 @@ use Rattle.certify.specs.run.Quiet.{Solver}
 
 -- the place of a run after the latest command
 pub place_following : {C : Type 0} (old new : RunState C) (c : Command) (j : ScriptState) (rounds : ℕ) → new.commands ≡ old.commands → rounds ≡ new.solver.clock.rounds
-    → place_after (last_place old j) c (steps_in new.solver) rounds ≡ place_in new (state_after_accepted c j)
+    → place_after (last_place old j) c new.solver.steps rounds ≡ place_in new (state_after_accepted c j)
 place_following old new c j rounds e f = ap (λ (k : ℕ). at (k + 1) rounds) (sym e) ∙ ap (at (new.commands + 1)) f
   where
     at : ℕ → ℕ → RunPlace
-    at k n = record { judge = state_after_accepted c j; number = k; steps = steps_in new.solver; rounds = n }
+    at k n = record { judge = state_after_accepted c j; number = k; steps = new.solver.steps; rounds = n }
 
 -- a command that only the solver carries out
-pub obeyed_carried : {C : Type 0} (seen : C → Writer) (old : RunState C) (s : Solver C) (c : Command) (w : Writer) → IsNoAsk c → old.solver.assumed.items ≡ [] → Obeyed seen c old.solver s
-    → CarriedOut seen old (record old { solver = s }) c w w
-obeyed_carried seen old s c w quiet free o = record {
+pub obeyed_carried : {C : Type 0} (old : RunState C) (s : Solver) (c : Command) (w : Writer) → IsNoAsk c → old.solver.assumptions ≡ [] → Obeyed c old.solver s
+    → CarriedOut old (record old { solver = s }) c w w
+obeyed_carried old s c w quiet free o = record {
   ready = o.ready;
-  free = ap (λ (v : _). v.items) o.assumed ∙ free;
+  free = o.assumed ∙ free;
   took = o.took;
   commands = refl;
   refused = refl;
@@ -41,6 +40,6 @@ obeyed_carried seen old s c w quiet free o = record {
         k.0,
         k.1,
         subst (λ b. Serves old.budget (last_place old j) b (c ∷ []) [] [] 0) (place_following old (record old { solver = s }) c j old.solver.clock.rounds refl (ap (λ (x : _). x.rounds) (sym o.clock)))
-            (serves_plain old.budget (last_place old j) c (steps_in s) quiet allowed k.2),
+            (serves_plain old.budget (last_place old j) c s.steps quiet allowed k.2),
       );
 }

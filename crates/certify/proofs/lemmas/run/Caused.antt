@@ -9,7 +9,7 @@ use Rattle.sat_base.specs.values.Literals.{var_limit, variable}
 use Rattle.sat_solver.specs.variables.Refusing.{names_in}
 use Rattle.sat_solver.specs.variables.VariableRoom.{user_vars_in}
 use Rattle.sat_base.specs.steps.Steps.{Step}
-use Rattle.sat_solver.specs.solver.Whole.{HasFullStore, steps_in}
+use Rattle.sat_solver.specs.facade.Calls.{HasFullStore}
 use Rattle.certify.specs.answers.AnswerForms.{named_literals}
 use Rattle.certify.specs.declared.fault.RunFault.{RunFault}
 use Rattle.certify.specs.declared.fault.RunFault.TheVariants as fault
@@ -61,15 +61,15 @@ names_split codes k code user lt is at =
     sym (append_assoc (names_in (take k codes)) ((user + 1) ∷ []) (names_in (drop (k + 1) codes))) ∙ ap (λ ns. ns ++ names_in (drop (k + 1) codes)) (name_more codes k code user lt is at)
     ∙ sym (map-append (λ l. variable l + 1) (take (k + 1) codes) (drop (k + 1) codes)) ∙ ap names_in (take-append-drop (k + 1) codes)
 
-pub names_caused : {C : Type 0} (seen : C → Writer) (st : NameState) (codes : List ℕ) (k code user : ℕ) (a b c : Solver C) (e : RunFault) → k < length codes → code ≡ get_or codes k code → user ≡ variable code
-    → Obeyed seen (command_to st (names_in (take k codes))) a b → IsCaused e ⊥ (RefusedForRoom b c (user ∷ [])) → IsCaused e ⊥ (LacksFor a c (command_to st (names_in codes)))
-names_caused seen st codes k code user a b c e lt is at done h =
+pub names_caused : (st : NameState) (codes : List ℕ) (k code user : ℕ) (a b c : Solver) (e : RunFault) → k < length codes → code ≡ get_or codes k code → user ≡ variable code
+    → Obeyed (command_to st (names_in (take k codes))) a b → IsCaused e ⊥ (RefusedForRoom b c (user ∷ [])) → IsCaused e ⊥ (LacksFor a c (command_to st (names_in codes)))
+names_caused st codes k code user a b c e lt is at done h =
     caused_map e ⊥ (RefusedForRoom b c (user ∷ [])) ⊥ (LacksFor a c (command_to st (names_in codes))) (λ x. x)
-    (λ lacks. subst (λ names. LacksFor a c (command_to st names)) (names_split codes k code user lt is at) (names_need_more seen st (names_in (take k codes)) (names_in (drop (k + 1) codes)) user a b c done lacks)) h
+    (λ lacks. subst (λ names. LacksFor a c (command_to st names)) (names_split codes k code user lt is at) (names_need_more st (names_in (take k codes)) (names_in (drop (k + 1) codes)) user a b c done lacks)) h
 
 -- COMMANDS
 
-module _ {C : Type 0} (lent : Lent) (old : RunState C) (r : Result (Unit {0}) RunFault) (new : Solver C) where
+module _ {C : Type 0} (lent : Lent) (old : RunState C) (r : Result (Unit {0}) RunFault) (new : Solver) where
   pub clause_caused_by : lent.kind ≡ kind.Clause → IfErr r (λ e. IsCaused e (HasFullStore new) (RefusedForRoom old.solver new (user_vars_in lent.literals.now))) → CausedBy r old (record old { solver = new }) (represented_by lent)
   clause_caused_by e h = subst (λ c. CausedBy r old (record old { solver = new }) c) (sym (spelled_as lent kind.Clause e))
       (caused_if r (HasFullStore new) (RefusedForRoom old.solver new (user_vars_in lent.literals.now)) (HasFullStore new) (LacksFor old.solver new (Clause (named_literals lent.literals.now))) (λ x. x) (clause_needs old.solver new lent.literals.now) h)
@@ -84,8 +84,8 @@ ask_caused_by lent old new r e h = subst (λ c. CausedBy r old new c) (sym (spel
 -- WHAT IS LEFT OF A SCRIPT
 
 -- a script exceeds a limit if its first command lacks variables
-pub needs_exceed : {C : Type 0} (old : RunState C) (new : Solver C) (c : Command) (left : Reading) (j : ScriptState) → HasStateBetweenCommands old j → refusal_of j c ≡ None → LacksFor old.solver new c
-    → Exceeds old.commands j (prepend_commands (c ∷ []) left) (steps_in new)
+pub needs_exceed : {C : Type 0} (old : RunState C) (new : Solver) (c : Command) (left : Reading) (j : ScriptState) → HasStateBetweenCommands old j → refusal_of j c ≡ None → LacksFor old.solver new c
+    → Exceeds old.commands j (prepend_commands (c ∷ []) left) new.steps
 needs_exceed old new c left j at free needs =
     let both = needs j at.live at.means.agree in
     let h = both.0 in
@@ -98,13 +98,14 @@ needs_exceed old new c left j at free needs =
 module _ {C : Type 0} (old mid new : RunState C) (lent : Lent) (r : Result (Unit {0}) RunFault) where
   pub taken_caused : lent.past_limit ≡ false → ReportsRefusal None old.names lent → mid.solver ≡ old.solver → CausedBy r mid new (represented_by lent) → (c : Command) → RepresentsCommand lent c → (left : Reading) → CausedOver r old new (prepend_commands (c ∷ []) left)
   taken_caused within judges same h c l left =
-      caused_if r (HasFullStore new.solver) (LacksFor mid.solver new.solver (represented_by lent)) (HasFullStore new.solver) ((j : ScriptState) → HasStateBetweenCommands old j → Exceeds old.commands j (prepend_commands (c ∷ []) left) (steps_in new.solver)) (λ x. x)
+      caused_if r (HasFullStore new.solver) (LacksFor mid.solver new.solver (represented_by lent)) (HasFullStore new.solver) ((j : ScriptState) → HasStateBetweenCommands old j → Exceeds old.commands j (prepend_commands (c ∷ []) left) new.solver.steps) (λ x. x)
       (λ needs j at. needs_exceed old new.solver c left j at (sym (judges j c at.names l)) (subst (λ s. LacksFor s new.solver c) same (subst (LacksFor mid.solver new.solver) (sym (lent_is lent c l within)) needs))) h
 
 -- a fault that is caused by neither a full store nor a counter
 pub blameless : {T C : Type 0} (r : Result T RunFault) (old new : RunState C) (script : Reading) → IfErr r (λ e. IsCaused e ⊥ ⊥) → CausedOver r old new script
-blameless r old new script h = caused_if r ⊥ ⊥ (HasFullStore new.solver) ((j : ScriptState) → HasStateBetweenCommands old j → Exceeds old.commands j script (steps_in new.solver)) (λ x. absurd x) (λ x. absurd x) h
+blameless r old new script h = caused_if r ⊥ ⊥ (HasFullStore new.solver) ((j : ScriptState) → HasStateBetweenCommands old j → Exceeds old.commands j script new.solver.steps) (λ x. absurd x) (λ x. absurd x) h
 
+-- the state after two lists of commands is that after both in turn
 pub after_both : (xs ys : List Command) (i : ScriptState) → after_script (xs ++ ys) i ≡ after_script ys (after_script xs i)
 after_both [] ys i = refl
 after_both (x ∷ xs) ys i = after_both xs ys (after_command x i)
@@ -125,13 +126,13 @@ exceeds_later n m cs script j steps e (inr (needs, one)) = inr (
 )
 
 -- a fault after one command was served
-pub caused_after : {T C : Type 0} (seen : C → Writer) (r : Result T RunFault) (c : Command) (script : Reading) (a b new : RunState C) (u v : Writer) → ServedNext seen a b c u v → CausedOver r b new script → CausedOver r a new (prepend_commands (c ∷ []) script)
-caused_after seen r c script a b new u v f h =
-    caused_if r (HasFullStore new.solver) ((j : ScriptState) → HasStateBetweenCommands b j → Exceeds b.commands j script (steps_in new.solver)) (HasFullStore new.solver) ((j : ScriptState) → HasStateBetweenCommands a j → Exceeds a.commands j (prepend_commands (c ∷ []) script) (steps_in new.solver)) (λ x. x)
-    (λ k j at. exceeds_later a.commands b.commands (c ∷ []) script j (steps_in new.solver) f.commands (k (after_command c j) (f.serves j at).0)) h
+pub caused_after : {T C : Type 0} (r : Result T RunFault) (c : Command) (script : Reading) (a b new : RunState C) (u v : Writer) → ServedNext a b c u v → CausedOver r b new script → CausedOver r a new (prepend_commands (c ∷ []) script)
+caused_after r c script a b new u v f h =
+    caused_if r (HasFullStore new.solver) ((j : ScriptState) → HasStateBetweenCommands b j → Exceeds b.commands j script new.solver.steps) (HasFullStore new.solver) ((j : ScriptState) → HasStateBetweenCommands a j → Exceeds a.commands j (prepend_commands (c ∷ []) script) new.solver.steps) (λ x. x)
+    (λ k j at. exceeds_later a.commands b.commands (c ∷ []) script j new.solver.steps f.commands (k (after_command c j) (f.serves j at).0)) h
 
 -- a fault at the ask that a header adds
 pub asked_caused : {T C : Type 0} (a new : RunState C) (r : Result T RunFault) → CausedBy r a new (Ask []) → CausedOver r a new (Ask [] ∷ [], Clean)
 asked_caused a new r h =
-    caused_if r (HasFullStore new.solver) (LacksFor a.solver new.solver (Ask [])) (HasFullStore new.solver) ((j : ScriptState) → HasStateBetweenCommands a j → Exceeds a.commands j (Ask [] ∷ [], Clean) (steps_in new.solver)) (λ x. x)
+    caused_if r (HasFullStore new.solver) (LacksFor a.solver new.solver (Ask [])) (HasFullStore new.solver) ((j : ScriptState) → HasStateBetweenCommands a j → Exceeds a.commands j (Ask [] ∷ [], Clean) new.solver.steps) (λ x. x)
     (λ needs j at. needs_exceed a new.solver (Ask []) ([], Clean) j at refl needs) h

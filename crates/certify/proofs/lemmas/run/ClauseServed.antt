@@ -1,6 +1,5 @@
 -- How the calls of the solver serve a clause.
 use Rattle.std.proofs.Common.{ℕ, ◌≡◌, ◌∙◌, Bool, true, false, List, [], ◌∷◌, ◌++◌, refl, sym, ap, subst, append-nil}
-use Rattle.sat_base.specs.device.Device.{Writer}
 use Rattle.sat_base.specs.script.Script.{Clause, names_of}
 use Rattle.sat_base.specs.script.ScriptState.{ScriptState, state_after_accepted, introduce_all, with_clause}
 use Rattle.sat_checker.specs.matching.Expected.{Expected, Adds, introducing}
@@ -12,32 +11,33 @@ use Rattle.sat_solver.specs.variables.NamingSteps.{IsClauseStep}
 use Rattle.sat_checker.specs.matching.Bridge.{LiveVariables}
 use Rattle.sat_solver.specs.variables.Refusing.{names_in}
 use Rattle.sat_solver.specs.session.AllowedSteps.{OnlyAllowedSteps}
-use Rattle.sat_solver.specs.solver.Adding.{Added, due_for_clause, with_added}
-use Rattle.sat_solver.specs.solver.Whole.{SolverInvariant, steps_in}
+use Rattle.sat_solver.specs.solver.Adding.{due_for_clause, with_added}
+use Rattle.sat_solver.specs.facade.Adding.{Added, StepsOfClause}
+use Rattle.sat_solver.specs.facade.Recording.{RecordsAnswer}
+use Rattle.sat_solver.specs.facade.View.{IsInState}
 use Rattle.certify.specs.answers.AnswerForms.{named_literals}
 use Rattle.sat_checker.specs.matching.Traces.{HasTrace}
 use Rattle.certify.specs.run.Stretches.{IsCommandStep, Stretch, due_for}
 use Rattle.certify.proofs.lemmas.run.NamesIn.{names_same}
-use Rattle.certify.proofs.lemmas.run.Recorded.{going_on, known_unsat}
 use Rattle.certify.specs.run.Quiet.{Solver}
 
-module _ {C : Type 0} (seen : C → Writer) (old new : Solver C) (user : List ℕ) (whole : SolverInvariant old) (added : Added seen old new user) (j : ScriptState) (live : LiveVariables) (agree : solver.NamesAgree old.names (steps_in old) j live) where
-  kept : solver.ReachesScriptState new.names (steps_in old) (steps_in new) (with_added user j) (due_for_clause old.state user j)
-  kept = added.did.does.kept j live agree
+module _ (old new : Solver) (user : List ℕ) (records : RecordsAnswer old) (added : Added old new user) (steps : StepsOfClause old new user) (j : ScriptState) (live : LiveVariables) (agree : IsInState old j live) where
+  kept : solver.ReachesScriptState new.names old.steps new.steps (with_added user j) (due_for_clause old.answer user j)
+  kept = added.did.names j live agree
 
-  pub clause_agrees : (then : LiveVariables) × solver.NamesAgree new.names (steps_in new) (state_after_accepted (Clause (named_literals user)) j) then
-  clause_agrees = (kept.live, subst (λ ns. solver.NamesAgree new.names (steps_in new) (with_clause (named_literals user) (introduce_all ns j)) kept.live) (sym (names_same user)) kept.agree)
+  pub clause_agrees : (then : LiveVariables) × IsInState new (state_after_accepted (Clause (named_literals user)) j) then
+  clause_agrees = (kept.live, subst (λ ns. IsInState new (with_clause (named_literals user) (introduce_all ns j)) kept.live) (sym (names_same user)) kept.agree)
 
   abbrev Due : Bool → Type 0
-  Due unsat = HasTrace checker_rules (steps_in old) (steps_in new) (due_for unsat (Clause (named_literals user)) j)
+  Due unsat = HasTrace checker_rules old.steps new.steps (due_for unsat (Clause (named_literals user)) j)
 
-  made_by : (unsat : Bool) (es : List Expected) → due_for unsat (Clause (named_literals user)) j ≡ introducing (names_of (named_literals user)) j ++ es → HasTrace checker_rules (steps_in old) (steps_in new) (introducing (names_in user) j ++ es) → Due unsat
-  made_by unsat es e w = subst (HasTrace checker_rules (steps_in old) (steps_in new)) (ap (λ ns. introducing ns j ++ es) (sym (names_same user)) ∙ sym e) w
+  made_by : (unsat : Bool) (es : List Expected) → due_for unsat (Clause (named_literals user)) j ≡ introducing (names_of (named_literals user)) j ++ es → HasTrace checker_rules old.steps new.steps (introducing (names_in user) j ++ es) → Due unsat
+  made_by unsat es e w = subst (HasTrace checker_rules old.steps new.steps) (ap (λ ns. introducing ns j ++ es) (sym (names_same user)) ∙ sym e) w
 
-  added_due : (old.state ≡ states.Unsat → ⊥) → HasTrace checker_rules (steps_in old) (steps_in new) (introducing (names_in user) j ++ (Adds (named_literals user) ∷ [])) → Due (checker_rules.unsat (steps_in old))
-  added_due n w = subst Due (sym (going_on old whole n)) (made_by false (Adds (named_literals user) ∷ []) refl w)
+  added_due : (old.answer ≡ states.Unsat → ⊥) → HasTrace checker_rules old.steps new.steps (introducing (names_in user) j ++ (Adds (named_literals user) ∷ [])) → Due (checker_rules.unsat old.steps)
+  added_due n w = subst Due (sym (records.unrecorded n)) (made_by false (Adds (named_literals user) ∷ []) refl w)
 
-  due_by : (st : SatState) → old.state ≡ st → HasTrace checker_rules (steps_in old) (steps_in new) (due_for_clause st user j) → Due (checker_rules.unsat (steps_in old))
+  due_by : (st : SatState) → old.answer ≡ st → HasTrace checker_rules old.steps new.steps (due_for_clause st user j) → Due (checker_rules.unsat old.steps)
   due_by states.Unknown e w = added_due (λ f. apart (sym e ∙ f)) w
     where
       apart : states.Unknown ≡ states.Unsat → ⊥
@@ -50,11 +50,11 @@ module _ {C : Type 0} (seen : C → Writer) (old new : Solver C) (user : List �
     where
       apart : states.UnsatUnderAssumptions ≡ states.Unsat → ⊥
       apart x = cc
-  due_by states.Unsat e w = subst Due (sym (known_unsat old whole e)) (made_by true [] refl (subst (HasTrace checker_rules (steps_in old) (steps_in new)) (sym (append-nil (introducing (names_in user) j))) w))
+  due_by states.Unsat e w = subst Due (sym (records.recorded e)) (made_by true [] refl (subst (HasTrace checker_rules old.steps new.steps) (sym (append-nil (introducing (names_in user) j))) w))
 
   -- the names are introduced, and the clause is written, or left out once unsat is recorded
-  pub clause_stretch : Stretch (IsCommandStep (Clause (named_literals user))) (steps_in old) (steps_in new) (due_for (checker_rules.unsat (steps_in old)) (Clause (named_literals user)) j)
+  pub clause_stretch : Stretch (IsCommandStep (Clause (named_literals user))) old.steps new.steps (due_for (checker_rules.unsat old.steps) (Clause (named_literals user)) j)
   clause_stretch = record {
-    due = due_by old.state refl kept.trace;
-    comes = subst (λ ns. OnlyAllowedSteps (IsClauseStep ns) (steps_in old) (steps_in new)) (sym (names_same user)) added.steps.comes;
+    due = due_by old.answer refl kept.trace;
+    comes = subst (λ ns. OnlyAllowedSteps (IsClauseStep ns) old.steps new.steps) (sym (names_same user)) steps.comes;
   }

@@ -43,6 +43,7 @@ close_keeps : (s : List Step) (x : Expected) (step : Step) → Fits (checker_rul
 close_keeps s Closes step closes e g = settled_unsat (effect (Assumptions []) (ready_after s)) ∙ g
 close_keeps s x step f e g = absurd (cc)
 
+-- the steps that close an ask do not record unsat
 pub closing : {s t : List Step} {es : List Expected} → HasTrace checker_rules s t es → AllByRecursion (λ e. e ≡ Closes) es → (ys : List Step) → t ≡ ys ++ s → EachIsAllowed (IsLiteralsStep []) s ys → checker_rules.unsat s ≡ false → checker_rules.unsat t ≡ false
 closing no_step h ys b c g = g
 closing {t = t} (silent {s = s} {step = step} q m) h ys b c g =

@@ -116,7 +116,7 @@ closing expecting.closes = refl
 
 -- OTHER STEPS AT BOTH ENDS OF AN ASK
 
--- that each of these steps is allowed at some place
+-- `ComesThere IsAllowedStep steps` holds if each of these steps is allowed at some place.
 abbrev ComesThere : (List Step → Step → Type 0) → List Step → Type 0
 ComesThere IsAllowedStep = AllByRecursion (λ step. (earlier : List Step) × IsAllowedStep earlier step)
 

@@ -5,7 +5,6 @@ use Rattle.sat_base.specs.device.Device.{Writer}
 use Rattle.sat_base.specs.script.Script.{Command, Clause, Ask, Hide, Witness, Sample}
 use Rattle.sat_base.specs.script.ScriptState.{refusal_of, refused_literal}
 use Rattle.sat_solver.specs.variables.Refusing.{names_in}
-use Rattle.sat_solver.specs.solver.Adding.{Added}
 use Rattle.certify.specs.answers.AnswerForms.{named_literals}
 use Rattle.certify.specs.declared.fault.RunFault.{RunFault}
 use Rattle.certify.specs.declared.judge.NameState.{NameState}
@@ -18,13 +17,13 @@ use Rattle.certify.specs.declared.run.session.RunState.{RunState}
 use Rattle.certify.specs.judge.Names.{ReportsRefusal}
 use Rattle.certify.specs.script.Commands.{BeginsPast, RepresentsCommand, kind_of}
 use Rattle.sat_base.specs.script.Language.{Reading, command_of}
-use Rattle.certify.specs.run.SolverCalls.{FailsSolver, IsAllowed}
+use Rattle.certify.specs.run.SolverCalls.{ClauseAccepted, FailsSolver, IsAllowed}
 use Rattle.certify.specs.run.Obeying.{Obeyed, command_to}
 use Rattle.certify.specs.run.BetweenCommands.{NamesAllow, CarriedOut, RunGoesOn, StopsCarrying, WritesBoth, represented_by}
 use Rattle.certify.proofs.lemmas.run.Carried.{obeyed_carried}
 use Rattle.certify.proofs.lemmas.run.NamesIn.{names_same}
 use Rattle.certify.proofs.lemmas.run.Obeys.{clause_obeyed, names_ask_nothing}
-use Rattle.certify.proofs.lemmas.run.RunStateCalls.{did_ready, solver_writes}
+use Rattle.certify.proofs.lemmas.run.RunStateCalls.{solver_writes}
 use Rattle.certify.specs.run.Quiet.{Solver}
 
 on_ok : {T E A B : Type 0} (r : Result T E) → (A → B) → OnOk r A → OnOk r B
@@ -73,27 +72,27 @@ module _ (lent : Lent) where
       subst (λ ns. refused_literal on.judge ns ≡ None) (names_same lent.literals.now) (subst (λ c. refusal_of on.judge c ≡ None) (spelled_as kind.Ask e) (allowed on.judge on.at.names)),
     )
 
-  module _ {C : Type 0} (seen : C → Writer) (old : RunState C) (on : RunGoesOn old) where
-    pub ask_carried : (r : Result (Unit {0}) RunFault) (new : RunState C) (a b : Writer) → lent.kind ≡ kind.Ask → OnOk r (CarriedOut seen old new (Ask (named_literals lent.literals.now)) a b) → OnOk r (CarriedOut seen old new (represented_by lent) a b)
-    ask_carried r new a b e h = subst (λ c. OnOk r (CarriedOut seen old new c a b)) (sym (spelled_as kind.Ask e)) h
+  module _ {C : Type 0} (old : RunState C) (on : RunGoesOn old) where
+    pub ask_carried : (r : Result (Unit {0}) RunFault) (new : RunState C) (a b : Writer) → lent.kind ≡ kind.Ask → OnOk r (CarriedOut old new (Ask (named_literals lent.literals.now)) a b) → OnOk r (CarriedOut old new (represented_by lent) a b)
+    ask_carried r new a b e h = subst (λ c. OnOk r (CarriedOut old new c a b)) (sym (spelled_as kind.Ask e)) h
 
     pub ask_stops : (r : Result (Unit {0}) RunFault) (new : RunState C) (left : Reading) (a b : Writer) → lent.kind ≡ kind.Ask → StopsCarrying r old new (Ask (named_literals lent.literals.now)) left a b → StopsCarrying r old new (represented_by lent) left a b
     ask_stops r new left a b e h = subst (λ c. StopsCarrying r old new c left a b) (sym (spelled_as kind.Ask e)) h
 
-    module _ (r : Result (Unit {0}) RunFault) (s : Solver C) (w : Writer) where
-      pub clause_carried : lent.kind ≡ kind.Clause → OnOk r (Added seen old.solver s lent.literals.now) → OnOk r (CarriedOut seen old (record old { solver = s }) (represented_by lent) w w)
+    module _ (r : Result (Unit {0}) RunFault) (s : Solver) (w : Writer) where
+      pub clause_carried : lent.kind ≡ kind.Clause → OnOk r (ClauseAccepted old.solver s lent.literals.now) → OnOk r (CarriedOut old (record old { solver = s }) (represented_by lent) w w)
       clause_carried e h =
-          subst (λ c. OnOk r (CarriedOut seen old (record old { solver = s }) c w w)) (sym (spelled_as kind.Clause e))
-          (on_ok r (λ (a : Added seen old.solver s lent.literals.now). obeyed_carried seen old s (Clause (named_literals lent.literals.now)) w tt on.free (clause_obeyed seen lent.literals.now old.solver s on.ready (did_ready seen old.solver s _ _ on.ready a.did) a)) h)
+          subst (λ c. OnOk r (CarriedOut old (record old { solver = s }) c w w)) (sym (spelled_as kind.Clause e))
+          (on_ok r (λ (a : ClauseAccepted old.solver s lent.literals.now). obeyed_carried old s (Clause (named_literals lent.literals.now)) w tt on.free (clause_obeyed lent.literals.now old.solver s on.ready a)) h)
 
-      pub clause_writes : OnOk r (Added seen old.solver s lent.literals.now) → IfErr r (λ e. FailsSolver seen e old.solver s) → WritesBoth r seen w w old.solver s
-      clause_writes h f = solver_writes seen r w old.solver s (on_ok r (λ (a : Added seen old.solver s lent.literals.now). a.did.took) h) f
+      pub clause_writes : OnOk r (ClauseAccepted old.solver s lent.literals.now) → IfErr r (λ e. FailsSolver e old.solver s) → WritesBoth r w w old.solver s
+      clause_writes h f = solver_writes r w old.solver s (on_ok r (λ (a : ClauseAccepted old.solver s lent.literals.now). a.took) h) f
 
-      module _ (st : NameState) (names : List ℕ) (h : OnOk r (Obeyed seen (command_to st names) old.solver s)) where
-        pub names_carried : represented_by lent ≡ command_to st names → OnOk r (CarriedOut seen old (record old { solver = s }) (represented_by lent) w w)
+      module _ (st : NameState) (names : List ℕ) (h : OnOk r (Obeyed (command_to st names) old.solver s)) where
+        pub names_carried : represented_by lent ≡ command_to st names → OnOk r (CarriedOut old (record old { solver = s }) (represented_by lent) w w)
         names_carried e =
-            subst (λ c. OnOk r (CarriedOut seen old (record old { solver = s }) c w w)) (sym e)
-            (on_ok r (λ o. obeyed_carried seen old s (command_to st names) w (names_ask_nothing st names) on.free o) h)
+            subst (λ c. OnOk r (CarriedOut old (record old { solver = s }) c w w)) (sym e)
+            (on_ok r (λ o. obeyed_carried old s (command_to st names) w (names_ask_nothing st names) on.free o) h)
 
-        pub names_write : IfErr r (λ e. FailsSolver seen e old.solver s) → WritesBoth r seen w w old.solver s
-        names_write f = solver_writes seen r w old.solver s (on_ok r (λ (o : Obeyed seen (command_to st names) old.solver s). o.took) h) f
+        pub names_write : IfErr r (λ e. FailsSolver e old.solver s) → WritesBoth r w w old.solver s
+        names_write f = solver_writes r w old.solver s (on_ok r (λ (o : Obeyed (command_to st names) old.solver s). o.took) h) f

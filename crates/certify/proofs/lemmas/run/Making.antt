@@ -15,12 +15,13 @@ use Rattle.sat_checker.specs.matching.Traces.{HasTrace, no_step, silent, visible
 use Rattle.certify.specs.run.Stretches.{due_for}
 use Rattle.certify.proofs.lemmas.confirm.Settled.{settled_unsat}
 
--- that if further steps are certified after `to`, then `es` and the further steps are certified after `from`
+-- `Leads from to es` holds if whenever further steps are certified after `to`, `es` and the further steps are certified
+-- after `from`.
 abbrev pub Leads : List Step → List Step → List Expected → Type 0
 Leads from to es = (all : List Step) (current : Option Outcome) (e : Expected) (fs : List Expected) (counts : List ℕ)
     → Certifies checker_rules all current to (e ∷ fs) counts → Certifies checker_rules all current from (es ++ (e ∷ fs)) counts
 
--- that the expected step may be written whether or not unsat is recorded
+-- `IsFree e` holds if the expected step may be written whether or not unsat is recorded.
 abbrev pub IsFree : Expected → Type 0
 IsFree e = (unsat : Bool) → MayOccur unsat e
 
@@ -30,6 +31,7 @@ other_before : (es : List Expected) {all : List Step} {current : Option Outcome}
 other_before [] e fs q c = other q c
 other_before (x ∷ es) e fs q c = other q c
 
+-- expected steps that may always be written are certified
 pub leads_free : {s t : List Step} {es : List Expected} → HasTrace checker_rules s t es → AllByRecursion IsFree es → Leads s t es
 leads_free no_step h = λ all current e fs counts c. c
 leads_free (silent {es = es} q m) h = λ all current e fs counts c. other_before es e fs q (leads_free m h all current e fs counts c)
@@ -54,6 +56,7 @@ leads_lacking s x h r = λ all current e fs counts c. left_out h r c
 stays_once : (s : List Step) (step : Step) → checker_rules.unsat s ≡ true → checker_rules.unsat (step ∷ s) ≡ true
 stays_once s step u = settled_unsat (effect step (ready_after s)) ∙ unsat_stays (ready_after s) step u
 
+-- unsat stays recorded
 pub unsat_made : {s t : List Step} {es : List Expected} → HasTrace checker_rules s t es → checker_rules.unsat s ≡ true → checker_rules.unsat t ≡ true
 unsat_made no_step u = u
 unsat_made (silent {s = s} {step = step} q m) u = unsat_made m (stays_once s step u)
@@ -80,7 +83,7 @@ closes_ask (silent q m) known all e fs counts c = other q (closes_ask m known al
 closes_ask (visible {s = s} {step = step} f m) known all e fs counts c =
     answered (λ u. known (unsat_made m (stays_once s step u))) f (leads_free m tt all None e fs counts c)
 
--- that the expected step may be written if unsat is not recorded
+-- `IsGoing e` holds if the expected step may be written if unsat is not recorded.
 abbrev pub IsGoing : Expected → Type 0
 IsGoing e = MayOccur false e
 
@@ -100,6 +103,7 @@ names_free : (names : List ℕ) → AllByRecursion IsFree (map NewName names)
 names_free [] = tt
 names_free (n ∷ ns) = ((λ b. tt), names_free ns)
 
+-- the steps that introduce names may always be written
 pub bringing_free : (names : List ℕ) (j : ScriptState) → AllByRecursion IsFree (introducing names j)
 bringing_free [] j = tt
 bringing_free (name ∷ names) j = free_both (map NewName (new_names name j)) (introducing names (introduce name j)) (names_free (new_names name j)) (bringing_free names (introduce name j))

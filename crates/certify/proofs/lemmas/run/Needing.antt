@@ -3,7 +3,6 @@ use Rattle.std.proofs.Common.{ℕ, zero, suc, ◌+◌, ◌-◌, ◌<◌, ◌≤�
 use Rattle.std.specs.List.{AllByRecursion}
 use Rattle.std.proofs.lemmas.List.{length-map}
 use Rattle.std.proofs.lemmas.Bool.{eq-eqb, ne_eqb, cases_eq, cases_lt, ltb-true, ltb-false}
-use Rattle.sat_base.specs.device.Device.{Writer}
 use Rattle.sat_base.specs.values.Literals.{var_limit, variable}
 use Rattle.sat_base.specs.script.Script.{Command, Clause, Ask, Hide, Witness, Sample, names_of}
 use Rattle.sat_base.specs.script.ScriptState.{ScriptState, NameMode, Sampled, Witnessed, state_after_accepted, after_command, after_script, introduce_all, introduce, hide_all, identity_of, names_from, new_names, refusal_of, set_all, with_mode, with_name, with_names, without_name}
@@ -20,8 +19,7 @@ use Rattle.sat_solver.specs.variables.Live.{given, given_of}
 use Rattle.sat_solver.specs.variables.Refusing.{names_in}
 use Rattle.sat_solver.specs.variables.VariableRoom.{HasVariablesFor, introduced_count, is_hidden_name, is_listed, live_count, reach, user_vars_in}
 use Rattle.sat_solver.specs.variables.Variables.{global_of, names_used, variables_used}
-use Rattle.sat_solver.specs.solver.Adding.{ReplacesAssumptions}
-use Rattle.sat_solver.specs.solver.Whole.{steps_in}
+use Rattle.sat_solver.specs.facade.View.{IsInState}
 use Rattle.sat_solver.proofs.lemmas.variables.Counts.{count_le, count_longer, count_more, count_part, count_same, count_suc, count_zero}
 use Rattle.sat_solver.proofs.lemmas.variables.RoomLemmas.{is_live, reach_low}
 use Rattle.certify.specs.answers.AnswerForms.{named_literals}
@@ -29,7 +27,7 @@ use Rattle.certify.specs.declared.judge.NameState.{NameState}
 use Rattle.certify.specs.declared.judge.NameState.TheVariants as state
 use Rattle.certify.specs.declared.summary.AskReport.{AskReport}
 use Rattle.certify.specs.run.Lacking.{CommandLacks, LacksVariables, introduced_for}
-use Rattle.certify.specs.run.SolverCalls.{LacksFor, RefusedForRoom, Searched}
+use Rattle.certify.specs.run.SolverCalls.{AssumptionsAccepted, LacksFor, RefusedForRoom, Searched}
 use Rattle.certify.specs.run.Obeying.{Obeyed, command_to}
 use Rattle.certify.specs.run.Quiet.{Solver}
 use Rattle.certify.proofs.lemmas.run.NamesIn.{names_same}
@@ -38,7 +36,7 @@ use Rattle.certify.proofs.lemmas.run.RunStateCalls.{agree_still}
 
 -- NEW NAMES
 
--- whether this name is one of those listed, and not in use
+-- `is_asked j users u` is true if the name with index `u` is one of those listed, and not in use.
 abbrev is_asked : ScriptState → List ℕ → ℕ → Bool
 is_asked j users u = not (is_some (identity_of j (u + 1))) && is_listed users u
 
@@ -75,7 +73,7 @@ never false = refl
 count_none : (n : ℕ) (j : ScriptState) → count_to n (is_asked j []) ≡ 0
 count_none n j = count_same n (is_asked j []) (λ k. false) (λ k lt. never (not (is_some (identity_of j (k + 1))))) ∙ no_one n
 
--- that introducing these names creates an identity for each new name
+-- `Brings us` holds if introducing these names creates an identity for each new name.
 abbrev Brings : List ℕ → Type 0
 Brings us = (used : ℕ) (j : ScriptState) → j.first_unused ≡ used + 1 → j.identity_count + (reach used us - used) + count_to used (is_asked j us) ≤ (introduce_all (map (λ u. u + 1) us) j).identity_count
 
@@ -278,20 +276,20 @@ names_of_users ls = users_names ls ∙ sym (names_same ls)
 
 -- COMMANDS
 
-module _ {C : Type 0} (s t : Solver C) where
-  steps_same : t ≡ s → steps_in s ≡ steps_in t
-  steps_same e = ap (λ (x : Solver C). steps_in x) (sym e)
+module _ (s t : Solver) where
+  steps_same : t ≡ s → s.steps ≡ t.steps
+  steps_same e = ap (λ (x : Solver). x.steps) (sym e)
 
-  both_need : (users : List ℕ) → RefusedForRoom s t users → (j : ScriptState) (live : LiveVariables) → NamesAgree s.names (steps_in s) j live
-      → (var_limit < (introduce_all (map (λ u. u + 1) users) j).identity_count) × LacksVariables (steps_in t) (introduced_for (map (λ u. u + 1) users) j)
+  both_need : (users : List ℕ) → RefusedForRoom s t users → (j : ScriptState) (live : LiveVariables) → IsInState s j live
+      → (var_limit < (introduce_all (map (λ u. u + 1) users) j).identity_count) × LacksVariables t.steps (introduced_for (map (λ u. u + 1) users) j)
   both_need users h j live agree = (
-    all_need s.names (steps_in s) j live users agree h.0,
-    subst (λ steps. LacksVariables steps (introduced_for (map (λ u. u + 1) users) j)) (steps_same h.1) (lacks_variables s.names (steps_in s) j live users agree h.0),
+    all_need s.names s.steps j live users agree h.0,
+    subst (λ steps. LacksVariables steps (introduced_for (map (λ u. u + 1) users) j)) (steps_same h.1) (lacks_variables s.names s.steps j live users agree h.0),
   )
 
-  literals_need : (ls : List ℕ) → RefusedForRoom s t (user_vars_in ls) → (j : ScriptState) (live : LiveVariables) → NamesAgree s.names (steps_in s) j live
-      → (var_limit < (introduce_all (names_of (named_literals ls)) j).identity_count) × LacksVariables (steps_in t) (introduced_for (names_of (named_literals ls)) j)
-  literals_need ls h j live agree = subst (λ names. (var_limit < (introduce_all names j).identity_count) × LacksVariables (steps_in t) (introduced_for names j)) (names_of_users ls) (both_need (user_vars_in ls) h j live agree)
+  literals_need : (ls : List ℕ) → RefusedForRoom s t (user_vars_in ls) → (j : ScriptState) (live : LiveVariables) → IsInState s j live
+      → (var_limit < (introduce_all (names_of (named_literals ls)) j).identity_count) × LacksVariables t.steps (introduced_for (names_of (named_literals ls)) j)
+  literals_need ls h j live agree = subst (λ names. (var_limit < (introduce_all names j).identity_count) × LacksVariables t.steps (introduced_for names j)) (names_of_users ls) (both_need (user_vars_in ls) h j live agree)
 
   pub clause_needs : (ls : List ℕ) → RefusedForRoom s t (user_vars_in ls) → LacksFor s t (Clause (named_literals ls))
   clause_needs ls h j live agree = literals_need ls h j live agree
@@ -312,23 +310,23 @@ next_lacks state.Sampled names j steps first name following e h = record { first
 next_lacks state.Witnessed names j steps first name following e h = record { first = first; name = name; following = following; whole = e; lacks = h }
 
 -- a command lacks variables if one of its names does, after the names before it
-pub names_need_more : {C : Type 0} (seen : C → Writer) (st : NameState) (xs zs : List ℕ) (user : ℕ) (a b c : Solver C) → Obeyed seen (command_to st xs) a b → RefusedForRoom b c (user ∷ [])
+pub names_need_more : (st : NameState) (xs zs : List ℕ) (user : ℕ) (a b c : Solver) → Obeyed (command_to st xs) a b → RefusedForRoom b c (user ∷ [])
     → LacksFor a c (command_to st (xs ++ ((user + 1) ∷ zs)))
-names_need_more seen st xs zs user a b c done refused j live agree =
+names_need_more st xs zs user a b c done refused j live agree =
     let k = done.keeps j live agree in
     let mid = state_after_accepted (command_to st xs) j in
     let both = both_need b c (user ∷ []) refused mid k.0 k.1 in
     let h = one_needs st (user + 1) mid both.0 in
     let g = command_grows (command_to st zs) (state_after_accepted (command_to st ((user + 1) ∷ [])) mid) in (
       subst (λ i. var_limit < i.identity_count) (sym (accepted_both st xs ((user + 1) ∷ zs) j ∙ accepted_both st ((user + 1) ∷ []) zs mid)) (omega arith),
-      next_lacks st (xs ++ ((user + 1) ∷ zs)) j (steps_in c) xs (user + 1) zs refl both.1,
+      next_lacks st (xs ++ ((user + 1) ∷ zs)) j c.steps xs (user + 1) zs refl both.1,
     )
 
 -- if variables are missing when the assumptions of an ask are removed, the ask lacks variables
-pub none_needs : {C : Type 0} (seen : C → Writer) (a b c d : Solver C) (user : List ℕ) (budget : ℕ) (report : AskReport) → ReplacesAssumptions seen a b user → Searched seen budget report b c → RefusedForRoom c d []
+pub none_needs : (a b c d : Solver) (user : List ℕ) (budget : ℕ) (report : AskReport) → AssumptionsAccepted a b user → Searched budget report b c → RefusedForRoom c d []
     → LacksFor a d (Ask (named_literals user))
-none_needs seen a b c d user budget report opened s refused j live agree =
-    let n = agree_still seen a b c user budget report opened s j live agree in
+none_needs a b c d user budget report opened s refused j live agree =
+    let n = agree_still a b c user budget report opened s j live agree in
     let both = both_need c d [] refused (introduce_all (names_in user) j) n.0 n.1 in
-    subst (λ names. (var_limit < (introduce_all names j).identity_count) × LacksVariables (steps_in d) (introduced_for names j)) (sym (names_same user))
-    (both.0, lacks_more (steps_in d) (introduced_for [] (introduce_all (names_in user) j)) (introduced_for (names_in user) j) (omega arith) both.1)
+    subst (λ names. (var_limit < (introduce_all names j).identity_count) × LacksVariables d.steps (introduced_for names j)) (sym (names_same user))
+    (both.0, lacks_more d.steps (introduced_for [] (introduce_all (names_in user) j)) (introduced_for (names_in user) j) (omega arith) both.1)

@@ -4,19 +4,17 @@ use Rattle.std.proofs.lemmas.List.{append-nil}
 use Rattle.sat_base.specs.device.Device.{Writer}
 use Rattle.sat_base.specs.script.Script.{Command}
 use Rattle.sat_base.specs.script.ScriptState.{ScriptState, Refusal, state_after_accepted, after_command, refusal_of, initial_state}
-use Rattle.sat_solver.specs.variables.Calls.{NamesAgree}
-use Rattle.sat_solver.specs.session.Making.{ComesBySteps}
-use Rattle.sat_solver.specs.solver.Whole.{steps_in}
+use Rattle.sat_solver.specs.facade.Calls.{MakesSteps}
+use Rattle.sat_solver.specs.facade.View.{IsInState}
+use Rattle.sat_solver.proofs.lemmas.facade.Steps.{makes_none}
 use Rattle.certify.specs.declared.run.session.RunState.{RunState}
 use Rattle.certify.specs.answers.Answers.{refused_line}
 use Rattle.certify.specs.judge.Names.{NamesHaveState}
-use Rattle.sat_solver.specs.solver.View.{proof_in}
 use Rattle.certify.specs.run.SolverCalls.{IsReadySolver}
 use Rattle.certify.specs.run.Serving.{RunPlace, Serves}
 use Rattle.certify.specs.run.BetweenCommands.{NamesAllow, CarriedOut, RunGoesOn, HasStateBetweenCommands, AgreesWithState, Refused, ServedNext, place_in}
 use Rattle.sat_base.proofs.lemmas.script.ScriptStates.{accepted_kept, start_kept}
 use Rattle.certify.proofs.lemmas.run.ServedOnce.{serves_refused}
-use Rattle.certify.proofs.lemmas.run.RunStateCalls.{took_none}
 use Rattle.certify.specs.run.Quiet.{Solver}
 
 -- the run, with one more command counted
@@ -24,8 +22,8 @@ abbrev pub counted : {C : Type 0} → RunState C → RunState C
 counted s = record s { commands = s.commands + 1 }
 
 -- before the first command
-pub starts_at : {C : Type 0} (s : RunState C) → NamesAgree s.solver.names [] initial_state [] → steps_in s.solver ≡ [] → NamesHaveState s.names initial_state → HasStateBetweenCommands s initial_state
-starts_at s agree none names = record { live = []; means = record { agree = subst (λ steps. NamesAgree s.solver.names steps initial_state []) (sym none) agree; kept = start_kept }; names = names }
+pub starts_at : {C : Type 0} (s : RunState C) → IsInState s.solver initial_state [] → NamesHaveState s.names initial_state → HasStateBetweenCommands s initial_state
+starts_at s agree names = record { live = []; means = record { agree = agree; kept = start_kept }; names = names }
 
 pub after_accepted : (j : ScriptState) (c : Command) → refusal_of j c ≡ None → after_command c j ≡ state_after_accepted c j
 after_accepted j c e = rw e refl
@@ -33,15 +31,15 @@ after_accepted j c e = rw e refl
 after_refused : (j : ScriptState) (c : Command) (r : Refusal) → refusal_of j c ≡ Some r → after_command c j ≡ j
 after_refused j c r e = rw e refl
 
-module _ {C : Type 0} (seen : C → Writer) (old new : RunState C) (c : Command) (before after : Writer) (on : RunGoesOn old) where
+module _ {C : Type 0} (old new : RunState C) (c : Command) (before after : Writer) (on : RunGoesOn old) where
   -- the command was accepted
-  module _ (carried : CarriedOut seen (counted old) new c before after) (allowed : NamesAllow old.names c) (valid : (j : ScriptState) → NamesHaveState old.names j → NamesHaveState new.names (state_after_accepted c j)) where
+  module _ (carried : CarriedOut (counted old) new c before after) (allowed : NamesAllow old.names c) (valid : (j : ScriptState) → NamesHaveState old.names j → NamesHaveState new.names (state_after_accepted c j)) where
     taken_at : (j : ScriptState) → HasStateBetweenCommands old j → HasStateBetweenCommands new (state_after_accepted c j) × Serves old.budget (place_in old j) (place_in new (state_after_accepted c j)) (c ∷ []) carried.text carried.reports 0
     taken_at j at =
         let s = carried.serves j at.live at.means (allowed j at.names) in
         (record { live = s.0; means = record { agree = s.1; kept = accepted_kept c j (allowed j at.names) at.means.kept }; names = valid j at.names }, s.2)
 
-    pub taken_next : ServedNext seen old new c before after
+    pub taken_next : ServedNext old new c before after
     taken_next = record {
       goes_on = record {
         ready = carried.ready;
@@ -68,8 +66,8 @@ module _ {C : Type 0} (seen : C → Writer) (old new : RunState C) (c : Command)
     place_same : (j : ScriptState) → record (place_in old j) { number = old.commands + 1 + 1 } ≡ place_in new j
     place_same j = ap (λ (k : ℕ). at k old.solver) (sym (ap (λ (k : ℕ). k + 1) refused.commands)) ∙ ap (at (new.commands + 1)) (sym refused.solver)
       where
-        at : ℕ → Solver C → RunPlace
-        at k s = record { judge = j; number = k; steps = steps_in s; rounds = s.clock.rounds }
+        at : ℕ → Solver → RunPlace
+        at k s = record { judge = j; number = k; steps = s.steps; rounds = s.clock.rounds }
 
     refused_at : (j : ScriptState) → HasStateBetweenCommands old j → HasStateBetweenCommands new j × Serves old.budget (place_in old j) (place_in new j) (c ∷ []) (refused_line (old.commands + 1) why) [] 1
     refused_at j at = (
@@ -81,16 +79,16 @@ module _ {C : Type 0} (seen : C → Writer) (old new : RunState C) (c : Command)
       subst (λ p. Serves old.budget (place_in old j) p (c ∷ []) (refused_line (old.commands + 1) why) [] 1) (place_same j) (serves_refused old.budget (place_in old j) c why (denied j at.names)),
     )
 
-    pub refused_next : ServedNext seen old new c before after
+    pub refused_next : ServedNext old new c before after
     refused_next = record {
       goes_on = record {
         ready = subst IsReadySolver (sym refused.solver) on.ready;
-        free = ap (λ (s : Solver C). s.assumed.items) refused.solver ∙ on.free;
+        free = ap (λ (s : Solver). s.assumptions) refused.solver ∙ on.free;
         counted = let a = refused.refused in let b = refused.commands in let n = on.counted in omega arith;
         judge = on.judge;
         at = (refused_at on.judge on.at).0;
       };
-      took = subst (λ s. ComesBySteps seen (proof_in old.solver) (proof_in s)) (sym refused.solver) (took_none seen (proof_in old.solver));
+      took = subst (λ s. MakesSteps old.solver s) (sym refused.solver) (makes_none old.solver);
       commands = refused.commands;
       budget = refused.budget;
       text = refused_line (old.commands + 1) why;

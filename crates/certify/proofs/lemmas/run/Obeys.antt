@@ -1,30 +1,27 @@
 -- Commands that a solver carries out by itself.
 use Rattle.std.proofs.Common.{ℕ, ◌+◌, ◌<◌, ◌≡◌, ◌∙◌, Bool, List, [], ◌∷◌, ◌++◌, map, length, get_or, take, inl, inr, refl, sym, ap, subst, append_assoc}
 use Rattle.std.proofs.lemmas.List.{map-append, take_more}
-use Rattle.sat_base.specs.device.Device.{Writer}
 use Rattle.sat_base.specs.values.Literals.{variable}
 use Rattle.sat_base.specs.script.Script.{Clause, Among}
 use Rattle.sat_base.specs.script.ScriptState.{ScriptState, NameMode, Sampled, Witnessed, state_after_accepted, introduce, hide_all, new_names, set_all, with_mode, without_name}
 use Rattle.sat_base.specs.steps.Steps.{Step}
 use Rattle.sat_checker.specs.matching.Expected.{NewName, NoName, hiding, setting}
 use Rattle.sat_checker.specs.matching.ProofChecking.{checker_rules}
-use Rattle.sat_solver.specs.variables.Calls.{NamesAgree}
 use Rattle.sat_solver.specs.variables.Refusing.{names_in}
-use Rattle.sat_solver.specs.solver.Adding.{Added}
-use Rattle.sat_solver.specs.solver.Naming.{NameCallEffect}
-use Rattle.sat_solver.specs.solver.Whole.{steps_in}
+use Rattle.sat_solver.specs.facade.Calls.{MakesSteps}
+use Rattle.sat_solver.specs.facade.Naming.{NameCallEffect, OnlyMakes}
+use Rattle.sat_solver.specs.facade.View.{IsInState}
+use Rattle.sat_solver.proofs.lemmas.facade.Steps.{makes_more, makes_none}
 use Rattle.sat_solver.proofs.lemmas.session.ComingLemmas.{comes_both, comes_map, comes_none}
 use Rattle.certify.specs.answers.AnswerForms.{named_literals}
 use Rattle.certify.specs.declared.judge.NameState.{NameState}
 use Rattle.certify.specs.declared.judge.NameState.TheVariants as state
-use Rattle.sat_solver.specs.solver.View.{proof_in}
-use Rattle.certify.specs.run.SolverCalls.{IsReadySolver}
+use Rattle.certify.specs.run.SolverCalls.{ClauseAccepted, IsReadySolver}
 use Rattle.certify.specs.run.Obeying.{Obeyed, command_to, due_to, may_to}
 use Rattle.sat_checker.specs.matching.Traces.{HasTrace, no_step}
 use Rattle.certify.specs.run.Stretches.{IsNoAsk, IsCommandStep, due_for}
 use Rattle.certify.proofs.lemmas.run.ClauseServed.{clause_agrees, clause_stretch}
 use Rattle.sat_checker.proofs.lemmas.matching.Traces.{traces_both}
-use Rattle.certify.proofs.lemmas.run.RunStateCalls.{took_both, took_none}
 use Rattle.certify.specs.run.Quiet.{Solver}
 
 -- SOME NAMES, AND THEN OTHERS
@@ -110,72 +107,70 @@ name_more codes k code v within at e =
     let cut : take (k + 1) codes ≡ take k codes ++ (code ∷ []) = take_more codes k code within ∙ ap (λ (x : ℕ). take k codes ++ (x ∷ [])) (sym at) in
     ap (λ (x : ℕ). names_in (take k codes) ++ ((x + 1) ∷ [])) e ∙ sym (map-append (λ (l : ℕ). variable l + 1) (take k codes) (code ∷ [])) ∙ ap names_in (sym cut)
 
-module _ {C : Type 0} (seen : C → Writer) where
-  -- a name was hidden, or its mode was set
-  pub name_obeyed : (st : NameState) (name : ℕ) (a b : Solver C) → IsReadySolver b → NameCallEffect seen a b (state_after_accepted (command_to st (name ∷ []))) (due_to st (name ∷ [])) (may_to st name) → Obeyed seen (command_to st (name ∷ [])) a b
-  name_obeyed st name a b ready r = record {
-    ready = ready;
-    took = r.did.took;
-    assumed = r.assumed;
-    clock = r.clock;
-    keeps = λ j live agree.
-        let k = r.did.does.kept j live agree in
-        let u = checker_rules.unsat (steps_in a) in
-        let c = command_to st (name ∷ []) in (
-          k.live,
-          k.agree,
-          record {
-            due = subst (HasTrace checker_rules (steps_in a) (steps_in b)) (due_same st u (name ∷ []) j) k.trace;
-            comes = comes_map (may_to st name) (IsCommandStep c) (may_one st name) (steps_in a) (steps_in b) r.comes;
-          },
-        );
-  }
+-- a name was hidden, or its mode was set
+pub name_obeyed : (st : NameState) (name : ℕ) (a b : Solver) → IsReadySolver b → MakesSteps a b → NameCallEffect a b (state_after_accepted (command_to st (name ∷ []))) (due_to st (name ∷ [])) → OnlyMakes (may_to st name) a b → Obeyed (command_to st (name ∷ [])) a b
+name_obeyed st name a b ready took r steps = record {
+  ready = ready;
+  took = took;
+  assumed = r.same.assumed;
+  clock = r.same.clock;
+  keeps = λ j live agree.
+      let k = r.did.names j live agree in
+      let u = checker_rules.unsat a.steps in
+      let c = command_to st (name ∷ []) in (
+        k.live,
+        k.agree,
+        record {
+          due = subst (HasTrace checker_rules a.steps b.steps) (due_same st u (name ∷ []) j) k.trace;
+          comes = comes_map (may_to st name) (IsCommandStep c) (may_one st name) a.steps b.steps steps;
+        },
+      );
+}
 
-  pub none_obeyed : (st : NameState) (a : Solver C) → IsReadySolver a → Obeyed seen (command_to st []) a a
-  none_obeyed st a ready = record {
-    ready = ready;
-    took = took_none seen (proof_in a);
-    assumed = refl;
-    clock = refl;
-    keeps = λ j live agree. (
-      live,
-      subst (λ k. NamesAgree a.names (steps_in a) k live) (sym (none_accepted st j)) agree,
-      record {
-        due = subst (HasTrace checker_rules (steps_in a) (steps_in a)) (sym (none_due st (checker_rules.unsat (steps_in a)) j)) no_step;
-        comes = comes_none (IsCommandStep (command_to st [])) (steps_in a);
-      },
-    );
-  }
+pub none_obeyed : (st : NameState) (a : Solver) → IsReadySolver a → Obeyed (command_to st []) a a
+none_obeyed st a ready = record {
+  ready = ready;
+  took = makes_none a;
+  assumed = refl;
+  clock = refl;
+  keeps = λ j live agree. (
+    live,
+    subst (λ k. IsInState a k live) (sym (none_accepted st j)) agree,
+    record {
+      due = subst (HasTrace checker_rules a.steps a.steps) (sym (none_due st (checker_rules.unsat a.steps) j)) no_step;
+      comes = comes_none (IsCommandStep (command_to st [])) a.steps;
+    },
+  );
+}
 
-  pub names_obeyed : (st : NameState) (xs ys : List ℕ) (a b c : Solver C) → Obeyed seen (command_to st xs) a b → Obeyed seen (command_to st ys) b c → Obeyed seen (command_to st (xs ++ ys)) a c
-  names_obeyed st xs ys a b c f g = record {
-    ready = g.ready;
-    took = took_both seen (proof_in a) (proof_in b) (proof_in c) f.took g.took;
-    assumed = g.assumed ∙ f.assumed;
-    clock = g.clock ∙ f.clock;
-    keeps = λ j live agree.
-        let x = f.keeps j live agree in
-        let y = g.keeps (state_after_accepted (command_to st xs) j) x.0 x.1 in (
-          y.0,
-          subst (λ k. NamesAgree c.names (steps_in c) k y.0) (sym (accepted_both st xs ys j)) y.1,
-          record {
-            due = subst (HasTrace checker_rules (steps_in a) (steps_in c)) (sym (due_both st (checker_rules.unsat (steps_in a)) (checker_rules.unsat (steps_in b)) xs ys j)) (traces_both x.2.due y.2.due);
-            comes = comes_both (IsCommandStep (command_to st (xs ++ ys))) (steps_in a) (steps_in b) (steps_in c)
-                (comes_map (IsCommandStep (command_to st xs)) (IsCommandStep (command_to st (xs ++ ys))) (may_front st xs ys) (steps_in a) (steps_in b) x.2.comes)
-                (comes_map (IsCommandStep (command_to st ys)) (IsCommandStep (command_to st (xs ++ ys))) (may_back st xs ys) (steps_in b) (steps_in c) y.2.comes);
-          },
-        );
-  }
+pub names_obeyed : (st : NameState) (xs ys : List ℕ) (a b c : Solver) → Obeyed (command_to st xs) a b → Obeyed (command_to st ys) b c → Obeyed (command_to st (xs ++ ys)) a c
+names_obeyed st xs ys a b c f g = record {
+  ready = g.ready;
+  took = makes_more a b c f.took g.took;
+  assumed = g.assumed ∙ f.assumed;
+  clock = g.clock ∙ f.clock;
+  keeps = λ j live agree.
+      let x = f.keeps j live agree in
+      let y = g.keeps (state_after_accepted (command_to st xs) j) x.0 x.1 in (
+        y.0,
+        subst (λ k. IsInState c k y.0) (sym (accepted_both st xs ys j)) y.1,
+        record {
+          due = subst (HasTrace checker_rules a.steps c.steps) (sym (due_both st (checker_rules.unsat a.steps) (checker_rules.unsat b.steps) xs ys j)) (traces_both x.2.due y.2.due);
+          comes = comes_both (IsCommandStep (command_to st (xs ++ ys))) a.steps b.steps c.steps
+              (comes_map (IsCommandStep (command_to st xs)) (IsCommandStep (command_to st (xs ++ ys))) (may_front st xs ys) a.steps b.steps x.2.comes)
+              (comes_map (IsCommandStep (command_to st ys)) (IsCommandStep (command_to st (xs ++ ys))) (may_back st xs ys) b.steps c.steps y.2.comes);
+        },
+      );
+}
 
-  -- a clause was added
-  pub clause_obeyed : (user : List ℕ) (a b : Solver C) → IsReadySolver a → IsReadySolver b → Added seen a b user → Obeyed seen (Clause (named_literals user)) a b
-  clause_obeyed user a b before ready added = record {
-    ready = ready;
-    took = added.did.took;
-    assumed = added.assumed;
-    clock = added.clock;
-    keeps = λ j live agree.
-        let whole = before.solver before.going in
-        let then = clause_agrees seen a b user whole added j live agree in
-        (then.0, then.1, clause_stretch seen a b user whole added j live agree);
-  }
+-- a clause was added
+pub clause_obeyed : (user : List ℕ) (a b : Solver) → IsReadySolver a → ClauseAccepted a b user → Obeyed (Clause (named_literals user)) a b
+clause_obeyed user a b before accepted = record {
+  ready = accepted.ready;
+  took = accepted.took;
+  assumed = accepted.added.assumed;
+  clock = accepted.added.clock;
+  keeps = λ j live agree.
+      let then = clause_agrees a b user before.records accepted.added accepted.steps j live agree in
+      (then.0, then.1, clause_stretch a b user before.records accepted.added accepted.steps j live agree);
+}

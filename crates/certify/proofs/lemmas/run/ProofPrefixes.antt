@@ -1,5 +1,5 @@
 -- What the certificate's writer received, whichever call failed.
-use Rattle.std.proofs.Common.{◌≡◌, ◌∙◌, inl, inr, Some, Option, Ok, Err, List, [], ◌∷◌, ◌++◌, refl, sym, ap, subst, append-nil}
+use Rattle.std.proofs.Common.{◌≡◌, ◌∙◌, inl, inr, Some, Option, Err, List, [], ◌∷◌, ◌++◌, refl, sym, ap, subst, append-nil}
 use Rattle.std.proofs.Math.Logic.{∥∥₁_elim, ∥∥₁_prop}
 use Rattle.std.specs.Io.KnownBytes.{Appends}
 use Rattle.sat_base.specs.device.Device.{Writer}
@@ -9,21 +9,17 @@ use Rattle.sat_solver.specs.declared.error.SolverError.{SolverError}
 use Rattle.sat_solver.specs.declared.proof.format.ProofFormat.TheVariants.{Varisat}
 use Rattle.sat_solver.specs.proof.Checked.{has_begun}
 use Rattle.sat_solver.specs.proof.Prefixes.{PrefixText, TargetTakesPrefix}
-use Rattle.sat_solver.specs.session.Making.{ComesBySteps, BreaksEmitting}
 use Rattle.sat_solver.specs.proof.OutputView.{text_in}
 use Rattle.sat_solver.specs.proof.ProofTexts.{TookAcceptedSteps, TookText}
-use Rattle.sat_solver.specs.proof.ProofView.{Open, Target, TargetFails, TargetTakes, TakesAll, GivesWriter, target_of}
+use Rattle.sat_solver.specs.proof.ProofView.{Open, Target, TargetFails, TargetTakes, TakesAll, GivesWriter}
 use Rattle.sat_solver.specs.proof.Counting.{nothing_counted as uncounted}
 use Rattle.sat_solver.specs.session.Session.{AreAllowedSteps}
-use Rattle.sat_solver.specs.solver.Prefixes.{ReachesBySteps, ReturnsAcceptedPrefix}
-use Rattle.sat_solver.specs.solver.Proving.{ClosesProof}
-use Rattle.sat_solver.specs.solver.Whole.{steps_in}
+use Rattle.sat_solver.specs.facade.Proving.{ClosesText, IsCertificate, ReturnsAcceptedPrefix}
 use Rattle.sat_solver.proofs.lemmas.session.CutsLemmas.{cuts_are_free}
 use Rattle.sat_solver.proofs.lemmas.session.StepLemmas.{sessions_are_accepted}
-use Rattle.sat_solver.proofs.lemmas.session.PrefixLemmas.{went_added, went_failed, went_more}
-use Rattle.sat_solver.proofs.lemmas.solver.PrefixLemmas.{calls_go_on}
+use Rattle.sat_solver.proofs.lemmas.facade.LawLemmas.{calls_go_on}
+use Rattle.sat_solver.proofs.lemmas.facade.Steps.{reaches_more}
 use Rattle.certify.specs.run.Unfinished.{StepsPrefix}
-use Rattle.sat_solver.specs.solver.View.{proof_in}
 use Rattle.certify.specs.run.Ending.{GivesPrefix}
 use Rattle.certify.specs.run.Quiet.{Solver}
 
@@ -121,39 +117,29 @@ closed_front from given steps may t = (
   refl,
 )
 
-module _ {C : Type 0} (seen : C → Writer) where
-  -- THE STEPS THAT A SOLVER MADE
+-- THE RETURNED WRITER
 
-  pub went_took : (a b : Solver C) → ComesBySteps seen (proof_in a) (proof_in b) → ReachesBySteps seen a b
-  went_took a b t = went_added seen t.0 (proof_in a) (proof_in b) t.1
+-- the writer is returned without any further call
+pub returned_prefix : (s : Solver) (returned : Option Writer) (given : Writer) → returned ≡ Some given → ReturnsAcceptedPrefix returned s → GivesPrefix s given
+returned_prefix s returned given is h = record {
+  front = λ opened from open_then none went.
+      ∥∥₁_elim (h opened Varisat from given is open_then (ap has_begun none) went) ∥∥₁_prop (λ k. ∣ front_of from given k.steps k.front ∣₁);
+}
 
-  pub went_broke : (a b : Solver C) → BreaksEmitting seen (proof_in a) (proof_in b) → ReachesBySteps seen a b
-  went_broke a b t = went_failed seen t.0 (proof_in a) (proof_in b) t.1
+-- the writer is returned after closing the proof failed
+pub front_after : (s new : Solver) (given : Writer) (e : SolverError) → ClosesText (Err e) s new → GivesPrefix new given → GivesPrefix s given
+front_after s new given e h g = record {
+  front = λ opened from open_then none went.
+      g.front opened from open_then none (reaches_more opened s new went ((calls_go_on s new).closing_fails e h));
+}
 
-  -- THE RETURNED WRITER
-
-  -- the writer is returned without any further call
-  pub returned_prefix : (s : Solver C) (returned : Option C) (given : C) → returned ≡ Some given → ReturnsAcceptedPrefix seen returned s → GivesPrefix seen s given
-  returned_prefix s returned given is h = record {
-    front = λ opened from open_then none went.
-        ∥∥₁_elim (h opened Varisat from given is open_then (ap has_begun none) went) ∥∥₁_prop (λ k. ∣ front_of from (seen given) k.steps k.front ∣₁);
-  }
-
-  -- the writer is returned after closing the proof failed
-  pub front_after : (s new : Solver C) (given : C) (e : SolverError) → ClosesProof seen (Err e) s new → GivesPrefix seen new given → GivesPrefix seen s given
-  front_after s new given e h g = record {
-    front = λ opened from open_then none went.
-        g.front opened from open_then none (went_more seen (proof_in opened) (proof_in s) (proof_in new) went ((calls_go_on seen s new).closing_fails e h));
-  }
-
-  -- the writer is returned after the proof was closed
-  pub front_closed : (s new : Solver C) (given : C) → ClosesProof seen (Ok (Some given)) s new → GivesPrefix seen s given
-  front_closed s new given h = record {
-    front = λ opened from open_then none went.
-        let now = target_of seen (proof_in s) in
-        let follows = subst (λ (t : Target). TargetTakesPrefix t went.steps now) open_then went.target in
-        elim follows [
-          | inl k ↦ ∣ whole_of from (seen given) (steps_in new) (h.certificate Varisat from [] refl (record { steps = went.steps; following = went.history ∙ ap (λ (xs : List Step). went.steps ++ xs) none; target = k })) ∣₁
-          | inr k ↦ absurd (subst (λ (t : Target). TakesAll t (End ∷ []) (seen given)) k.3.1 h.closes.takes)
-        ];
-  }
+-- the writer is returned after the proof was closed
+pub front_closed : (s new : Solver) (given : Writer) → TakesAll s.target (End ∷ []) given → IsCertificate given s new → GivesPrefix s given
+front_closed s new given takes certificate = record {
+  front = λ opened from open_then none went.
+      let follows = subst (λ (t : Target). TargetTakesPrefix t went.steps s.target) open_then went.target in
+      elim follows [
+        | inl k ↦ ∣ whole_of from given new.steps (certificate Varisat from [] refl (record { steps = went.steps; following = went.history ∙ ap (λ (xs : List Step). went.steps ++ xs) none; target = k })) ∣₁
+        | inr k ↦ absurd (subst (λ (t : Target). TakesAll t (End ∷ []) given) k.3.1 takes)
+      ];
+}

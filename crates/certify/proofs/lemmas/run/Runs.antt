@@ -14,13 +14,13 @@ use Rattle.sat_checker.specs.matching.ProofChecking.{checker_rules}
 use Rattle.sat_solver.specs.declared.proof.format.ProofFormat.TheVariants.{Varisat}
 use Rattle.sat_solver.specs.proof.Counting.{nothing_counted as uncounted}
 use Rattle.sat_solver.specs.declared.proof.hash_bits.Counting.{Counting}
-use Rattle.sat_solver.specs.session.Making.{ComesBySteps, BreaksEmitting}
 use Rattle.sat_solver.specs.proof.OutputView.{text_in}
 use Rattle.sat_solver.specs.proof.ProofTexts.{TookText}
-use Rattle.sat_solver.specs.proof.ProofView.{Closed, Open, Broken, TargetTakes, TargetFails, GivesWriter, TakesAll, is_open, steps_of, target_of}
+use Rattle.sat_solver.specs.proof.ProofView.{Closed, Open, Broken, TargetTakes, TargetFails, GivesWriter, TakesAll, is_open}
 use Rattle.sat_solver.specs.session.Session.{AreAllowedSteps}
-use Rattle.sat_solver.specs.solver.Prefixes.{ReachesBySteps}
-use Rattle.sat_solver.specs.solver.Whole.{HasFullStore, steps_in}
+use Rattle.sat_solver.specs.facade.Calls.{HasFullStore, MakesSteps, ReachesBySteps}
+use Rattle.sat_solver.specs.facade.Recording.{BreaksWriting}
+use Rattle.sat_solver.proofs.lemmas.facade.Steps.{breaks_later, makes_more, reaches_broken, reaches_made}
 use Rattle.sat_solver.proofs.lemmas.session.CutsLemmas.{cuts_are_free}
 use Rattle.sat_solver.proofs.lemmas.session.ProofLemmas.{closed_is_text}
 use Rattle.sat_solver.proofs.lemmas.session.StepLemmas.{sessions_are_accepted}
@@ -39,7 +39,6 @@ use Rattle.certify.specs.run.FinishedRun.{WritesAnswers, AnswersRightly, Certifi
 use Rattle.certify.specs.run.Running.{ReadsFew, FinishesOrFaults, WritesRun}
 use Rattle.certify.specs.run.Stopping.{StopsServing}
 use Rattle.certify.specs.run.Unfinished.{CounterEnds, Exceeds, ExceedsWritten, StepsPrefix, Stopped, StoppedRun, TookSteps}
-use Rattle.sat_solver.specs.solver.View.{proof_in}
 use Rattle.certify.specs.run.SolverCalls.{IsCaused, FaultSays, IsReadySolver}
 use Rattle.certify.specs.run.Lacking.{OneLacks}
 use Rattle.certify.specs.run.Certifies.{Certifies, complete, ordered}
@@ -54,16 +53,16 @@ use Rattle.certify.proofs.lemmas.confirm.Streams.{faulted_front, gave_enough, pa
 use Rattle.certify.proofs.lemmas.confirm.Joining.{covers_given, took_kept}
 use Rattle.certify.proofs.lemmas.laws.Headlines.{same_reports}
 use Rattle.certify.proofs.lemmas.run.MadeCertifies.{made_certifies}
-use Rattle.certify.proofs.lemmas.run.ProofPrefixes.{broken_front, carried_front, closed_front, went_broke, went_took}
-use Rattle.certify.proofs.lemmas.run.RunStateCalls.{broke_later, took_both}
+use Rattle.certify.proofs.lemmas.run.ProofPrefixes.{broken_front, carried_front, closed_front}
 use Rattle.certify.proofs.lemmas.run.Stopping.{stops_whole}
 use Rattle.certify.proofs.lemmas.run.Written.{written_certifies}
-use Rattle.certify.specs.run.Quiet.{Proof}
+use Rattle.certify.specs.run.Quiet.{Solver}
 
--- that the run is before its first command, and its certificate is written to this writer
-pub record IsNew {C : Type 0} (seen : C → Writer) (budget : ℕ) (certificate : Writer) (s : RunState C) : Type 0 where
-  pub steps : steps_in s.solver ≡ []
-  pub target : target_of seen (proof_in s.solver) ≡ Open Varisat uncounted (empty_sink certificate)
+-- `IsNew budget certificate s` holds if the run is before its first command, and its certificate is written to this
+-- writer.
+pub record IsNew {C : Type 0} (budget : ℕ) (certificate : Writer) (s : RunState C) : Type 0 where
+  pub steps : s.solver.steps ≡ []
+  pub target : s.solver.target ≡ Open Varisat uncounted (empty_sink certificate)
   pub rounds : s.solver.clock.rounds ≡ 0
   pub budget_is : s.budget ≡ budget
   pub commands : s.commands ≡ 0
@@ -82,25 +81,25 @@ fresh_source seen r a e f = rw (e, f) refl
 some_same : (a b : Writer) → ◌≡◌ {A = Option Writer} (Some a) (Some b) → a ≡ b
 some_same a b e = cc
 
-module _ {C : Type 0} (seen : C → Writer) (w : Writer) (p q : Proof C) (opened_at : target_of seen p ≡ Open Varisat uncounted (empty_sink w)) where
+module _ (w : Writer) (p q : Solver) (opened_at : p.target ≡ Open Varisat uncounted (empty_sink w)) where
   -- the target received the steps that were made since
-  carried : (t : ComesBySteps seen p q) → TargetTakes (Open Varisat uncounted (empty_sink w)) t.0 (target_of seen q)
-  carried t = subst (λ x. TargetTakes x t.0 (target_of seen q)) opened_at t.1.target
+  carried : (t : MakesSteps p q) → TargetTakes (Open Varisat uncounted (empty_sink w)) t.steps q.target
+  carried t = subst (λ x. TargetTakes x t.steps q.target) opened_at t.target
 
-  stopped : (t : BreaksEmitting seen p q) → TargetFails (Open Varisat uncounted (empty_sink w)) t.0 (target_of seen q)
-  stopped t = subst (λ x. TargetFails x t.0 (target_of seen q)) opened_at t.1.target
+  stopped : (t : BreaksWriting p q) → TargetFails (Open Varisat uncounted (empty_sink w)) t.steps q.target
+  stopped t = subst (λ x. TargetFails x t.steps q.target) opened_at t.target
 
-  pub took_open_target : ComesBySteps seen p q → is_open (target_of seen q) ≡ true
+  pub took_open_target : MakesSteps p q → is_open q.target ≡ true
   took_open_target t = ap is_open (carried t).2
 
-  pub took_target : ComesBySteps seen p q → (c : Counting) → target_of seen q ≡ Closed c → ⊥
-  took_target t c e = let x : is_open (target_of seen q) ≡ true = took_open_target t in let y : is_open (Closed c) ≡ true = subst (λ z. is_open z ≡ true) e x in absurd (cc)
+  pub took_target : MakesSteps p q → (c : Counting) → q.target ≡ Closed c → ⊥
+  took_target t c e = let x : is_open q.target ≡ true = took_open_target t in let y : is_open (Closed c) ≡ true = subst (λ z. is_open z ≡ true) e x in absurd (cc)
 
-  pub broke_target : BreaksEmitting seen p q → (c : Counting) → target_of seen q ≡ Closed c → ⊥
+  pub broke_target : BreaksWriting p q → (c : Counting) → q.target ≡ Closed c → ⊥
   broke_target t c e = let x : Broken (stopped t).0 ≡ Closed c = sym (stopped t).1 ∙ e in absurd (cc)
 
   -- if all steps were written, no call of the returned writer failed
-  pub given_none : (given : Writer) → ComesBySteps seen p q → GivesWriter (target_of seen q) (Some given) → NoneFailed w given
+  pub given_none : (given : Writer) → MakesSteps p q → GivesWriter q.target (Some given) → NoneFailed w given
   given_none given t g =
       let c = carried t in
       let e : given ≡ c.1.writer = some_same given c.1.writer (subst (λ x. GivesWriter x (Some given)) c.2 g) in
@@ -108,7 +107,7 @@ module _ {C : Type 0} (seen : C → Writer) (w : Writer) (p q : Proof C) (opened
       (ap (λ x. x.failures) e ∙ k.failures, ap (λ x. x.loans) e ∙ k.loans)
 
   -- if writing a step failed, exactly one call of the returned writer failed
-  pub given_one : (given : Writer) → BreaksEmitting seen p q → GivesWriter (target_of seen q) (Some given) → OneFailed w given
+  pub given_one : (given : Writer) → BreaksWriting p q → GivesWriter q.target (Some given) → OneFailed w given
   given_one given t g =
       let c = stopped t in
       let e : given ≡ c.0 = some_same given c.0 (subst (λ x. GivesWriter x (Some given)) c.1 g) in
@@ -116,20 +115,20 @@ module _ {C : Type 0} (seen : C → Writer) (w : Writer) (p q : Proof C) (opened
       (ap (λ x. x.failures) e ∙ k.failures, ap (λ x. x.failed) e ∙ k.failed, ap (λ x. x.loans) e ∙ k.loans)
 
   -- if the proof was closed, the returned writer received the complete text
-  pub closed_text : (given : Writer) (t : ComesBySteps seen p q) → TakesAll (target_of seen q) (End ∷ []) given → TookText Varisat w given (End ∷ t.0)
-  closed_text given t g = closed_is_text Varisat w given t.0 End (target_of seen q) (carried t) g
+  pub closed_text : (given : Writer) (t : MakesSteps p q) → TakesAll q.target (End ∷ []) given → TookText Varisat w given (End ∷ t.steps)
+  closed_text given t g = closed_is_text Varisat w given t.steps End q.target (carried t) g
 
 -- A RUN THAT WAS FINISHED
 
-module _ {C : Type 0} (seen : C → Writer) (budget : ℕ) (w : Writer) (s t : RunState C) (fresh : IsNew seen budget w s) (text : List ℕ) (at : Option ℕ) (summary : Summary) (given : C) (u v z : Writer)
-    (serves : ServesWhole seen initial_state (reading text) (length (plain_reading text).0) at s t u v) (closed : ClosedBy seen t.solver given) (took : WriterAccepts v z []) (sums : SumsUp at t summary) where
-  made_all : steps_in t.solver ≡ serves.took.0
-  made_all = serves.took.1.history ∙ ap (λ xs. serves.took.0 ++ xs) fresh.steps ∙ append-nil serves.took.0
+module _ {C : Type 0} (budget : ℕ) (w : Writer) (s t : RunState C) (fresh : IsNew budget w s) (text : List ℕ) (at : Option ℕ) (summary : Summary) (given u v z : Writer)
+    (serves : ServesWhole initial_state (reading text) (length (plain_reading text).0) at s t u v) (closed : ClosedBy t.solver given) (took : WriterAccepts v z []) (sums : SumsUp at t summary) where
+  made_all : t.solver.steps ≡ serves.took.steps
+  made_all = serves.took.history ∙ ap (λ xs. serves.took.steps ++ xs) fresh.steps ∙ append-nil serves.took.steps
 
-  text_of : TookText Varisat w (seen given) (End ∷ serves.took.0)
-  text_of = closed_text seen w (proof_in s.solver) (proof_in t.solver) fresh.target (seen given) serves.took closed.takes
+  text_of : TookText Varisat w given (End ∷ serves.took.steps)
+  text_of = closed_text w s.solver t.solver fresh.target given serves.took closed.takes
 
-  may : AreAllowedSteps (End ∷ serves.took.0)
+  may : AreAllowedSteps (End ∷ serves.took.steps)
   may = subst (λ (xs : List Step). AreAllowedSteps (End ∷ xs)) made_all closed.may
 
   asks_are : summary.asks.items ≡ serves.reports
@@ -153,17 +152,17 @@ module _ {C : Type 0} (seen : C → Writer) (budget : ℕ) (w : Writer) (s t : R
         (subst (λ n. AreWithinBudget n 0 given serves.reports) fresh.budget_is (subst (λ n. AreWithinBudget s.budget n given serves.reports) fresh.rounds serves.serves.spent));
   }
 
-  followed : ServesCommands initial_state [] (steps_in t.solver) (accepted_commands initial_state (reading text).0) serves.serves.outcomes (rounds_of_asks serves.reports)
-  followed = subst (λ (xs : List Step). ServesCommands initial_state xs (steps_in t.solver) (accepted_commands initial_state (reading text).0) serves.serves.outcomes (rounds_of_asks serves.reports)) fresh.steps serves.serves.follows
+  followed : ServesCommands initial_state [] t.solver.steps (accepted_commands initial_state (reading text).0) serves.serves.outcomes (rounds_of_asks serves.reports)
+  followed = subst (λ (xs : List Step). ServesCommands initial_state xs t.solver.steps (accepted_commands initial_state (reading text).0) serves.serves.outcomes (rounds_of_asks serves.reports)) fresh.steps serves.serves.follows
 
-  certified_made : Certifies checker_rules (End ∷ serves.took.0) None [] (expected initial_state (accepted_commands initial_state (reading text).0) serves.serves.outcomes) (rounds_of_asks serves.reports)
+  certified_made : Certifies checker_rules (End ∷ serves.took.steps) None [] (expected initial_state (accepted_commands initial_state (reading text).0) serves.serves.outcomes) (rounds_of_asks serves.reports)
   certified_made =
-      let all = End ∷ serves.took.0 in
-      let last : Certifies checker_rules all None (steps_in t.solver) (Finish ∷ []) [] = subst (λ (xs : List Step). Certifies checker_rules all None xs (Finish ∷ []) []) (sym made_all) (ordered tt finish complete) in
+      let all = End ∷ serves.took.steps in
+      let last : Certifies checker_rules all None t.solver.steps (Finish ∷ []) [] = subst (λ (xs : List Step). Certifies checker_rules all None xs (Finish ∷ []) []) (sym made_all) (ordered tt finish complete) in
       made_certifies all followed (subst AreAllowedSteps (sym made_all) may.0) last
 
-  follows : ServesCommands initial_state [] serves.took.0 (accepted_commands initial_state (reading text).0) serves.serves.outcomes (rounds_of_asks summary.asks.items)
-  follows = subst (λ rs. ServesCommands initial_state [] serves.took.0 (accepted_commands initial_state (reading text).0) serves.serves.outcomes (rounds_of_asks rs)) (sym asks_are)
+  follows : ServesCommands initial_state [] serves.took.steps (accepted_commands initial_state (reading text).0) serves.serves.outcomes (rounds_of_asks summary.asks.items)
+  follows = subst (λ rs. ServesCommands initial_state [] serves.took.steps (accepted_commands initial_state (reading text).0) serves.serves.outcomes (rounds_of_asks rs)) (sym asks_are)
       (subst (λ (xs : List Step). ServesCommands initial_state [] xs (accepted_commands initial_state (reading text).0) serves.serves.outcomes (rounds_of_asks serves.reports)) made_all followed)
 
   guarantee : CertificateGuarantee text budget summary serves.text (text_in Varisat text_of.written)
@@ -171,10 +170,10 @@ module _ {C : Type 0} (seen : C → Writer) (budget : ℕ) (w : Writer) (s t : R
     is_answered = is_answered;
     steps = text_of.written;
     certificate = text_of.spells refl;
-    accepted = (sessions_are_accepted text_of.written (cuts_are_free (End ∷ serves.took.0) text_of.written text_of.counting text_of.cuts may).may).0;
+    accepted = (sessions_are_accepted text_of.written (cuts_are_free (End ∷ serves.took.steps) text_of.written text_of.counting text_of.cuts may).may).0;
     certifies = subst (λ rs. Certifies checker_rules text_of.written None [] (expected initial_state (accepted_commands initial_state (reading text).0) serves.serves.outcomes) (rounds_of_asks rs)) (sym asks_are)
-        (written_certifies (End ∷ serves.took.0) text_of.written text_of.counting (expected initial_state (accepted_commands initial_state (reading text).0) serves.serves.outcomes) (rounds_of_asks serves.reports) text_of.cuts may certified_made);
-    made = serves.took.0;
+        (written_certifies (End ∷ serves.took.steps) text_of.written text_of.counting (expected initial_state (accepted_commands initial_state (reading text).0) serves.serves.outcomes) (rounds_of_asks serves.reports) text_of.cuts may certified_made);
+    made = serves.took.steps;
     follows = follows;
     counting = text_of.counting;
     cuts = text_of.cuts;
@@ -182,7 +181,7 @@ module _ {C : Type 0} (seen : C → Writer) (budget : ℕ) (w : Writer) (s t : R
     keeps = λ hides. none_deletes follows text_of.cuts hides may.0;
   }
 
-  pub wrote_text : WritesRun text budget summary (u, z) (w, seen given)
+  pub wrote_text : WritesRun text budget summary (u, z) (w, given)
   wrote_text = record {
     answered = serves.text;
     certified = text_in Varisat text_of.written;
@@ -191,10 +190,10 @@ module _ {C : Type 0} (seen : C → Writer) (budget : ℕ) (w : Writer) (s t : R
     guarantee = guarantee;
   }
 
-  pub flushed_text : (seen given).flushed ≡ true
+  pub flushed_text : given.flushed ≡ true
   flushed_text = text_of.flushed
 
-  pub none_certified : NoneFailed w (seen given)
+  pub none_certified : NoneFailed w given
   none_certified = (text_of.takes.failures, text_of.takes.loans)
 
 -- HOW A RUN ENDS
@@ -205,58 +204,59 @@ none_both u v w n m = (m.0 ∙ n.0, m.1 ∙ n.1)
 one_both : (u v w : Writer) → NoneFailed u v → OneFailed v w → OneFailed u w
 one_both u v w n m = (let a = n.0 in let b = m.0 in omega arith, m.1, m.2 ∙ n.1)
 
-module _ {C : Type 0} (seen : C → Writer) (budget : ℕ) (w : Writer) (s t : RunState C) (fresh : IsNew seen budget w s) (x : Reader) (b : Source) (bounded : b.reads ≤ most_reads) (given : C) (u v z : Writer) where
+module _ {C : Type 0} (budget : ℕ) (w : Writer) (s t : RunState C) (fresh : IsNew budget w s) (x : Reader) (b : Source) (bounded : b.reads ≤ most_reads) (given u v z : Writer) where
   -- the script was served, but the run could not be ended
-  ended_fault : (e : RunFault) (at : Option ℕ) → ServesScript seen initial_state reading plain_reading (Ok at) (new_source x) b s t u v → FaultSays e (OneFailed v z × ClosedBy seen t.solver given) (NoneFailed v z × GivenBack seen BreaksEmitting t.solver given) (NoneFailed v z × GivenBack seen ComesBySteps t.solver given)
-      → FinishesOrFaults (Err e) budget (x, b.reader) (u, z) (w, seen given)
+  ended_fault : (e : RunFault) (at : Option ℕ) → ServesScript initial_state reading plain_reading (Ok at) (new_source x) b s t u v → FaultSays e (OneFailed v z × ClosedBy t.solver given) (NoneFailed v z × GivenBack BreaksWriting t.solver given) (NoneFailed v z × GivenBack MakesSteps t.solver given)
+      → FinishesOrFaults (Err e) budget (x, b.reader) (u, z) (w, given)
   ended_fault fault.ScriptRead at h f = absurd f
   ended_fault fault.AnswersWrite at h f =
       let k = h.2 b.reader.given (covers_given b) in
-      let text = closed_text seen w (proof_in s.solver) (proof_in t.solver) fresh.target (seen given) k.took f.1.takes in
+      let text = closed_text w s.solver t.solver fresh.target given k.took f.1.takes in
       ((took_kept false (new_source x) b h.0).0, one_both u v z (k.written.failures, k.written.loans) f.0, (text.takes.failures, text.takes.loans))
   ended_fault fault.CertificateWrite at h f =
       let k = h.2 b.reader.given (covers_given b) in
-      ((took_kept false (new_source x) b h.0).0, none_both u v z (k.written.failures, k.written.loans) f.0, given_one seen w (proof_in s.solver) f.1.proof fresh.target (seen given) (broke_later seen (proof_in s.solver) (proof_in t.solver) f.1.proof k.took f.1.goes) f.1.gives)
+      ((took_kept false (new_source x) b h.0).0, none_both u v z (k.written.failures, k.written.loans) f.0, given_one w s.solver f.1.last fresh.target given (breaks_later s.solver t.solver f.1.last k.took f.1.goes) f.1.gives)
   ended_fault fault.OutOfMemory at h f =
       let k = h.2 b.reader.given (covers_given b) in
-      ((took_kept false (new_source x) b h.0).0, none_both u v z (k.written.failures, k.written.loans) f.0, given_none seen w (proof_in s.solver) f.1.proof fresh.target (seen given) (took_both seen (proof_in s.solver) (proof_in t.solver) f.1.proof k.took f.1.goes) f.1.gives)
+      ((took_kept false (new_source x) b h.0).0, none_both u v z (k.written.failures, k.written.loans) f.0, given_none w s.solver f.1.last fresh.target given (makes_more s.solver t.solver f.1.last k.took f.1.goes) f.1.gives)
   ended_fault fault.StoreFull at h f =
       let k = h.2 b.reader.given (covers_given b) in
-      ((took_kept false (new_source x) b h.0).0, none_both u v z (k.written.failures, k.written.loans) f.0, given_none seen w (proof_in s.solver) f.1.proof fresh.target (seen given) (took_both seen (proof_in s.solver) (proof_in t.solver) f.1.proof k.took f.1.goes) f.1.gives)
+      ((took_kept false (new_source x) b h.0).0, none_both u v z (k.written.failures, k.written.loans) f.0, given_none w s.solver f.1.last fresh.target given (makes_more s.solver t.solver f.1.last k.took f.1.goes) f.1.gives)
   ended_fault fault.CounterEnd at h f =
       let k = h.2 b.reader.given (covers_given b) in
-      ((took_kept false (new_source x) b h.0).0, none_both u v z (k.written.failures, k.written.loans) f.0, given_none seen w (proof_in s.solver) f.1.proof fresh.target (seen given) (took_both seen (proof_in s.solver) (proof_in t.solver) f.1.proof k.took f.1.goes) f.1.gives)
+      ((took_kept false (new_source x) b h.0).0, none_both u v z (k.written.failures, k.written.loans) f.0, given_none w s.solver f.1.last fresh.target given (makes_more s.solver t.solver f.1.last k.took f.1.goes) f.1.gives)
 
   -- the script was not served to its end
-  served_fault : (e : RunFault) → FailsWhole seen e (new_source x) b s.solver t.solver u v → z ≡ v → GivesWriter (target_of seen (proof_in t.solver)) (Some (seen given)) → FinishesOrFaults (Err e) budget (x, b.reader) (u, z) (w, seen given)
-  served_fault fault.ScriptRead h same g = (read_fails x b h.0.0 bounded h.0.1, subst (NoneFailed u) (sym same) h.1, given_none seen w (proof_in s.solver) (proof_in t.solver) fresh.target (seen given) h.2 g)
-  served_fault fault.AnswersWrite h same g = (h.0.1.failures, subst (OneFailed u) (sym same) h.1, given_none seen w (proof_in s.solver) (proof_in t.solver) fresh.target (seen given) h.2 g)
-  served_fault fault.CertificateWrite h same g = (h.0.1.failures, subst (NoneFailed u) (sym same) h.1, given_one seen w (proof_in s.solver) (proof_in t.solver) fresh.target (seen given) h.2 g)
-  served_fault e h same g = (h.0.1.failures, subst (NoneFailed u) (sym same) h.1, given_none seen w (proof_in s.solver) (proof_in t.solver) fresh.target (seen given) h.2 g)
+  served_fault : (e : RunFault) → FailsWhole e (new_source x) b s.solver t.solver u v → z ≡ v → GivesWriter t.solver.target (Some given) → FinishesOrFaults (Err e) budget (x, b.reader) (u, z) (w, given)
+  served_fault fault.ScriptRead h same g = (read_fails x b h.0.0 bounded h.0.1, subst (NoneFailed u) (sym same) h.1, given_none w s.solver t.solver fresh.target given h.2 g)
+  served_fault fault.AnswersWrite h same g = (h.0.1.failures, subst (OneFailed u) (sym same) h.1, given_none w s.solver t.solver fresh.target given h.2 g)
+  served_fault fault.CertificateWrite h same g = (h.0.1.failures, subst (NoneFailed u) (sym same) h.1, given_one w s.solver t.solver fresh.target given h.2 g)
+  served_fault e h same g = (h.0.1.failures, subst (NoneFailed u) (sym same) h.1, given_none w s.solver t.solver fresh.target given h.2 g)
 
-  pub runs_so : (served : Result (Option ℕ) RunFault) (r : Result Summary RunFault) → ServesScript seen initial_state reading plain_reading served (new_source x) b s t u v → EndsRun seen served r t given v z → FinishesOrFaults r budget (x, b.reader) (u, z) (w, seen given)
+  -- a run that served its script and ended is finished, or failed
+  pub runs_so : (served : Result (Option ℕ) RunFault) (r : Result Summary RunFault) → ServesScript initial_state reading plain_reading served (new_source x) b s t u v → EndsRun served r t given v z → FinishesOrFaults r budget (x, b.reader) (u, z) (w, given)
   runs_so (Ok at) (Ok summary) h f =
       let k = h.2 b.reader.given (covers_given b) in
       let all = rest_in b.reader.given (new_source x) in
-      let n = none_certified seen budget w s t fresh all at summary given u v z k f.0.0 f.0.1 f.1 in
+      let n = none_certified budget w s t fresh all at summary given u v z k f.0.0 f.0.1 f.1 in
       record {
-        wrote = gave_enough x b h.0.0.0 (λ text. WritesRun text budget summary (u, z) (w, seen given)) h.0.0.1 h.0.1
-            (λ total c. wrote_text seen budget w s t fresh (rest_in total (new_source x)) at summary given u v z (h.2 total c) f.0.0 f.0.1 f.1);
+        wrote = gave_enough x b h.0.0.0 (λ text. WritesRun text budget summary (u, z) (w, given)) h.0.0.1 h.0.1
+            (λ total c. wrote_text budget w s t fresh (rest_in total (new_source x)) at summary given u v z (h.2 total c) f.0.0 f.0.1 f.1);
         read = (took_kept false (new_source x) b h.0).0;
         answered = none_both u v z (k.written.failures, k.written.loans) (f.0.1.failures, f.0.1.loans);
         certified = n;
         answers_flushed = f.0.2;
-        certificate_flushed = flushed_text seen budget w s t fresh all at summary given u v z k f.0.0 f.0.1 f.1;
+        certificate_flushed = flushed_text budget w s t fresh all at summary given u v z k f.0.0 f.0.1 f.1;
       }
   runs_so (Ok at) (Err e) h f = ended_fault e at h f.0
-  runs_so (Err e) r h f = subst (λ (q : Result Summary RunFault). FinishesOrFaults q budget (x, b.reader) (u, z) (w, seen given)) (sym f.0) (served_fault e h.0 f.1 f.2)
+  runs_so (Err e) r h f = subst (λ (q : Result Summary RunFault). FinishesOrFaults q budget (x, b.reader) (u, z) (w, given)) (sym f.0) (served_fault e h.0 f.1 f.2)
 
   -- before the first command
   abbrev start : RunPlace
   start = record { judge = initial_state; number = 1; steps = []; rounds = 0 }
 
   starts : place_in s initial_state ≡ start
-  starts = ap (λ (k : ℕ). at k (steps_in s.solver) s.solver.clock.rounds) fresh.commands ∙ ap (λ (xs : List Step). at 0 xs s.solver.clock.rounds) fresh.steps ∙ ap (at 0 []) fresh.rounds
+  starts = ap (λ (k : ℕ). at k s.solver.steps s.solver.clock.rounds) fresh.commands ∙ ap (λ (xs : List Step). at 0 xs s.solver.clock.rounds) fresh.steps ∙ ap (at 0 []) fresh.rounds
     where
       at : ℕ → List Step → ℕ → RunPlace
       at k xs n = record { judge = initial_state; number = k + 1; steps = xs; rounds = n }
@@ -264,12 +264,12 @@ module _ {C : Type 0} (seen : C → Writer) (budget : ℕ) (w : Writer) (s t : R
   from_start : (script : Reading) (to : List Step) (v : Writer) → StopsServing s.budget (place_in s initial_state) script to u v → StopsServing budget start script to u v
   from_start script to v k = subst (λ (n : ℕ). StopsServing n start script to u v) fresh.budget_is (subst (λ (p : RunPlace). StopsServing s.budget p script to u v) starts k)
 
-  -- that the certificate's writer received a prefix of the text of these steps and possibly later ones
+  -- `Shown to` holds if the certificate's writer received a prefix of the text of these steps and possibly later ones.
   abbrev Shown : List Step → Type 0
-  Shown to = ∥ ((k : StepsPrefix w (seen given)) × (later : List Step) × (k.made ≡ later ++ to)) ∥₁
+  Shown to = ∥ ((k : StepsPrefix w given) × (later : List Step) × (k.made ≡ later ++ to)) ∥₁
 
   -- the steps of the answered asks are among them
-  stopped_run : (text : List ℕ) (to : List Step) → StopsServing budget start (reading text) to u z → Shown to → StoppedRun budget text (u, z) (w, seen given)
+  stopped_run : (text : List ℕ) (to : List Step) → StopsServing budget start (reading text) to u z → Shown to → StoppedRun budget text (u, z) (w, given)
   stopped_run text to h shown = record {
     answered = h.took;
     certified = ∥∥₁_elim shown ∥∥₁_prop (λ k.
@@ -288,120 +288,123 @@ module _ {C : Type 0} (seen : C → Writer) (budget : ℕ) (w : Writer) (s t : R
         serves = f.serves;
       }
 
-  made_since : (q : Proof C) (xs : List Step) → steps_of q ≡ xs ++ steps_in s.solver → steps_of q ≡ xs
+  made_since : (q : Solver) (xs : List Step) → q.steps ≡ xs ++ s.solver.steps → q.steps ≡ xs
   made_since q xs e = e ∙ ap (λ ys. xs ++ ys) fresh.steps ∙ append-nil xs
 
   -- the certificate's writer received a prefix of the text of the steps that were made
-  made_by : (q : Proof C) → ComesBySteps seen (proof_in s.solver) q → GivesWriter (target_of seen q) (Some (seen given)) → ∥ ((k : StepsPrefix w (seen given)) × (k.made ≡ steps_of q)) ∥₁
-  made_by q took gives =
-      let all = made_since q took.0 took.1.history in
-      ∥∥₁_elim q.made.may ∥∥₁_prop (λ may.
-      let front = carried_front w (seen given) took.0 (target_of seen q) (subst AreAllowedSteps all may) (carried seen w (proof_in s.solver) q fresh.target took) gives in
+  made_by : (q : Solver) → ∥ AreAllowedSteps q.steps ∥₁ → MakesSteps s.solver q → GivesWriter q.target (Some given) → ∥ ((k : StepsPrefix w given) × (k.made ≡ q.steps)) ∥₁
+  made_by q allowed took gives =
+      let all = made_since q took.steps took.history in
+      ∥∥₁_elim allowed ∥∥₁_prop (λ may.
+      let front = carried_front w given took.steps q.target (subst AreAllowedSteps all may) (carried w s.solver q fresh.target took) gives in
       ∣ (front.0, front.1 ∙ sym all) ∣₁)
 
-  -- the same if a call of it failed
-  broken_by : (q : Proof C) → BreaksEmitting seen (proof_in s.solver) q → GivesWriter (target_of seen q) (Some (seen given)) → ∥ ((k : StepsPrefix w (seen given)) × (k.made ≡ steps_of q)) ∥₁
-  broken_by q broke gives =
-      let all = made_since q broke.0 broke.1.history in
-      ∥∥₁_elim q.made.may ∥∥₁_prop (λ may.
-      let front = broken_front w (seen given) broke.0 (target_of seen q) (subst AreAllowedSteps all may) (stopped seen w (proof_in s.solver) q fresh.target broke) gives in
+  -- what the writer received, if a call of it failed
+  broken_by : (q : Solver) → ∥ AreAllowedSteps q.steps ∥₁ → BreaksWriting s.solver q → GivesWriter q.target (Some given) → ∥ ((k : StepsPrefix w given) × (k.made ≡ q.steps)) ∥₁
+  broken_by q allowed broke gives =
+      let all = made_since q broke.steps broke.history in
+      ∥∥₁_elim allowed ∥∥₁_prop (λ may.
+      let front = broken_front w given broke.steps q.target (subst AreAllowedSteps all may) (stopped w s.solver q fresh.target broke) gives in
       ∣ (front.0, front.1 ∙ sym all) ∣₁)
 
-  shown_so : (q : Proof C) (to later : List Step) → steps_of q ≡ later ++ to → ∥ ((k : StepsPrefix w (seen given)) × (k.made ≡ steps_of q)) ∥₁ → Shown to
+  shown_so : (q : Solver) (to later : List Step) → q.steps ≡ later ++ to → ∥ ((k : StepsPrefix w given) × (k.made ≡ q.steps)) ∥₁ → Shown to
   shown_so q to later e h = ∥∥₁_elim h ∥∥₁_prop (λ k. ∣ (k.0, later, k.1 ∙ e) ∣₁)
 
   -- the script was not served to its end
-  served_shown : (e : RunFault) → FailsWhole seen e (new_source x) b s.solver t.solver u v → GivesWriter (target_of seen (proof_in t.solver)) (Some (seen given)) → Shown (steps_in t.solver)
-  served_shown fault.CertificateWrite h g = shown_so (proof_in t.solver) (steps_in t.solver) [] refl (broken_by (proof_in t.solver) h.2 g)
-  served_shown e h g = shown_so (proof_in t.solver) (steps_in t.solver) [] refl (made_by (proof_in t.solver) h.2 g)
+  served_shown : (e : RunFault) → FailsWhole e (new_source x) b s.solver t.solver u v → GivesWriter t.solver.target (Some given) → ∥ AreAllowedSteps t.solver.steps ∥₁ → Shown t.solver.steps
+  served_shown fault.CertificateWrite h g allowed = shown_so t.solver t.solver.steps [] refl (broken_by t.solver allowed h.2 g)
+  served_shown e h g allowed = shown_so t.solver t.solver.steps [] refl (made_by t.solver allowed h.2 g)
 
   -- the script was served, but the run could not be ended
-  ended_shown : (e : RunFault) → ComesBySteps seen (proof_in s.solver) (proof_in t.solver) → FaultSays e (OneFailed v z × ClosedBy seen t.solver given) (NoneFailed v z × GivenBack seen BreaksEmitting t.solver given) (NoneFailed v z × GivenBack seen ComesBySteps t.solver given) → Shown (steps_in t.solver)
+  ended_shown : (e : RunFault) → MakesSteps s.solver t.solver → FaultSays e (OneFailed v z × ClosedBy t.solver given) (NoneFailed v z × GivenBack BreaksWriting t.solver given) (NoneFailed v z × GivenBack MakesSteps t.solver given) → Shown t.solver.steps
   ended_shown fault.ScriptRead took f = absurd f
   ended_shown fault.AnswersWrite took f =
-      let all = made_since (proof_in t.solver) took.0 took.1.history in
-      let k = closed_front w (seen given) (End ∷ took.0) (subst (λ (xs : List Step). AreAllowedSteps (End ∷ xs)) all f.1.may) (closed_text seen w (proof_in s.solver) (proof_in t.solver) fresh.target (seen given) took f.1.takes) in
+      let all = made_since t.solver took.steps took.history in
+      let k = closed_front w given (End ∷ took.steps) (subst (λ (xs : List Step). AreAllowedSteps (End ∷ xs)) all f.1.may) (closed_text w s.solver t.solver fresh.target given took f.1.takes) in
       ∣ (k.0, End ∷ [], k.1 ∙ ap (λ (xs : List Step). End ∷ xs) (sym all)) ∣₁
   ended_shown fault.CertificateWrite took f =
       let g = f.1 in
-      shown_so g.proof (steps_in t.solver) g.goes.0 g.goes.1.history (broken_by g.proof (broke_later seen (proof_in s.solver) (proof_in t.solver) g.proof took g.goes) g.gives)
+      shown_so g.last t.solver.steps g.goes.steps g.goes.history (broken_by g.last g.may (breaks_later s.solver t.solver g.last took g.goes) g.gives)
   ended_shown e took f =
       let g = f.1 in
-      shown_so g.proof (steps_in t.solver) g.goes.0 g.goes.1.history (made_by g.proof (took_both seen (proof_in s.solver) (proof_in t.solver) g.proof took g.goes) g.gives)
+      shown_so g.last t.solver.steps g.goes.steps g.goes.history (made_by g.last g.may (makes_more s.solver t.solver g.last took g.goes) g.gives)
 
-  served_front : (e : RunFault) → FailsWhole seen e (new_source x) b s.solver t.solver u v → ((total : List ℕ) → Covers b total → StoppedRun budget (rest_in total (new_source x)) (u, z) (w, seen given)) → Stopped budget (x, b.reader) (u, z) (w, seen given)
-  served_front fault.ScriptRead h f = faulted_front x b h.0.0 (λ text. StoppedRun budget text (u, z) (w, seen given)) h.0.1 f
-  served_front e h f = passed_front 1 x b h.0.0 (λ text. StoppedRun budget text (u, z) (w, seen given)) h.0.1 f
+  served_front : (e : RunFault) → FailsWhole e (new_source x) b s.solver t.solver u v → ((total : List ℕ) → Covers b total → StoppedRun budget (rest_in total (new_source x)) (u, z) (w, given)) → Stopped budget (x, b.reader) (u, z) (w, given)
+  served_front fault.ScriptRead h f = faulted_front x b h.0.0 (λ text. StoppedRun budget text (u, z) (w, given)) h.0.1 f
+  served_front e h f = passed_front 1 x b h.0.0 (λ text. StoppedRun budget text (u, z) (w, given)) h.0.1 f
 
-  pub stopped_so : (served : Result (Option ℕ) RunFault) (r : Result Summary RunFault) → ServesScript seen initial_state reading plain_reading served (new_source x) b s t u v → EndsRun seen served r t given v z → OnErr r (Stopped budget (x, b.reader) (u, z) (w, seen given))
+  -- a run that failed wrote prefixes of correct answers and of its certificate
+  pub stopped_so : (served : Result (Option ℕ) RunFault) (r : Result Summary RunFault) → ServesScript initial_state reading plain_reading served (new_source x) b s t u v → EndsRun served r t given v z → OnErr r (Stopped budget (x, b.reader) (u, z) (w, given))
   stopped_so (Ok at) (Ok summary) h f = tt
   stopped_so (Ok at) (Err e) h f =
       let shown = ended_shown e (h.2 b.reader.given (covers_given b)).took f.0 in
-      passed_front 1 x b h.0.0.0 (λ text. StoppedRun budget text (u, z) (w, seen given)) h.0.0.1
+      passed_front 1 x b h.0.0.0 (λ text. StoppedRun budget text (u, z) (w, given)) h.0.0.1
       (λ total k.
       let all = h.2 total k in
       let text = rest_in total (new_source x) in
-      stopped_run text (steps_in t.solver)
-      (from_start (reading text) (steps_in t.solver) z (stops_whole s.budget (place_in s initial_state) (reading text) (steps_in t.solver) all.text all.reports all.refused u v z all.serves all.written f.1)) shown)
+      stopped_run text t.solver.steps
+      (from_start (reading text) t.solver.steps z (stops_whole s.budget (place_in s initial_state) (reading text) t.solver.steps all.text all.reports all.refused u v z all.serves all.written f.1)) shown)
   stopped_so (Err e) r h f =
-      let shown = served_shown e h.0 f.2 in
-      subst (λ (q : Result Summary RunFault). OnErr q (Stopped budget (x, b.reader) (u, z) (w, seen given))) (sym f.0)
+      let shown = served_shown e h.0 f.2 f.3 in
+      subst (λ (q : Result Summary RunFault). OnErr q (Stopped budget (x, b.reader) (u, z) (w, given))) (sym f.0)
       (served_front e h.0 (λ total k.
       let text = rest_in total (new_source x) in
-      stopped_run text (steps_in t.solver) (from_start (reading text) (steps_in t.solver) z (subst (StopsServing s.budget (place_in s initial_state) (reading text) (steps_in t.solver) u) (sym f.1) (h.1 total k))) shown))
+      stopped_run text t.solver.steps (from_start (reading text) t.solver.steps z (subst (StopsServing s.budget (place_in s initial_state) (reading text) t.solver.steps u) (sym f.1) (h.1 total k))) shown))
 
   -- the reason if a counter has ended
-  served_end : (e : RunFault) → e ≡ fault.CounterEnd → FailsWhole seen e (new_source x) b s.solver t.solver u v → GivesWriter (target_of seen (proof_in t.solver)) (Some (seen given))
-      → IsCaused e (HasFullStore t.solver) ((total : List ℕ) → Covers b total → Exceeds s.commands initial_state (reading (rest_in total (new_source x))) (steps_in t.solver)) → CounterEnds (x, b.reader) (w, seen given)
-  served_end fault.CounterEnd q h gives k =
-      let front = made_by (proof_in t.solver) h.2 gives in
-      passed_front 1 x b h.0.0 (λ text. ExceedsWritten (reading text) (w, seen given)) h.0.1
+  served_end : (e : RunFault) → e ≡ fault.CounterEnd → FailsWhole e (new_source x) b s.solver t.solver u v → GivesWriter t.solver.target (Some given) → ∥ AreAllowedSteps t.solver.steps ∥₁
+      → IsCaused e (HasFullStore t.solver) ((total : List ℕ) → Covers b total → Exceeds s.commands initial_state (reading (rest_in total (new_source x))) t.solver.steps) → CounterEnds (x, b.reader) (w, given)
+  served_end fault.CounterEnd q h gives allowed k =
+      let front = made_by t.solver allowed h.2 gives in
+      passed_front 1 x b h.0.0 (λ text. ExceedsWritten (reading text) (w, given)) h.0.1
       (λ total y.
-      elim (subst (λ n. Exceeds n initial_state (reading (rest_in total (new_source x))) (steps_in t.solver)) fresh.commands (k total y)) [
+      elim (subst (λ n. Exceeds n initial_state (reading (rest_in total (new_source x))) t.solver.steps) fresh.commands (k total y)) [
         | inl many ↦ inl (omega arith)
         | inr (needs, one) ↦ inr (∥∥₁_elim front ∥∥₁_prop (λ f. ∣ (f.0, needs, subst (OneLacks initial_state (reading (rest_in total (new_source x))).0) (sym f.1) one) ∣₁))
       ])
-  served_end e q h gives k = absurd (cc)
+  served_end e q h gives allowed k = absurd (cc)
 
-  pub counter_so : (served : Result (Option ℕ) RunFault) (r : Result Summary RunFault) → ServesScript seen initial_state reading plain_reading served (new_source x) b s t u v → EndsRun seen served r t given v z → IsErrOf r fault.CounterEnd → CounterEnds (x, b.reader) (w, seen given)
+  -- a counter ended only if the script exceeds a limit
+  pub counter_so : (served : Result (Option ℕ) RunFault) (r : Result Summary RunFault) → ServesScript initial_state reading plain_reading served (new_source x) b s t u v → EndsRun served r t given v z → IsErrOf r fault.CounterEnd → CounterEnds (x, b.reader) (w, given)
   counter_so (Ok at) (Ok summary) h f q = absurd (cc)
   counter_so (Ok at) (Err e) h f q = let k : e ≡ fault.CounterEnd = cc in absurd (subst (λ i. IsCaused i ⊥ ⊥) k f.2)
-  counter_so (Err e) r h f q = let k : ◌≡◌ {A = Result Summary RunFault} (Err e) (Err fault.CounterEnd) = sym f.0 ∙ q in served_end e (cc) h.0 f.2 h.2
+  counter_so (Err e) r h f q = let k : ◌≡◌ {A = Result Summary RunFault} (Err e) (Err fault.CounterEnd) = sym f.0 ∙ q in served_end e (cc) h.0 f.2 f.3 h.2
 
   -- a run that failed reached the solver's state by steps
-  fails_went : (e : RunFault) → FailsWhole seen e (new_source x) b s.solver t.solver u v → ReachesBySteps seen s.solver t.solver
-  fails_went fault.CertificateWrite h = went_broke seen s.solver t.solver h.2
-  fails_went e h = went_took seen s.solver t.solver h.2
+  fails_went : (e : RunFault) → FailsWhole e (new_source x) b s.solver t.solver u v → ReachesBySteps s.solver t.solver
+  fails_went fault.CertificateWrite h = reaches_broken s.solver t.solver h.2
+  fails_went e h = reaches_made s.solver t.solver h.2
 
-  pub steps_so : (served : Result (Option ℕ) RunFault) → ServesScript seen initial_state reading plain_reading served (new_source x) b s t u v → GivesPrefix seen t.solver given → TookSteps (w, seen given)
-  steps_so (Ok at) h g = g.front s.solver w fresh.target fresh.steps (went_took seen s.solver t.solver (h.2 b.reader.given (covers_given b)).took)
+  -- whatever happens, the certificate's writer received a prefix of steps
+  pub steps_so : (served : Result (Option ℕ) RunFault) → ServesScript initial_state reading plain_reading served (new_source x) b s t u v → GivesPrefix t.solver given → TookSteps (w, given)
+  steps_so (Ok at) h g = g.front s.solver w fresh.target fresh.steps (reaches_made s.solver t.solver (h.2 b.reader.given (covers_given b)).took)
   steps_so (Err e) h g = g.front s.solver w fresh.target fresh.steps (fails_went e h.0)
 
   few_by : b.reader.calls + 0 ≡ x.calls + b.reads → ReadsFew (x, b.reader)
   few_by e = omega arith
 
-  few_faults : (e : RunFault) → FailsWhole seen e (new_source x) b s.solver t.solver u v → ReadsFew (x, b.reader)
+  few_faults : (e : RunFault) → FailsWhole e (new_source x) b s.solver t.solver u v → ReadsFew (x, b.reader)
   few_faults fault.ScriptRead h = few_by h.0.1.calls
   few_faults e h = few_by h.0.1.calls
 
-  pub reads_few : (served : Result (Option ℕ) RunFault) → ServesScript seen initial_state reading plain_reading served (new_source x) b s t u v → ReadsFew (x, b.reader)
+  pub reads_few : (served : Result (Option ℕ) RunFault) → ServesScript initial_state reading plain_reading served (new_source x) b s t u v → ReadsFew (x, b.reader)
   reads_few (Ok at) h = few_by (took_kept false (new_source x) b h.0).1
   reads_few (Err e) h = few_faults e h.0
 
   -- the target isn't closed yet
-  fails_some : (e : RunFault) → FailsWhole seen e (new_source x) b s.solver t.solver u v → HasTarget seen t.solver
-  fails_some fault.CertificateWrite h = broke_target seen w (proof_in s.solver) (proof_in t.solver) fresh.target h.2
-  fails_some e h = took_target seen w (proof_in s.solver) (proof_in t.solver) fresh.target h.2
+  fails_some : (e : RunFault) → FailsWhole e (new_source x) b s.solver t.solver u v → HasTarget t.solver
+  fails_some fault.CertificateWrite h = broke_target w s.solver t.solver fresh.target h.2
+  fails_some e h = took_target w s.solver t.solver fresh.target h.2
 
-  pub has_target : (served : Result (Option ℕ) RunFault) → ServesScript seen initial_state reading plain_reading served (new_source x) b s t u v → HasTarget seen t.solver
-  has_target (Ok at) h = took_target seen w (proof_in s.solver) (proof_in t.solver) fresh.target (h.2 b.reader.given (covers_given b)).took
+  pub has_target : (served : Result (Option ℕ) RunFault) → ServesScript initial_state reading plain_reading served (new_source x) b s t u v → HasTarget t.solver
+  has_target (Ok at) h = took_target w s.solver t.solver fresh.target (h.2 b.reader.given (covers_given b)).took
   has_target (Err e) h = fails_some e h.0
 
-  pub is_open_yet : (served : Result (Option ℕ) RunFault) → ServesScript seen initial_state reading plain_reading served (new_source x) b s t u v → OnOk served (HasOpenTarget seen t.solver)
-  is_open_yet (Ok at) h = took_open_target seen w (proof_in s.solver) (proof_in t.solver) fresh.target (h.2 b.reader.given (covers_given b)).took
+  pub is_open_yet : (served : Result (Option ℕ) RunFault) → ServesScript initial_state reading plain_reading served (new_source x) b s t u v → OnOk served (HasOpenTarget t.solver)
+  is_open_yet (Ok at) h = took_open_target w s.solver t.solver fresh.target (h.2 b.reader.given (covers_given b)).took
   is_open_yet (Err e) h = tt
 
-  pub is_ready : (served : Result (Option ℕ) RunFault) → ServesScript seen initial_state reading plain_reading served (new_source x) b s t u v → OnOk served (IsReadySolver t.solver)
+  pub is_ready : (served : Result (Option ℕ) RunFault) → ServesScript initial_state reading plain_reading served (new_source x) b s t u v → OnOk served (IsReadySolver t.solver)
   is_ready (Ok at) h = h.1
   is_ready (Err e) h = tt
 
@@ -478,7 +481,7 @@ unlent_front a b given back k = record {
 unlent_steps : (a b : Writer) (given back : ℕ) → TookSteps (lent_writer given a, lent_writer back b) → TookSteps (a, b)
 unlent_steps a b given back h = ∥∥₁_elim h ∥∥₁_prop (λ (k : StepsPrefix (lent_writer given a) (lent_writer back b)). ∣ unlent_front a b given back k ∣₁)
 
--- the same for the steps that the writer received
+-- once a lent writer is returned, the steps that it received are those that its owner received
 pub steps_lent : {C : Type 0} (seen : C → Writer) (budget : ℕ) (x y : Reader) (u z : Writer) (a c v : C) (given back : ℕ) → (given ≡ back → c ≡ v) → (r : Result Summary RunFault)
     → FinishesOrFaults r budget (x, y) (u, z) (lent_writer given (seen a), lent_writer back (seen v)) → TookSteps (lent_writer given (seen a), lent_writer back (seen v)) → TookSteps (seen a, seen c)
 steps_lent seen budget x y u z a c v given back same r h k =
@@ -490,7 +493,7 @@ unfolding unlent_front
 unlent_exceeds script a b given back (inl many) = inl many
 unlent_exceeds script a b given back (inr h) = inr (∥∥₁_elim h ∥∥₁_prop (λ k. ∣ (unlent_front a b given back k.0, k.1, k.2) ∣₁))
 
--- the same for the reason why a counter has ended
+-- once a lent writer is returned, the reason why a counter has ended holds for it
 pub counter_lent : {C : Type 0} (seen : C → Writer) (budget : ℕ) (x y : Reader) (u z : Writer) (a c v : C) (given back : ℕ) → (given ≡ back → c ≡ v) → (r : Result Summary RunFault)
     → FinishesOrFaults r budget (x, y) (u, z) (lent_writer given (seen a), lent_writer back (seen v)) → CounterEnds (x, y) (lent_writer given (seen a), lent_writer back (seen v)) → CounterEnds (x, y) (seen a, seen c)
 counter_lent seen budget x y u z a c v given back same r h k =
@@ -508,7 +511,7 @@ unlent_run budget text u z a b given back h = record {
   certified = ∥∥₁_elim h.certified ∥∥₁_prop (λ k. ∣ record { front = unlent_front a b given back k.front; follows = k.follows; learns = k.learns } ∣₁);
 }
 
--- the same for what an unfinished run wrote
+-- once a lent writer is returned, what an unfinished run wrote is what it received
 pub stopped_lent : {C : Type 0} (seen : C → Writer) (budget : ℕ) (x y : Reader) (u z : Writer) (a c v : C) (given back : ℕ) → (given ≡ back → c ≡ v) → (r : Result Summary RunFault)
     → FinishesOrFaults r budget (x, y) (u, z) (lent_writer given (seen a), lent_writer back (seen v)) → OnErr r (Stopped budget (x, y) (u, z) (lent_writer given (seen a), lent_writer back (seen v))) → OnErr r (Stopped budget (x, y) (u, z) (seen a, seen c))
 stopped_lent seen budget x y u z a c v given back same (Ok s) h k = tt

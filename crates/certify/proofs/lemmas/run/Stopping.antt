@@ -274,7 +274,7 @@ stops_whole budget a script to text rs k u v w f t b = record {
   serves = record { first = script.0; left = []; whole = sym (append-nil script.0); mid = to; later = []; steps = refl; serves = f.follows };
 }
 
--- the same for another number of the next command, if the answers do not depend on it
+-- the number of the next command can be another one, if the answers do not depend on it
 pub stops_as : (budget : ℕ) (a : RunPlace) (number : ℕ) (script : Reading) (to : List Step) (u v : Writer)
     → ((others : List Outcome) → answers_from number a.judge script.0 script.1 others ≡ answers_from a.number a.judge script.0 script.1 others) → StopsServing budget a script to u v
     → StopsServing budget (record a { number = number }) script to u v

@@ -30,7 +30,7 @@ IsPlain hides step = Unit {0}
 abbrev ArePlain : Bool → List Step → Type 0
 ArePlain hides = AllByRecursion (IsPlain hides)
 
--- that the expected step is no end, and removes no name unless hiding is allowed
+-- `Spares hides e` holds if the expected step is no end, and removes no name unless hiding is allowed.
 abbrev Spares : Bool → Expected → Type 0
 Spares hides (NoName name) = hides ≡ true
 Spares hides Finish = ⊥
@@ -39,7 +39,7 @@ Spares hides e = Unit {0}
 abbrev AllSpare : Bool → List Expected → Type 0
 AllSpare hides = AllByRecursion (Spares hides)
 
--- that the command hides no name, unless hiding is allowed
+-- `Allows hides command` holds if the command hides no name, unless hiding is allowed.
 abbrev Allows : Bool → Command → Type 0
 Allows hides (Hide (name ∷ names)) = hides ≡ true
 Allows hides command = Unit {0}
@@ -235,7 +235,7 @@ cuts_delete (ask_begun k) = cuts_delete k
 cuts_delete (one_made {d = d} {made = made} {written = written} step keeps k) =
     narrowed_delete (counted step d).bits step made (width_change d.bits (counted step d).bits ++ written) (change_delete d.bits (counted step d).bits written ∙ cuts_delete k)
 
--- that none of the steps is an `End`
+-- `GoOn steps` holds if none of the steps is an `End`.
 abbrev GoOn : List Step → Type 0
 GoOn = AllByRecursion (λ step. step ≢ End)
 
@@ -260,7 +260,7 @@ cuts_go_on (ask_begun k) h = cuts_go_on k h
 cuts_go_on (one_made {d = d} {written = written} step keeps k) h =
     (narrowed_goes_on (counted step d).bits step h.0, reported_goes_on d.bits (counted step d).bits written (cuts_go_on k h.1))
 
--- that the last step is an `End`, and no other step is
+-- `EndsWith steps` holds if the last step is an `End`, and no other step is.
 pub record EndsWith (steps : List Step) : Type 0 where
   pub before : List Step
   pub last : steps ≡ End ∷ before

@@ -16,7 +16,8 @@ use Rattle.certify.proofs.lemmas.run.Recorded.{recorded_at}
 
 -- STEP BY STEP
 
--- That steps so far, and what was written for them at this width, continue to all steps and all that was written.
+-- `Narrows made written width all_made all_written` holds if the steps `made` so far, and what was written for them at
+-- this width, continue to all steps and all that was written.
 data Narrows : List Step → List Step → ℕ → List Step → List Step → Type 0 where
   all_narrowed : {made written : List Step} {width : ℕ} → Narrows made written width made written
   same_width : {e w made written : List Step} {width : ℕ} (step : Step) → KeepsWidth step → Narrows (step ∷ e) (narrowed width step ∷ w) width made written → Narrows e w width made written
@@ -101,6 +102,7 @@ module _ (e w : List Step) (width : ℕ) (p : IsNarrowedTo e w width) (may : Are
   names_same : variable_of w ≡ variable_of e
   names_same = fun_ext (variable_written p)
 
+  -- unsat is recorded after the written steps if it is after the steps that were made
   pub recorded_same : IsRecorded checker_rules e → IsRecorded checker_rules w
   recorded_same r = recorded_at w at.may (unsat_same ∙ r.recorded)
 
@@ -113,6 +115,7 @@ module _ (e w : List Step) (width : ℕ) (p : IsNarrowedTo e w width) (may : Are
   set_same : (ls : _) (c : List ℕ) → SameSet (variable_of e) ls c → SameSet (variable_of w) ls c
   set_same ls c = subst (λ f. SameSet f ls c) (sym names_same)
 
+  -- a step that fits an expected one fits it as written
   pub fits_same : (bits : ℕ) (x : Expected) (step : Step) → Fits (checker_rules.knows e) e x step → Fits (checker_rules.knows w) w x (narrowed bits step)
   fits_same bits x step (new_name {v = v} h k) = new_name h (known_not v k)
   fits_same bits x step (no_name {name = name} h) = no_name (ap (λ f. f name) names_same ∙ h)
@@ -192,5 +195,6 @@ transferred may {e = e} {w = w} {width = width} p n (answered {step = step} {o =
     let may_here = may_front n may in
     t.skips_widths es Closes (Some o) counts (answered (λ u. k (sym (unsat_same e (t.widths ++ w) t.now t.before may_here) ∙ u)) (fits_same e (t.widths ++ w) t.now t.before may_here t.now Closes step s) (transferred may t.following t.next c))
 
+-- the written steps certify what the steps that were made do
 pub written_certifies : (made written : List Step) (c : _) (es : List Expected) (counts : List ℕ) → TruncatesHashes nothing_counted made written c → AreAllowedSteps made → Certifies checker_rules made None [] es counts → Certifies checker_rules written None [] es counts
 written_certifies made written c es counts p may h = transferred may none_yet (narrows refl p all_narrowed) h

@@ -22,6 +22,7 @@ use Rattle.certify.proofs.lemmas.script.Tokens.{fails}
 abbrev pub reader : Tokenizer → Commands → ScriptReader
 reader tokenizer commands = record { tokenizer = tokenizer; commands = commands }
 
+-- bytes that complete no token leave the reader at its place
 pub bytes_go : (old : ScriptReader) (bytes : List ℕ) (next : Tokenizer) → ReceivesPrefix old.tokenizer bytes None next → (asks : Bool) → Follows (MeansIf asks) old bytes (reader next old.commands)
 bytes_go old bytes next t asks before m =
     let h = t m.scan_of m.valid in (
@@ -30,6 +31,7 @@ bytes_go old bytes next t asks before m =
       λ rest. m.reads (bytes ++ rest) ∙ ap (λ (s : Scan). remaining_reading asks old.commands m.hand (without_lines s.tokens)) (h.2 rest),
     )
 
+-- bytes that complete a token have its effect
 pub bytes_take : (r : Reached) (old : ScriptReader) (bytes : List ℕ) (t : CodeToken) (next : Tokenizer) (new : Commands) → ReceivesPrefix old.tokenizer bytes (Some t) next
     → ((given : Token) → t ≡ capped_token given → TakesToken r old.commands given new) → TakesBytes r old bytes (reader next new)
 bytes_take reached.More old bytes t next new k r = λ asks before m.
@@ -94,6 +96,7 @@ no_more xs n k h i = let l = length-take (length xs - n) (drop n xs) in omega ar
 pub front_and : (n k : ℕ) (xs : List ℕ) → n ≤ length xs → k ≤ length (take (length xs - n) (drop n xs)) → take (n + k) xs ≡ take n xs ++ take k (take (length xs - n) (drop n xs))
 front_and n k xs h i = take-add n k xs ∙ ap (λ (ys : List ℕ). take n xs ++ ys) (sym (take-take k (length xs - n) (drop n xs) (let l = length-take (length xs - n) (drop n xs) in omega arith)))
 
+-- a prefix of the bytes and what follows it have the effect of both
 pub followed_front : (r : Reached) (a b c : ScriptReader) (xs : List ℕ) (n k : ℕ) → n ≤ length xs → k ≤ length (take (length xs - n) (drop n xs)) → ((asks : Bool) → Follows (MeansIf asks) a (take n xs) b)
     → TakesBytes r b (take k (take (length xs - n) (drop n xs))) c → TakesBytes r a (take (n + k) xs) c
 followed_front r a b c xs n k h i f t =

@@ -148,6 +148,7 @@ few_written text = one_past (command_count (plain_reading text)) (length (withou
 two_past : (a b c : ℕ) → a ≤ b + 1 → b ≤ c + 1 → a ≤ c + 2
 two_past a b c h k = omega arith
 
+-- a text has at most two commands more than bytes
 pub few_read : (text : List ℕ) → command_count (reading text) ≤ length text + 2
 unfolding reading
 few_read text = two_past (command_count (reading text)) (command_count (plain_reading text)) (length text) (few_asked (is_some (dimacs_header text)) (plain_reading text)) (few_written text)

@@ -98,6 +98,7 @@ gave_on start a b text fresh none all gave loans known g =
       loans = loans ∙ g.loans;
     }
 
+-- a reader that reads on has given no chunk too many
 pub stops_on : (start : Reader) (s : Source) (r : ScriptReader) → ReadsOn start s r → StopsReading start s.reader
 stops_on start s r h = (h.text ++ s.waiting, h.front, h.last)
 

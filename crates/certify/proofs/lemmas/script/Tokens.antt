@@ -57,7 +57,7 @@ ask_onto : (h a : Bool) (c : Command) (r : Reading) → with_ask (h && not a) (p
 ask_onto h a (Ask ls) r = has_one (h && not a) r.0 r.1 ls ∙ ap (prepend_commands (Ask ls ∷ [])) (sym (undue (h && not (a || true)) r (asked_no_more h a)))
 ask_onto h a e r = rw (or_false a) (plain_onto (h && not a) e r refl)
 
--- whether the ask of a header is due after a command
+-- after a command, the ask of a header is due under the same condition, unless the command is an ask
 ask_onto_if : (asks h a : Bool) (c : Command) (r : Reading) → with_ask (asks && (h && not a)) (prepend_commands (c ∷ []) r) ≡ prepend_commands (c ∷ []) (with_ask (asks && (h && not (a || is_ask c))) r)
 ask_onto_if true h a c r = ask_onto h a c r
 ask_onto_if false h a c r = refl
@@ -111,6 +111,7 @@ pub valid : (d : Draft) (hand : PartialCommand) (l : Literal) → HoldsPartialCo
 valid d Nothing l h m = (OfClause, [], h, refl)
 valid d (Within kind ls) l h m = (kind, ls, h, let e : allows_sign kind l.positive ≡ true = ap (λ (k : Kind). allows_sign k l.positive) h.1 ∙ m in rw e refl)
 
+-- a literal with a sign that the command cannot have makes the text malformed
 pub misplaced : (d : Draft) (hand : PartialCommand) (l : Literal) → HoldsPartialCommand d (opened hand) → allows_sign (kind_of d.kind) l.positive ≡ false → literal_effect hand l ≡ Fails
 misplaced d Nothing l h m = absurd (let e : allows_sign OfClause l.positive ≡ allows_sign (kind_of d.kind) l.positive = ap (λ (k : Kind). allows_sign k l.positive) h.1 in cc)
 misplaced d (Within kind ls) l h m = let e : allows_sign kind l.positive ≡ false = ap (λ (k : Kind). allows_sign k l.positive) h.1 ∙ m in rw e refl
@@ -161,10 +162,12 @@ pub end_malformed : (asks : Bool) → end_if asks ends.Malformed ≡ ([], Malfor
 end_malformed true = refl
 end_malformed false = refl
 
+-- a text that ends within a command is malformed
 pub ends_inside : (asks : Bool) (commands : Commands) (hand : PartialCommand) → commands.draft.is_open ≡ true → HoldsPartialCommand commands.draft hand → end_if asks ends.Malformed ≡ remaining_reading asks commands hand []
 ends_inside asks commands Nothing o h = absurd (cc)
 ends_inside asks commands (Within kind ls) o h = end_malformed asks ∙ sym (ends_at asks commands (Within kind ls) ∙ malformed_if (asks && (commands.headed && not commands.asked)))
 
+-- a text that ends after a header without an ask ends with one
 pub ends_due : (asks : Bool) (commands : Commands) (hand : PartialCommand) → commands.draft.is_open ≡ false → HoldsPartialCommand commands.draft hand → (commands.headed && not commands.asked) ≡ true → end_if asks ends.Asked ≡ remaining_reading asks commands hand []
 ends_due true commands Nothing o h e = sym (ends_at true commands Nothing ∙ rw e refl)
 ends_due false commands Nothing o h e = sym (ends_at false commands Nothing)

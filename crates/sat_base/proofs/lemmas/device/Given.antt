@@ -14,6 +14,7 @@ gave_none r = record { gave = sym (append-nil r.given); known_bytes = consumes_n
 pub few_reads : (a c : Reader) (xs : List ℕ) → c.given ≡ a.given ++ xs → c.calls ≤ a.calls + length xs + 1 → FewReads a c
 few_reads a c xs e h = let k : length c.given ≡ length a.given + length xs = ap length e ∙ length-append a.given xs in omega arith
 
+-- reads of a reader are few if they are at most one more than the bytes given
 pub few_front : (a c : Reader) (xs : List ℕ) → GavePrefix a c xs → c.calls ≤ a.calls + length xs + 1 → FewReads a c
 few_front a c xs g h = few_reads a c xs g.gave h
 
@@ -65,7 +66,7 @@ gave_to_end a b c xs n room p r e h some few =
       loans = g.loans;
     }
 
--- the same if every earlier read gave at least one byte
+-- a read that found the end, after k reads that gave k bytes or more: the reader gave everything
 pub end_after : {E : Type 0} (a b c : Reader) (xs : List ℕ) (n k : ℕ) (room : List ℕ) → GavePrefix a b xs → ReadsOnce {E = E} (Ok n) room b c → n ≡ 0 → 0 < length room
     → b.calls ≡ a.calls + k → k ≤ length xs → GaveAll a c xs
 end_after a b c xs n k room p r e h calls some = gave_to_end a b c xs n room p r e h (omega arith) (omega arith)
@@ -114,9 +115,11 @@ not_ended b c n room r h = r.ended ∙ not_at_end n room h
 pub is_over : (a c : Reader) (xs : List ℕ) → GaveAll a c xs → c.ended ≡ true → IsAtEnd c.to_come
 is_over a c xs g e = g.over
 
+-- a reader has not both ended and not ended
 pub still_open : (c : Reader) (T : Type 0) → c.ended ≡ false → c.ended ≡ true → T
 still_open c T h e = absurd (let k : ◌≡◌ {A = Bool} true false = sym e ∙ h in cc)
 
+-- a text that the reader gave completely is enough to establish P
 pub enough_all : (a c : Reader) (P : List ℕ → Type 0) (xs : List ℕ) → GaveAll a c xs → P xs → GaveEnough a c P
 enough_all a c P xs g p = record {
   text = xs;
@@ -126,6 +129,7 @@ enough_all a c P xs g p = record {
   holds = λ rest f. subst P (sym (ap (λ (z : List ℕ). xs ++ z) (f g.called g.ends) ∙ append-nil xs)) p;
 }
 
+-- a prefix after which P holds of any text is enough to establish P
 pub enough_front : (a c : Reader) (P : List ℕ → Type 0) (xs : List ℕ) → GavePrefix a c xs → c.ended ≡ false → c.calls ≤ a.calls + length xs + 1
     → ((rest : List ℕ) → P (xs ++ rest)) → GaveEnough a c P
 enough_front a c P xs g e few p = record {

@@ -1,6 +1,6 @@
 -- Reading, step by step.
 use Rattle.std.proofs.Common.{◌≡◌, ℕ, ◌+◌, ◌*◌, ◌-◌, ◌/◌, Bool, true, false, nat_eq, nat_lt, ◌&&◌, if◌then◌else◌, ◌<◌, ◌≤◌, zero, suc, List, length, length-append, take, drop, Option, Some, None, [], ◌∷◌, ◌++◌, ◌⊎◌, inl, inr, Ok, Err, refl, sym, subst, ap, append_assoc, ◌∙◌, arith}
-use Rattle.std.proofs.lemmas.List.{append-nil, drop_all, length-take, length-take-le}
+use Rattle.std.proofs.lemmas.List.{append-nil, drop_all, length-take, length-take-le, take-append-le}
 use Rattle.std.proofs.lemmas.Grind.{common_steps}
 use Rattle.std.proofs.Math.Nat.{mul-le-mul_left}
 use Rattle.std.specs.Io.KnownBytes.{Consumes, IsAtEnd, Keeps, prepend_known}
@@ -133,9 +133,9 @@ no_end : (none ended room : Bool) → ended ≡ (none && room) → ◌≡◌ {A 
 no_end true ended room e h k = omega (arith, h)
 no_end false ended room e h k = let f : ended ≡ false = e in cc
 
-pub refilled : {E : Type 0} (count : ℕ) (a b : Reader) (ws room names : List ℕ) (n : ℕ) → ReadsOnce {E = E} (Ok count) room a b → count ≤ length room → length room ≡ 4096 → ws ≡ []
+pub refilled : {E : Type 0} (count : ℕ) (a b : Reader) (ws room names : List ℕ) (n : ℕ) → ReadsOnce {E = E} (Ok count) room a b → count ≤ length room → 0 < length room → length room ≤ 4096 → ws ≡ []
     → Refills (Ok tt) count (record { reader = a; waiting = ws; reads = n; names = names }) (record { reader = b; waiting = drop 0 (take count room); reads = n + 1; names = names })
-refilled count a b ws room names n r within size e =
+refilled count a b ws room names n r within some size e =
     let l = length-take-le count room within in
     let none : count ≡ 0 → take count room ≡ [] = λ h. ap (λ (k : ℕ). take k room) h in (
       record {
@@ -153,11 +153,18 @@ refilled count a b ws room names n r within size e =
       },
       λ h. record {
         read = omega arith;
-        ended = subst (λ (m : ℕ). b.ended ≡ (nat_eq 0 0 && nat_lt 0 m)) size (subst (λ (k : ℕ). b.ended ≡ (nat_eq k 0 && nat_lt 0 (length room))) h r.ended);
+        ended = let k : (nat_eq count 0 && nat_lt 0 (length room)) ≡ true = grind (arith, common_steps) in r.ended ∙ k;
         waiting = none h;
-        over = over_known b.to_come (take count room) (none h) (r.known_bytes.1 h (omega (arith, size)));
+        over = over_known b.to_come (take count room) (none h) (r.known_bytes.1 h some);
       },
     )
+
+-- a refill whose bytes were read to the start of a longer buffer
+pub refilled_front : {E : Type 0} (count : ℕ) (a b : Reader) (ws room rest names : List ℕ) (n : ℕ) → ReadsOnce {E = E} (Ok count) room a b → count ≤ length room → 0 < length room → length room ≤ 4096 → ws ≡ []
+    → Refills (Ok tt) count (record { reader = a; waiting = ws; reads = n; names = names }) (record { reader = b; waiting = drop 0 (take count (room ++ rest)); reads = n + 1; names = names })
+refilled_front count a b ws room rest names n r within some size e =
+    subst (λ (z : List ℕ). Refills (Ok tt) count (record { reader = a; waiting = ws; reads = n; names = names }) (record { reader = b; waiting = drop 0 z; reads = n + 1; names = names })) (sym (take-append-le count room rest within))
+    (refilled count a b ws room names n r within some size e)
 
 pub none_waits : (at end : ℕ) (piece : List ℕ) → end ≤ at → drop at (take end piece) ≡ []
 none_waits at end piece h = drop_all at (take end piece) (let e = length-take end piece in omega arith)
@@ -179,6 +186,7 @@ place_some limit value place old new g = elim g.begun [ inl h ↦ omega (arith, 
 groups_cut : (limit value place : ℕ) (old mid new : Source) → Groups limit value place old mid → ConsumesToEnd mid new [] → ReadsValue (IsBelow limit) (Err errors.Cut) old new
 groups_cut limit value place old mid new g h = (g.text, ends_there old mid new g.text g.passes h, live limit g.text value place g.front g.small)
 
+-- if the next group cannot be read, neither can the number
 pub groups_stop : (limit value place : ℕ) (old mid new : Source) (e : StepError) → Groups limit value place old mid → ByteWithin (Err e) mid new → ReadsValue (IsBelow limit) (Err e) old new
 groups_stop limit value place old mid new errors.Read g h = (g.text, faults_there old mid new g.text g.passes h, live limit g.text value place g.front g.small)
 groups_stop limit value place old mid new errors.Cut g h = groups_cut limit value place old mid new g h
@@ -200,12 +208,15 @@ groups_zero_bad limit value place b old mid new g h e f = elim g.begun [
   | inr k ↦ groups_bad limit value place b old mid new g h (shut_zero limit g.text value place b g.front k.0 e)
 ]
 
+-- the next group is the last, and the number is below the limit
 pub groups_last : (limit value place b : ℕ) (old mid new : Source) → Groups limit value place old mid → ConsumesBytes mid new (b ∷ []) → (b ≡ 0 → ⊥) → b < 128 → value + place * b < limit → ReadsValue (IsBelow limit) (Ok (value + place * b)) old new
 groups_last limit value place b old mid new g h z l m = (g.text ++ b ∷ [], passes_more old mid new g.text (b ∷ []) g.passes h, last_read limit g.text value place b g.front l (inr (omega arith)) m)
 
+-- the next group is the last, and the number reaches the limit
 pub groups_large : (limit value place b : ℕ) (old mid new : Source) → Groups limit value place old mid → ConsumesBytes mid new (b ∷ []) → b < 128 → limit ≤ value + place * b → ReadsValue (IsBelow limit) (Err errors.BadByte) old new
 groups_large limit value place b old mid new g h l m = groups_bad limit value place b old mid new g h (shut_large limit g.text value place b g.front l m)
 
+-- the next group is not the last, and any number with these groups reaches the limit
 pub groups_on : (limit value place b : ℕ) (old mid new : Source) → Groups limit value place old mid → ConsumesBytes mid new (b ∷ []) → 128 ≤ b → limit ≤ (value + place * (b - 128)) + place * 128 → ReadsValue (IsBelow limit) (Err errors.BadByte) old new
 groups_on limit value place b old mid new g h l m = groups_bad limit value place b old mid new g h (shut_on limit g.text value place b g.front l m)
 
@@ -260,6 +271,7 @@ not_none : (xs : List ℕ) (b : ℕ) → xs ++ b ∷ [] ≡ [] → ⊥
 not_none [] b e = cc
 not_none (x ∷ xs) b e = cc
 
+-- the next group is not the last, and the number may be below the limit
 pub groups_more : (limit value place b : ℕ) (old mid new : Source) → Groups limit value place old mid → ConsumesBytes mid new (b ∷ []) → 128 ≤ b → b < 256 → (value + place * (b - 128)) + place * 128 < limit → Groups limit (value + place * (b - 128)) (place * 128) old new
 groups_more limit value place b old mid new g h l m s = record {
   text = g.text ++ b ∷ [];

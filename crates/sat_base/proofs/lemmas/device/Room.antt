@@ -40,7 +40,7 @@ some_of_four xs n count a b c d h r =
     ∙ take-append-add (take n xs) ((a ∷ b ∷ c ∷ d ∷ []) ++ rest) count
     ∙ ap (λ (z : List ℕ). take n xs ++ z) (take-append-le count (a ∷ b ∷ c ∷ d ∷ []) rest (omega arith))
 
--- the same of a list of four bytes
+-- the first few of a list of four bytes follow the first `n`
 pub some_put : (xs : List ℕ) (n count : ℕ) (bytes : List ℕ) → length bytes ≡ 4 → count ≤ 4 → n + 4 ≤ length xs
     → take (n + count) (set (set (set (set xs n (get_or bytes 0 0)) (n + 1) (get_or bytes 1 0)) (n + 2) (get_or bytes 2 0)) (n + 3) (get_or bytes 3 0)) ≡ take n xs ++ take count bytes
 some_put xs n count [] e h r = absurd (omega arith)

@@ -25,7 +25,7 @@ sent_more a b c xs ys p q = record {
 pub sends_stops : (a b : Sink) (xs ys : List ℕ) → SinkFails a b xs → SinkFails a b (xs ++ ys)
 sends_stops a b xs ys q = record { breaks = subst (WriterFails a.writer b.writer) (append_assoc a.waiting xs ys) (breaks_within a.writer b.writer (a.waiting ++ xs) ys q.breaks); none = q.none }
 
--- the same for a later part
+-- if sending a later part fails, sending the text fails
 pub sends_breaks : (a b c : Sink) (xs ys : List ℕ) → AddsToSink a b xs → SinkFails b c ys → SinkFails a c (xs ++ ys)
 sends_breaks a b c xs ys p q =
     let e : p.fresh ++ (b.waiting ++ ys) ≡ a.waiting ++ (xs ++ ys) = sym (append_assoc p.fresh b.waiting ys) ∙ ap (λ (z : List ℕ). z ++ ys) (sym p.flows) ∙ append_assoc a.waiting xs ys in
@@ -68,7 +68,7 @@ sends_direct a v w piece bytes (Err x) f p q =
 
 -- PART BY PART
 
--- that a prefix of the text was sent, and `left` is the rest
+-- `SentOf text left old new` holds if a prefix of `text` was sent, and `left` is the rest.
 pub record SentOf (text left : List ℕ) (old new : Sink) : Type 0 where
   pub done : List ℕ
   pub sent : AddsToSink old new done

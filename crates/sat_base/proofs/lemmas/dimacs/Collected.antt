@@ -136,6 +136,7 @@ pub quiet_clauses : (hand : PartialClause) (s : Scan) → HasNoNumberOrLetter s 
 quiet_clauses hand s (inl e) = ap (λ (ts : List (ℕ × Token)). (clauses_of hand s.last ts).clauses) e ∙ ap (λ (d : Dimacs). d.clauses) (clauses_of_nil hand s.last)
 quiet_clauses hand s (inr q) = ap (λ (ts : List (ℕ × Token)). (clauses_of hand s.last ts).clauses) q.3 ∙ header_clauses hand s.last q.0 q.1 q.2
 
+-- the clauses of a text are those completed so far if what is left has neither numbers nor letters
 pub settled_clauses : (text : List ℕ) (before : List (ℕ × Token)) (all : List (List ℕ)) (hand : PartialClause) (s : Scan) → scan text ≡ prepend_tokens before s → HaveTakenTokens before all hand → HasNoNumberOrLetter s
     → (dimacs text).clauses ≡ all
 settled_clauses text before all hand s e m q =

@@ -16,7 +16,8 @@ use Rattle.sat_base.proofs.lemmas.text.HeaderFirst.{IsWord, AreWords, AreScript,
 abbrev clean : List (List ℕ) → Dimacs
 clean cs = record { clauses = cs; ending = Clean }
 
--- that the tokens finish the clause with the literals `done`, and then spell the remaining clauses
+-- `SpellsRest done cs ts` holds if the tokens finish the clause with the literals `done`, and then spell the clauses
+-- `cs`.
 pub record SpellsRest (done : List ℕ) (cs : List (List ℕ)) (ts : List Token) : Type 0 where
   pub literals : List ℕ
   pub last : Token
@@ -32,7 +33,8 @@ abbrev SpellsFrom : PartialClause → List (List ℕ) → List Token → Type 0
 SpellsFrom None cs ts = SpellsClauses cs ts
 SpellsFrom (Some done) cs ts = SpellsRest done cs ts
 
--- that the next token is a zero, which ends the unfinished clause, and the rest spells the other clauses
+-- `ByZero h cs t ts` holds if the token `t` is a zero, which ends the unfinished clause, and the rest spells the other
+-- clauses.
 pub record ByZero (h : PartialClause) (cs : List (List ℕ)) (t : Token) (ts : List Token) : Type 0 where
   pub more : List (List ℕ)
   pub is_zero : IsZero t

@@ -152,6 +152,7 @@ short_or_fault (errors.Limit line) piece p q f o = o
 short_or_fault errors.OutOfMemory piece p q f o = ((q, f.1), o)
 short_or_fault r piece p q f o = absurd o
 
+-- the error of a piece is why it is refused, unless memory ran out and the piece has a fault
 pub refused_by : (e r : DimacsError) (piece : List ℕ) (p q : Progress) → FeedsPiece (Err e) piece p q → ((e ≡ errors.OutOfMemory → ⊥) → r ≡ e) → (e ≡ errors.OutOfMemory → OutOfMemoryOrFault r (p.fed ++ piece)) → RefusesPiece r piece p
 refused_by errors.OutOfMemory r piece p q f same found = short_or_fault r piece p q f (found refl)
 refused_by e r piece p q f same found = rw (same (λ z. absurd cc)) (stopped_by e piece p q f (λ z. absurd cc))

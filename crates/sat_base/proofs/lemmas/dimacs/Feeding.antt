@@ -47,7 +47,7 @@ turned_by before taken old new n t (Ends c) e m s =
     (subst (λ (g : PartialClause). HaveTakenTokens (before ++ (n, t) ∷ []) ((taken ++ old.formula.clauses) ++ c ∷ []) g) (sym s.2) (turned_ends before (taken ++ old.formula.clauses) (partial_clause_in old) n t m c e))
 turned_by before taken old new n t (Fails ending) e m s = absurd s
 
--- that the counts are those of all clauses, taken or not
+-- `Counted taken c` holds if the counts of `c` are those of all clauses, those in `taken` and those in `c`.
 abbrev pub Counted : List (List ℕ) → Clauses → Type 0
 Counted taken c = (c.count ≡ capped (length (taken ++ c.formula.clauses))) × (c.formula.var_count ≡ vars_of (taken ++ c.formula.clauses))
 
@@ -156,7 +156,8 @@ step_parser old new g b xs after s i e st r inside m c h =
       goes = λ _. now;
     }
 
--- what a tokenizer guarantees for a byte
+-- `Pushed old new b given` holds if the tokenizer receives the byte as it guarantees: only a blank completes a token,
+-- and LF leaves none unfinished.
 pub record Pushed (old new : Tokenizer) (b : ℕ) (given : Option CodeToken) : Type 0 where
   pub takes : ReceivesByte old b given new
   pub inside : is_blank b ≡ false → given ≡ None
@@ -169,7 +170,7 @@ pub pushed : (old new : Tokenizer) (b : ℕ) (given : Option CodeToken) → Rece
     → (is_blank b ≡ true → (after : List ℕ → Scan) → IsPositionedBefore new after → HasValidContinuation after) → Pushed old new b given
 pushed old new b given t i q e r = record { takes = t; inside = i; quiet = q; ended = e; right = r }
 
--- that the parser accepted one more byte, and no clauses were taken
+-- `ByteTaken old new b` holds if the parser accepted one more byte, and no clauses were taken.
 pub record ByteTaken (old new : Parser) (b : ℕ) : Type 0 where
   pub fed : new.history.fed ≡ old.history.fed ++ b ∷ []
   pub taken : new.history.taken ≡ old.history.taken
@@ -206,7 +207,7 @@ header_aside : (before : List (ℕ × Token)) (x : ℕ × Token) → header_from
 header_aside [] x e = e
 header_aside (y ∷ ys) x e = refl
 
--- that the token is not a header, or is the first token
+-- `First before t` holds if the token is not a header, or is the first token.
 abbrev pub First : List (ℕ × Token) → Token → Type 0
 First before t = (header_from t ≡ None) ⊎ (before ≡ [])
 
@@ -236,7 +237,7 @@ pub not_false : (b : Bool) → (b ≡ false → ⊥) → b ≡ true
 not_false true h = refl
 not_false false h = absurd (h refl)
 
--- the token that a byte ended, and what is still to be read after it
+-- `Gave old new g b t` holds if the byte ended the token `t`, and the rest is read as before.
 pub record Gave (old new : Parser) (g : IsGoingParser old) (b : ℕ) (t : CodeToken) : Type 0 where
   pub given : Token
   pub held : t ≡ capped_token given
@@ -325,7 +326,7 @@ over_parser p ending h s e d c k l = record {
   goes = not_open p (IsGoingParser p) s;
 }
 
--- that the text has a fault at this byte, and the parser has stopped there
+-- `FaultAt ending line b old new` holds if the text has a fault at this byte, and the parser has stopped there.
 pub record FaultAt (ending : ℕ → Ending) (line b : ℕ) (old new : Parser) : Type 0 where
   pub n : ℕ
   pub shown : line ≡ capped n
@@ -459,9 +460,11 @@ onto_cancel before s t e =
 pub ends_here : (p : Parser) (g : IsGoingParser p) → IgnoresRest g.left_of → HasEnded p.history.fed
 ends_here p g i rest = g.scans rest ∙ ap (prepend_tokens g.before) (i rest) ∙ sym (g.scans []) ∙ ap scan (append-nil p.history.fed)
 
+-- if a line has ended the text, what is still to be read ignores the bytes to come
 pub goes_here : (p : Parser) (g : IsGoingParser p) → HasEnded p.history.fed → IgnoresRest g.left_of
 goes_here p g h rest = onto_cancel g.before (g.left_of rest) (g.left_of []) (sym (g.scans rest) ∙ h rest ∙ ap scan (sym (append-nil p.history.fed)) ∙ g.scans [])
 
+-- the flag is right if it says whether the bytes to come are ignored
 pub says_ended : (p : Parser) (g : IsGoingParser p) → p.stopped ≡ false → (b : Bool) → (b ≡ true → IgnoresRest g.left_of) → (b ≡ false → IgnoresRest g.left_of → ⊥) → ReportsEnded b (progress_of p)
 says_ended p g o true over goes = (o, ends_here p g (over refl))
 says_ended p g o false over goes = inr (λ h. goes refl (goes_here p g h))
@@ -517,7 +520,7 @@ split_at xs i h = grind (arith, common_steps)
 abbrev pub at_end_of : Parser → Parser
 at_end_of p = record p { stopped = true; ended = true }
 
--- that `p` is the parser after the tokens that were left when the text ended
+-- `Read old p g` holds if `p` is the parser after the tokens that were left when the text ended.
 pub record Read (old p : Parser) (g : IsGoingParser old) : Type 0 where
   pub history : p.history ≡ old.history
   pub tokenizer : p.tokenizer ≡ old.tokenizer
@@ -602,7 +605,7 @@ read_some old p i g t h k l c e =
           ∙ header_next g.before n given old.clauses.header (last_first old g given n l.2) (header_before old i g);
     }
 
--- that the text ended with a fault on this line
+-- `FaultAtEnd ending line old new` holds if the text ended with a fault on this line.
 pub record FaultAtEnd (ending : ℕ → Ending) (line : ℕ) (old new : Parser) : Type 0 where
   pub parser : IsParser new
   pub answer : (old.stopped ≡ false) × (progress_of new ≡ at_its_end (progress_of old)) × (n : ℕ) × (line ≡ capped n) × ((dimacs old.history.fed).ending ≡ ending n)

@@ -34,6 +34,7 @@ short_on fed piece p q e f rest = (
   subst (λ (xs : List ℕ). GoesWell (xs ++ f.front) f.byte) e f.well,
 )
 
+-- the error of a piece is the result of parsing any text that begins with the bytes accepted and this piece
 pub stops_on : (e : DimacsError) (fed piece : List ℕ) (p q : Progress) → p.fed ≡ fed → p.stopped ≡ false → FeedsPiece (Err e) piece p q → (rest : List ℕ) → Parses (Err e) ((fed ++ piece) ++ rest)
 stops_on (errors.Malformed line) fed piece p q e s f rest = (f.1, f.2, fault_ends (Malformed f.1) fed piece p q e f.3 rest)
 stops_on (errors.Limit line) fed piece p q e s f rest = (f.1, f.2, fault_ends (Limit f.1) fed piece p q e f.3 rest)
@@ -41,10 +42,11 @@ stops_on errors.Read fed piece p q e s f rest = tt
 stops_on errors.OutOfMemory fed piece p q e s f rest = inl (short_on fed piece p q e f.1 rest)
 stops_on errors.HasFailed fed piece p q e s f rest = absurd (let g : ◌≡◌ {A = Bool} true false = sym f.0 ∙ s in cc)
 
--- that the parser accepted these bytes, and clauses may have been taken from it
+-- `HasAccepted fed p` holds if the parser accepted the bytes `fed`, and clauses may have been taken from it.
 abbrev pub HasAccepted : List ℕ → Progress → Type 0
 HasAccepted fed p = p ≡ record (with_fed fed no_progress) { taken = p.taken }
 
+-- a parser that accepted bytes, and from which nothing was taken
 pub stands_of : (fed : List ℕ) (p : Progress) → p ≡ with_fed fed no_progress → HasAccepted fed p
 stands_of fed p e = e ∙ ap (λ (t : List (List ℕ)). record (with_fed fed no_progress) { taken = t }) (sym (ap (λ (k : Progress). k.taken) e))
 

@@ -18,7 +18,7 @@ use Rattle.sat_base.proofs.lemmas.device.Given.{end_after, enough_all, enough_fr
 use Rattle.sat_base.proofs.lemmas.dimacs.Parsed.{front_alone, whole_at_end, short_on}
 use Rattle.sat_base.specs.declared.text.Place.TheVariants as at
 
--- that reading stopped early, because a line has ended the text
+-- `StopsEarly a c gave text` holds if reading stopped early, because a line has ended the text.
 pub record StopsEarly (a c : Reader) (gave text : List ℕ) : Type 0 where
   pub front : GavePrefix a c gave
   pub going : c.ended ≡ false

@@ -40,7 +40,7 @@ some_then : (ds : List ℕ) (d : ℕ) → ds ++ d ∷ [] ≡ [] → ⊥
 some_then [] d e = cc
 some_then (x ∷ ds) d e = cc
 
--- that these bytes are the digits of a number
+-- `Says n ds` holds if the bytes `ds` are the digits of the number `n`.
 record Says (n : ℕ) (ds : List ℕ) : Type 0 where
   pub all : AreDigits ds
   pub value : digits 0 ds ≡ Some n
@@ -167,7 +167,7 @@ signed_begins c true n rest k e m = let s = says_decimal n k in plain_begins c (
 signed_begins c false n rest k e m = begins c 45 (decimal n ++ rest) refl ∙ (grind (arith, nat_tests))
 
 -- A CLAUSE'S LINE
--- every literal is within the limit
+-- `Within ls` holds if every literal is within the limit.
 abbrev Within : List ℕ → Type 0
 Within = AllByRecursion (λ l. variable l < var_limit)
 

@@ -82,7 +82,8 @@ reads_spelled (c ∷ cs) front ts s =
     ∙ ap (prepend_commands (c ∷ [])) (reads_spelled cs s.1 ts s.3)
 
 -- COMMANDS THAT ARE READ ARE SPELLED
--- that the tokens finish the unfinished command, and the rest is read as the other commands
+-- `Firstly k done c cs end ts` holds if the tokens finish the unfinished command, and the rest is read as the other
+-- commands.
 pub record Firstly (k : Kind) (done : List Literal) (c : Command) (cs : List Command) (end : ScriptEnding) (ts : List Token) : Type 0 where
   pub literals : List Literal
   pub last : Token
@@ -225,7 +226,7 @@ words_after : (front rest : List Token) → AreWords (front ++ rest) → AreWord
 words_after [] rest w = w
 words_after (t ∷ front) rest w = words_after front rest w.1
 
--- that a prefix of the tokens spells the commands, and no command is read from the rest
+-- `Spelled cs end ts` holds if a prefix of the tokens spells the commands, and no command is read from the rest.
 pub record Spelled (cs : List Command) (end : ScriptEnding) (ts : List Token) : Type 0 where
   pub front : List Token
   pub rest : List Token
@@ -253,7 +254,8 @@ all_spelled (c ∷ cs) end ts w e =
 clean_or_malformed : {A : Type 0} (cs ds : List Command) → ◌≡◌ {A = Reading} (cs, Clean) (ds, Malformed) → A
 clean_or_malformed cs ds e = let f : Clean ≡ Malformed = ap (λ (r : Reading). r.1) e in absurd (cc)
 
--- that only the empty list of tokens, without an unfinished command, is read as no command and a clean ending
+-- `NoneClean h ts` holds if only the empty list of tokens, without an unfinished command, is read as no command and a
+-- clean ending.
 abbrev NoneClean : PartialCommand → List Token → Type 0
 NoneClean h ts = commands_of h ts ≡ ([], Clean) → (h ≡ Nothing) × (ts ≡ [])
 

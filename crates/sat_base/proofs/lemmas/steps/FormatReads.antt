@@ -3,33 +3,27 @@ use Rattle.std.proofs.Common.{◌≡◌, ℕ, suc, List, [], ◌∷◌, ◌++◌
 use Rattle.std.proofs.lemmas.List.{append-nil}
 use Rattle.sat_base.specs.declared.steps.error.StepError.{StepError}
 use Rattle.sat_base.specs.declared.steps.error.StepError.TheVariants as errors
-use Rattle.sat_base.specs.steps.Formats.{Format, IsPrefixOfText, Then, Times, ListOf, IsUniquelyDecodable}
+use Rattle.sat_base.specs.steps.Formats.{Format, Then, Times, ListOf, IsUniquelyDecodable}
 use Rattle.sat_base.specs.device.Reading.{Source, ConsumesBytes, ReadsValue, giving, valued}
 use Rattle.sat_base.proofs.lemmas.steps.Formats.{HasText, live_first, shut_first, live_second, shut_second, Times_text, to_items, from_items}
 use Rattle.sat_base.proofs.lemmas.device.ReadLemmas.{passes_none, passes_more, faults_later}
 
-open_first : {A B : Type 0} (F : Format A) (G : A → Format B) (front : List ℕ) → ((x : A) → HasText (G x)) → IsPrefixOfText F front → IsPrefixOfText (Then F G) front
-open_first F G front some o =
-    let t = some o.0 in
-    ((o.0, t.0), o.1 ++ t.1, (front ++ o.1, t.1, o.2, t.2, sym (append_assoc front o.1 t.1)))
-
-open_second : {A B : Type 0} (F : Format A) (G : A → Format B) (x : A) (a front : List ℕ) → F x a → IsPrefixOfText (G x) front → IsPrefixOfText (Then F G) (a ++ front)
-open_second F G x a front f o = ((x, o.0), o.1, (a, front ++ o.1, f, o.2, append_assoc a front o.1))
-
+-- the first value of a pair can't be read, so the pair can't
 pub first_fails : {A B : Type 0} (F : Format A) (G : A → Format B) → IsUniquelyDecodable F → ((x : A) → HasText (G x)) → (e : StepError) (old new : Source) → ReadsValue F (Err e) old new → ReadsValue (Then F G) (Err e) old new
 first_fails F G one some errors.Cut old new r = (r.0, r.1, live_first F G r.0 some r.2)
 first_fails F G one some errors.BadByte old new r = (r.0, r.1, r.2, live_first F G r.0 some r.3, shut_first F G one r.0 r.1 r.3 r.4)
 first_fails F G one some errors.Read old new r = (r.0, r.1, live_first F G r.0 some r.2)
-first_fails F G one some errors.OutOfMemory old new r = (r.0, r.1, open_first F G r.0 some r.2)
+first_fails F G one some errors.OutOfMemory old new r = (r.0, r.1, live_first F G r.0 some r.2)
 first_fails F G one some errors.Ends old new r = absurd r
 first_fails F G one some errors.HasFailed old new r = absurd r
 
+-- the first value of a pair was read, so reading the second reads the pair
 pub second_gives : {A B : Type 0} (F : Format A) (G : A → Format B) → IsUniquelyDecodable F → (x : A) (a : List ℕ) (old mid new : Source) → F x a → ConsumesBytes old mid a → (r : Result B StepError) → ReadsValue (G x) r mid new → ReadsValue (Then F G) (valued (λ y. (x, y)) r) old new
 second_gives F G one x a old mid new f p (Ok y) r = (a ++ r.0, passes_more old mid new a r.0 p r.1, (a, r.0, f, r.2, refl))
 second_gives F G one x a old mid new f p (Err errors.Cut) r = (a ++ r.0, (passes_more old mid new a r.0 p r.1.0, r.1.1), live_second F G x a r.0 f r.2)
 second_gives F G one x a old mid new f p (Err errors.BadByte) r = (a ++ r.0, r.1, subst (ConsumesBytes old new) (sym (append_assoc a r.0 (r.1 ∷ []))) (passes_more old mid new a (r.0 ++ r.1 ∷ []) p r.2), live_second F G x a r.0 f r.3, shut_second F G one x a r.0 r.1 f r.4)
 second_gives F G one x a old mid new f p (Err errors.Read) r = (a ++ r.0, faults_later old mid new a r.0 p r.1, live_second F G x a r.0 f r.2)
-second_gives F G one x a old mid new f p (Err errors.OutOfMemory) r = (a ++ r.0, passes_more old mid new a r.0 p r.1, open_second F G x a r.0 f r.2)
+second_gives F G one x a old mid new f p (Err errors.OutOfMemory) r = (a ++ r.0, (passes_more old mid new a r.0 p r.1.0, r.1.1), live_second F G x a r.0 f r.2)
 second_gives F G one x a old mid new f p (Err errors.Ends) r = absurd r
 second_gives F G one x a old mid new f p (Err errors.HasFailed) r = absurd r
 
@@ -39,7 +33,7 @@ reads_as H K f to back (Ok x) old new r = (r.0, r.1, to x r.0 r.2)
 reads_as H K f to back (Err errors.Cut) old new r = (r.0, r.1, (f r.2.0, r.2.1, r.2.2, to r.2.0 (r.0 ++ r.2.1 ∷ r.2.2) r.2.3))
 reads_as H K f to back (Err errors.BadByte) old new r = (r.0, r.1, r.2, (f r.3.0, r.3.1, r.3.2, to r.3.0 (r.0 ++ r.3.1 ∷ r.3.2) r.3.3), λ o. let h = back o.0 ((r.0 ++ r.1 ∷ []) ++ o.1) o.2 in r.4 (h.0, o.1, h.1))
 reads_as H K f to back (Err errors.Read) old new r = (r.0, r.1, (f r.2.0, r.2.1, r.2.2, to r.2.0 (r.0 ++ r.2.1 ∷ r.2.2) r.2.3))
-reads_as H K f to back (Err errors.OutOfMemory) old new r = (r.0, r.1, (f r.2.0, r.2.1, to r.2.0 (r.0 ++ r.2.1) r.2.2))
+reads_as H K f to back (Err errors.OutOfMemory) old new r = (r.0, r.1, (f r.2.0, r.2.1, r.2.2, to r.2.0 (r.0 ++ r.2.1 ∷ r.2.2) r.2.3))
 reads_as H K f to back (Err errors.Ends) old new r = absurd r
 reads_as H K f to back (Err errors.HasFailed) old new r = absurd r
 
@@ -61,7 +55,8 @@ item_read {A} F one n x old mid new i r h =
     subst (λ (z : Result (List A) StepError). ReadsValue (Times F (suc n)) z old new) (consed x r)
     (reads_as (Then F (λ _. Times F n)) (Times F (suc n)) (λ y. y.0 ∷ y.1) (to_items F n) (from_items F n) (valued (λ y. (x, y)) r) old new (second_gives F (λ _. Times F n) one x i.0 old mid new i.2 i.1 r h))
 
--- A LOOP OVER A COUNT: reading the remaining items, after those read so far, reads all of them
+-- `Counted F count left xs old mid` holds if reading `left` items from `mid` on, after the items `xs`, is reading
+-- `count` items from `old` on.
 pub record Counted {A : Type 0} (F : Format A) (count left : ℕ) (xs : List A) (old mid : Source) : Type 0 where
   pub rests : (r : Result (List A) StepError) (new : Source) → ReadsValue (Times F left) r mid new → ReadsValue (Times F count) (with_front xs r) old new
 
@@ -86,10 +81,6 @@ counted_more {A} F one count left more xs x old mid later e i c = record {
 pub counted_fails : {A : Type 0} (F : Format A) → IsUniquelyDecodable F → HasText F → (count left more : ℕ) (xs : List A) (old mid new : Source) (e : StepError) → left ≡ suc more → ReadsValue F (Err e) mid new → Counted F count left xs old mid → ReadsValue (Times F count) (Err e) old new
 counted_fails F one some count left more xs old mid new e is i c = c.rests (Err e) new (subst (λ (n : ℕ). ReadsValue (Times F n) (Err e) mid new) (sym is) (item_fails F one some more e mid new i))
 
--- an item was read, and memory ran out before it was stored
-pub counted_no_room : {A : Type 0} (F : Format A) → IsUniquelyDecodable F → HasText F → (count left more : ℕ) (xs : List A) (x : A) (old mid new : Source) → left ≡ suc more → ReadsValue F (Ok x) mid new → Counted F count left xs old mid → ReadsValue (Times F count) (Err errors.OutOfMemory) old new
-counted_no_room F one some count left more xs x old mid new is i c = (counted_more F one count left more xs x old mid new is i c).rests (Err errors.OutOfMemory) new ([], passes_none new, Times_text F some more)
-
 pub counted_all : {A : Type 0} (F : Format A) (count left : ℕ) (xs : List A) (old mid : Source) → left ≡ 0 → Counted F count left xs old mid → ReadsValue (Times F count) (Ok xs) old mid
 counted_all {A} F count left xs old mid e c =
     subst (λ (zs : List A). ReadsValue (Times F count) (Ok zs) old mid) (append-nil xs) (c.rests (Ok []) mid (subst (λ (n : ℕ). ReadsValue (Times F n) (Ok []) mid mid) (sym e) ([], passes_none mid, (refl, refl))))
@@ -108,10 +99,12 @@ twice : {A : Type 0} (n : ℕ) (r : Result (List A) StepError) → valued second
 twice n (Ok x) = refl
 twice n (Err e) = refl
 
+-- the count of a list can't be read, so the list can't
 pub list_fails : {A : Type 0} (C : Format ℕ) (F : Format A) → IsUniquelyDecodable C → HasText F → (e : StepError) (old new : Source) → ReadsValue C (Err e) old new → ReadsValue (ListOf C F) (Err e) old new
 list_fails C F one some e old new r =
     reads_as (Then C (Times F)) (ListOf C F) (λ x. x.1) (to_list C F) (from_list C F) (Err e) old new (first_fails C (Times F) one (λ n. Times_text F some n) e old new r)
 
+-- the count of a list was read, so reading its items reads the list
 pub list_gives : {A : Type 0} (C : Format ℕ) (F : Format A) → IsUniquelyDecodable C → (n : ℕ) (old mid new : Source) → ReadsValue C (Ok n) old mid → (r : Result (List A) StepError) → ReadsValue (Times F n) r mid new → ReadsValue (ListOf C F) r old new
 list_gives {A} C F one n old mid new c r h =
     subst (λ (z : Result (List A) StepError). ReadsValue (ListOf C F) z old new) (twice n r)

@@ -3,7 +3,7 @@ use Rattle.std.proofs.Common.{◌≡◌, ℕ, zero, suc, List, [], ◌∷◌, �
 use Rattle.std.proofs.lemmas.List.{append-nil}
 use Rattle.sat_base.specs.steps.Formats.{Format, IsPrefixOfText, IsProperPrefix, Then, Times, IsUniquelyDecodable}
 
--- some value has a text
+-- `HasText F` holds if some value has a text of the format.
 abbrev pub HasText : {A : Type 0} → Format A → Type 0
 HasText {A} F = (x : A) × (bytes : List ℕ) × F x bytes
 
@@ -50,6 +50,7 @@ live_first F G front some l =
     let t = some l.0 in
     ((l.0, t.0), l.1, l.2 ++ t.1, (front ++ l.1 ∷ l.2, t.1, l.3, t.2, sym (append_assoc front (l.1 ∷ l.2) t.1)))
 
+-- no text of a pair begins with bytes with which no text of the first value begins
 pub shut_first : {A B : Type 0} (F : Format A) (G : A → Format B) → IsUniquelyDecodable F → (front : List ℕ) (b : ℕ) → IsProperPrefix F front → (IsPrefixOfText F (front ++ b ∷ []) → ⊥) → IsPrefixOfText (Then F G) (front ++ b ∷ []) → ⊥
 shut_first F G one front b l h o = h (past F one front b o.0.0 o.2.0 o.2.1 o.1 l o.2.2 o.2.4)
 
@@ -57,6 +58,7 @@ shut_first F G one front b l h o = h (past F one front b o.0.0 o.2.0 o.2.1 o.1 l
 pub live_second : {A B : Type 0} (F : Format A) (G : A → Format B) (x : A) (a front : List ℕ) → F x a → IsProperPrefix (G x) front → IsProperPrefix (Then F G) (a ++ front)
 live_second F G x a front f l = ((x, l.0), l.1, l.2, (a, front ++ l.1 ∷ l.2, f, l.3, append_assoc a front (l.1 ∷ l.2)))
 
+-- no text of a pair begins with a text of the first value and bytes with which none of the second begins
 pub shut_second : {A B : Type 0} (F : Format A) (G : A → Format B) → IsUniquelyDecodable F → (x : A) (a front : List ℕ) (b : ℕ) → F x a → (IsPrefixOfText (G x) (front ++ b ∷ []) → ⊥) → IsPrefixOfText (Then F G) ((a ++ front) ++ b ∷ []) → ⊥
 shut_second {A} {B} F G one x a front b f h o =
     let e : a ++ ((front ++ b ∷ []) ++ o.1) ≡ o.2.0 ++ o.2.1 = sym (append_assoc a (front ++ b ∷ []) o.1) ∙ ap (λ (z : List ℕ). z ++ o.1) (sym (append_assoc a front (b ∷ []))) ∙ o.2.4 in
@@ -64,6 +66,7 @@ shut_second {A} {B} F G one x a front b f h o =
     let rest : (front ++ b ∷ []) ++ o.1 ≡ o.2.1 = cancel a ((front ++ b ∷ []) ++ o.1) o.2.1 (e ∙ ap (λ (z : List ℕ). z ++ o.2.1) (sym s.0)) in
     h (o.0.1, o.1, subst (λ (z : A). G z o.0.1 ((front ++ b ∷ []) ++ o.1)) (sym s.1) (subst (G o.0.0 o.0.1) (sym rest) o.2.3))
 
+-- a pair of uniquely decodable formats is uniquely decodable
 pub one_then : {A B : Type 0} (F : Format A) (G : A → Format B) → IsUniquelyDecodable F → ((x : A) → IsUniquelyDecodable (G x)) → IsUniquelyDecodable (Then F G)
 one_then {A} {B} F G one two x y a b s t h k e =
     let u : h.0 ++ (h.1 ++ s) ≡ k.0 ++ (k.1 ++ t) = sym (append_assoc h.0 h.1 s) ∙ ap (λ (z : List ℕ). z ++ s) (sym h.4) ∙ e ∙ ap (λ (z : List ℕ). z ++ t) k.4 ∙ append_assoc k.0 k.1 t in

@@ -14,7 +14,7 @@ same_names (Err errors.Ends) s t h = h.0.names
 same_names (Err errors.Cut) s t h = h.2.0.names
 same_names (Err errors.BadByte) s t h = h.2.names
 same_names (Err errors.Read) s t h = h.1.names
-same_names (Err errors.OutOfMemory) s t h = h.2.names
+same_names (Err errors.OutOfMemory) s t h = h.2.0.names
 same_names (Err errors.HasFailed) s t h = absurd h
 
 passes_named : {n : ℕ} (ns : List ℕ) (s t : Source) (text : List ℕ) → ConsumesWithReads n s t text → ConsumesWithReads n (with_borrows ns s) (with_borrows ns t) text
@@ -32,7 +32,7 @@ answers_named ns (Err errors.Ends) s t h = (passes_named ns s t [] h.0, taken_na
 answers_named ns (Err errors.Cut) s t h = (h.0, h.1, (passes_named ns s t (h.0 ∷ h.1) h.2.0, taken_named ns t h.2.1), h.3)
 answers_named ns (Err errors.BadByte) s t h = (h.0, h.1, passes_named ns s t _ h.2, h.3, h.4)
 answers_named ns (Err errors.Read) s t h = (h.0, faults_named ns s t h.0 h.1, h.2)
-answers_named ns (Err errors.OutOfMemory) s t h = (h.0, h.1, passes_named ns s t (h.0 ∷ h.1) h.2, h.3)
+answers_named ns (Err errors.OutOfMemory) s t h = (h.0, h.1, (passes_named ns s t (h.0 ∷ h.1) h.2.0, h.2.1), h.3)
 answers_named ns (Err errors.HasFailed) s t h = absurd h
 
 name_first : (a b c d : ℕ) → ◌≡◌ {A = List ℕ} (a ∷ b ∷ []) (c ∷ d ∷ []) → c ≡ a

@@ -29,7 +29,8 @@ pub groups_on : (k n : ℕ) → 128 ≤ n → groups (suc k) n ≡ (n % 128 + 12
 unfolding groups
 groups_on k n h = ap (λ (t : Bool). if t then n ∷ [] else (n % 128 + 128) ∷ groups k (n / 128)) (large n h)
 
--- that the low groups of a number were sent, and `rest` is the number of the other groups
+-- `GroupsPut number rest old new` holds if the low groups of a number were sent, and `rest` is the number of the other
+-- groups.
 pub record GroupsPut (number rest : ℕ) (old new : Sink) : Type 0 where
   pub done : List ℕ
   pub left : ℕ
@@ -76,7 +77,8 @@ groups_end number rest old mid new r h g w =
 
 -- PENDING GROUPS
 
--- that the low groups of a number are pending after `before`, and there is room for the groups of `rest`
+-- `GroupsWait number rest before now size` holds if the low groups of a number are pending after `before`, and there is
+-- room for the groups of `rest`.
 pub record GroupsWait (number rest : ℕ) (before now : List ℕ) (size : ℕ) : Type 0 where
   pub left : ℕ
   pub whole : now ++ groups left rest ≡ before ++ groups 9 number

@@ -5,7 +5,8 @@ use Rattle.sat_base.specs.steps.Formats.{IsProperPrefix, IsPrefixOfText, IsUniqu
 use Rattle.sat_base.proofs.lemmas.steps.Formats.{HasText}
 use Rattle.sat_base.specs.steps.Numbers.{IsNumber, IsBelow}
 
--- Groups before the last: those in `front` have this value, and the number in the bytes after them has weight `place`.
+-- `Front front value place` holds if the groups in `front`, none of which is the last, have this value, and the number
+-- in the bytes after them has weight `place`.
 pub record Front (front : List ℕ) (value place : ℕ) : Type 0 where
   pub completes : (m : ℕ) (tail : List ℕ) → IsNumber m tail → (front ≡ []) ⊎ (0 < m) → IsNumber (value + place * m) (front ++ tail)
   pub only : (n : ℕ) (tail : List ℕ) → IsNumber n (front ++ tail) → (m : ℕ) × IsNumber m tail × (n ≡ value + place * m) × ((front ≡ []) ⊎ (0 < m))

@@ -1,12 +1,13 @@
 -- Numbers whose bytes are all buffered.
-use Rattle.std.proofs.Common.{◌≡◌, ℕ, zero, suc, ◌+◌, ◌*◌, ◌-◌, ◌<◌, ◌≤◌, List, [], ◌∷◌, ◌++◌, ◌⊎◌, inl, inr, Option, Some, None, append_assoc, refl, sym, ap, subst, ◌∙◌, arith}
+use Rattle.std.proofs.Common.{◌≡◌, ℕ, zero, suc, ◌+◌, ◌*◌, ◌-◌, ◌<◌, ◌≤◌, List, length, length-append, length-drop, length-take, take, [], ◌∷◌, ◌++◌, ◌⊎◌, inl, inr, Option, Some, None, append_assoc, refl, sym, ap, subst, ◌∙◌, arith}
 use Rattle.std.proofs.Math.Nat.{mul-le-mul_left}
 use Rattle.sat_base.specs.declared.device.ahead.Ahead.{Ahead}
 use Rattle.sat_base.specs.device.TakenAhead.{IsEncodedBetween, buffered_from}
-use Rattle.sat_base.specs.steps.Numbers.{IsBelow}
+use Rattle.sat_base.specs.steps.Numbers.{IsBelow, IsNumber}
 use Rattle.sat_base.proofs.lemmas.steps.Numbers.{Front, front_none, front_more, last_read}
 
--- that `whole` begins with groups of this value before `rest`, and the number in `rest` has weight `place`
+-- `LookedAt value place whole rest` holds if `whole` begins with groups of this value before `rest`, and the number in
+-- `rest` has weight `place`.
 pub record LookedAt (value place : ℕ) (whole rest : List ℕ) : Type 0 where
   pub front : List ℕ
   pub is : Front front value place
@@ -70,3 +71,18 @@ pub looked_on : (value place b at next after : ℕ) (a : Ahead) (rest : List ℕ
     → LookedAt (value + place * (b - 128)) (place * 128) (buffered_from at a) (buffered_from after a)
 looked_on value place b at next after a rest l e p q w =
     subst (λ (k : ℕ). LookedAt (value + place * (b - 128)) (place * 128) (buffered_from at a) (buffered_from k a)) w (looked_at_more value place b (buffered_from at a) rest (buffered_from next a) l e p q)
+
+number_some : (n : ℕ) (text : List ℕ) → IsNumber n text → 0 < length text
+number_some n [] h = absurd h
+number_some n (b ∷ bs) h = omega arith
+
+-- fewer bytes are left after a number
+pub encoded_shrinks : (limit n at following : ℕ) (a : Ahead) → IsEncodedBetween limit n at following a → a.end - following < a.end - at
+encoded_shrinks limit n at following a h =
+    let some = number_some n h.0 h.1.0 in
+    let read = take a.end a.piece in
+    let e = ap length h.2 ∙ length-append h.0 (buffered_from following a) in
+    let p = length-drop at read in
+    let q = length-drop following read in
+    let r = length-take a.end a.piece in
+    omega arith

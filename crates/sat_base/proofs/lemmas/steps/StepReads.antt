@@ -183,7 +183,7 @@ answers_after tag old mid new (Ok step) p r = (tag ∷ r.0, passes_more old mid 
 answers_after tag old mid new (Err errors.Cut) p r = (tag, r.0, (passes_more old mid new (tag ∷ []) r.0 p r.1.0, r.1.1), (r.2.0, r.2.1, r.2.2, spelled tag r.2.0 (r.0 ++ r.2.1 ∷ r.2.2) r.2.3))
 answers_after tag old mid new (Err errors.BadByte) p r = (tag ∷ r.0, r.1, passes_more old mid new (tag ∷ []) (r.0 ++ r.1 ∷ []) p r.2, (r.3.0, r.3.1, r.3.2, spelled tag r.3.0 (r.0 ++ r.3.1 ∷ r.3.2) r.3.3), λ o. r.4 (o.0, o.1, following tag o.0 ((r.0 ++ r.1 ∷ []) ++ o.1) o.2))
 answers_after tag old mid new (Err errors.Read) p r = (tag ∷ r.0, faults_later old mid new (tag ∷ []) r.0 p r.1, (r.2.0, r.2.1, r.2.2, spelled tag r.2.0 (r.0 ++ r.2.1 ∷ r.2.2) r.2.3))
-answers_after tag old mid new (Err errors.OutOfMemory) p r = (tag, r.0, passes_more old mid new (tag ∷ []) r.0 p r.1, (r.2.0, r.2.1, spelled tag r.2.0 (r.0 ++ r.2.1) r.2.2))
+answers_after tag old mid new (Err errors.OutOfMemory) p r = (tag, r.0, (passes_more old mid new (tag ∷ []) r.0 p r.1.0, r.1.1), (r.2.0, r.2.1, r.2.2, spelled tag r.2.0 (r.0 ++ r.2.1 ∷ r.2.2) r.2.3))
 answers_after tag old mid new (Err errors.Ends) p r = absurd r
 answers_after tag old mid new (Err errors.HasFailed) p r = absurd r
 

@@ -9,11 +9,12 @@ use Rattle.sat_base.specs.device.Reading.{Source, ReadsValue, FieldsAfter, value
 use Rattle.sat_base.proofs.lemmas.device.ReadLemmas.{passes_none}
 use Rattle.sat_base.proofs.lemmas.steps.FormatReads.{reads_as, stops_at}
 
--- that the fields after a tag have the texts of format H, whose values `f` maps to steps
+-- `TagForm tag H f` holds if the fields after a tag have the texts of format H, whose values `f` maps to steps.
 pub record TagForm {A : Type 0} (tag : ℕ) (H : Format A) (f : A → Step) : Type 0 where
   pub to : (x : A) (t : List ℕ) → H x t → FieldsAfter tag (f x) t
   pub back : (s : Step) (t : List ℕ) → FieldsAfter tag s t → (x : A) × H x t × (f x ≡ s)
 
+-- reading the value after a tag reads the fields of its step
 pub form_read : {A : Type 0} (tag : ℕ) (H : Format A) (f : A → Step) → TagForm tag H f → (r : Result A StepError) (old new : Source) → ReadsValue H r old new → ReadsValue (FieldsAfter tag) (valued f r) old new
 form_read tag H f k r old new h = reads_as H (FieldsAfter tag) f k.to (λ s t b. let p = k.back s t b in (p.0, p.1)) r old new h
 

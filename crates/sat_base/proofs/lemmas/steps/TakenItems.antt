@@ -3,17 +3,16 @@ use Rattle.std.proofs.Common.{◌≡◌, ℕ, ◌+◌, ◌-◌, suc, List, [], �
 use Rattle.std.proofs.lemmas.List.{append-nil}
 use Rattle.sat_base.specs.declared.device.ahead.Ahead.{Ahead}
 use Rattle.sat_base.specs.declared.steps.error.StepError.{StepError}
-use Rattle.sat_base.specs.declared.steps.error.StepError.TheVariants as errors
 use Rattle.sat_base.specs.device.Device.{Reader}
 use Rattle.sat_base.specs.device.Reading.{Source, ConsumesBytes, ReadsValue}
 use Rattle.sat_base.specs.device.TakenAhead.{TakesItems}
 use Rattle.sat_base.specs.device.Waiting.{waiting}
 use Rattle.sat_base.specs.steps.Formats.{Format, Items, Times, IsUniquelyDecodable}
 use Rattle.sat_base.proofs.lemmas.device.ReadLemmas.{passes_none, took_text}
-use Rattle.sat_base.proofs.lemmas.steps.Formats.{HasText, Times_text}
 use Rattle.sat_base.proofs.lemmas.steps.FormatReads.{Counted, item_read, with_front, front_none}
 
--- that the texts of n items are before `rest`, and these items were appended to `before`
+-- `Taken F n before now whole rest` holds if the texts of `n` items are before `rest`, and these items were appended to
+-- `before`.
 pub record Taken (F : Format ℕ) (n : ℕ) (before now whole rest : List ℕ) : Type 0 where
   pub items : List ℕ
   pub text : List ℕ
@@ -64,7 +63,7 @@ items_then F one more (x ∷ xs) text ws s n names r new i h =
     (item_read F one (length xs + more) x (with_waiting s (i.0 ++ (i.1 ++ ws)) n names) (with_waiting s (i.1 ++ ws) n names) new (i.0, takes s i.0 (i.1 ++ ws) n names, i.2) (with_front xs r) (items_then F one more xs i.1 ws s n names r new i.3 h))))
 
 -- a loop over a count that consumes several buffered items at once
-pub counted_taken : (F : Format ℕ) → IsUniquelyDecodable F → (count left n : ℕ) (before now : List ℕ) (old : Source) (s : Reader) (names : List ℕ) (a b : Ahead) → TakesItems F left (Ok n) before now a b
+pub counted_taken : (F : Format ℕ) → IsUniquelyDecodable F → (count left n : ℕ) (before now : List ℕ) (old : Source) (s : Reader) (names : List ℕ) (a b : Ahead) → TakesItems F left n before now a b
     → Counted F count left before old (with_waiting s (waiting a) a.reads names) → Counted F count (left - n) now old (with_waiting s (waiting b) b.reads names)
 counted_taken F one count left n before now old s names a b t c = record {
   rests = λ r new h.
@@ -73,7 +72,3 @@ counted_taken F one count left n before now old s names a b t c = record {
       let j : ReadsValue (Times F left) (with_front t.1 r) (with_waiting s (waiting a) a.reads names) new = subst (λ (k : ℕ). ReadsValue (Times F k) (with_front t.1 r) (with_waiting s (waiting a) a.reads names) new) len (subst (λ (z : List ℕ). ReadsValue (Times F (length t.1 + (left - n))) (with_front t.1 r) (with_waiting s z a.reads names) new) (sym t.6) i) in
       subst (λ (z : Result (List ℕ) StepError). ReadsValue (Times F count) z old new) (front_two before t.1 r ∙ ap (λ (z : List ℕ). with_front z r) (sym t.4)) (c.rests (with_front t.1 r) new j);
 }
-
--- memory ran out for an item
-pub counted_full : (F : Format ℕ) → HasText F → (count left : ℕ) (xs : List ℕ) (old mid : Source) → Counted F count left xs old mid → ReadsValue (Times F count) (Err errors.OutOfMemory) old mid
-counted_full F some count left xs old mid c = c.rests (Err errors.OutOfMemory) mid ([], passes_none mid, Times_text F some left)

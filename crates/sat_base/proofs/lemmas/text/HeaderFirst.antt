@@ -4,7 +4,7 @@ use Rattle.std.specs.Prelude.{nat_eq, ◌&&◌}
 use Rattle.sat_base.specs.text.Text.{words, begins_with, is_letter, digits, unsigned_token, negative_token, after_minus, letter_token, token, header_if, is_none, on_line, Token, Number, Header, Wrong, tokens_of, lines, scan, tokens}
 use Rattle.sat_base.specs.script.Language.{without_lines}
 
--- any token but a header
+-- `IsWord token` holds if the token is not a header.
 abbrev pub IsWord : Token → Type 0
 IsWord (Header v c) = ⊥
 IsWord e = Unit {0}

@@ -10,7 +10,7 @@ use Rattle.std.proofs.lemmas.Int.Digits.{digits_value_push}
 use Rattle.std.proofs.lemmas.Str.{digit_value_digit}
 use Rattle.sat_base.specs.text.NumberWords.{IsNumberUpTo, digits_so_far, NoDigit, NoWord, EndsNone}
 
--- no space
+-- `Plain bytes` holds if none of the bytes is a space.
 abbrev pub Plain : List ℕ → Type 0
 Plain = AllByRecursion (λ c. c ≡ 32 → ⊥)
 

@@ -141,6 +141,7 @@ after_word_in_header (header.Vars value) spot (x, w, s, h, e) = rw e refl
 after_word_in_header (header.Clauses vars value) spot (v, x, w, k, s, h, e) = rw e refl
 after_word_in_header z spot e = rw e refl
 
+-- LF leads from every place, except after `%`, to the start of a line
 pub below : (p : Place) → (p ≡ at.Over → ⊥) → LeadsBelow p (at.Fresh (may_come p))
 below (at.Digits false value) h spot (x, w, s, k, m, l, e) = rw e refl
 below (at.Digits true value) h spot (w, s, some_w, k, e) = rw e refl

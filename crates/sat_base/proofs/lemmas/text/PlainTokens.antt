@@ -35,7 +35,7 @@ spoilt_next : (s : Stage) (n : ℕ) → (remaining_scan (HeaderBetween s) n (120
 spoilt_next s n =
     ap (λ (k : Scan). k.tokens) (header_between_word s n 120 [] refl ∙ header_spoilt s 120 [] n [] (refl, tt) (x_spoils s) ∙ end_left Spoilt n tt)
 
--- that a blank ends this token, whatever follows
+-- `GivesThen spot n l t after` holds if a blank ends the token `t`, whatever follows.
 abbrev GivesThen : Position → ℕ → ℕ → Token → (List ℕ → Scan) → Type 0
 GivesThen spot n l t after = (rest : List ℕ) → ended_by_blank spot n ++ (remaining_scan (following_blank spot) n rest).tokens ≡ (l, t) ∷ (after rest).tokens
 

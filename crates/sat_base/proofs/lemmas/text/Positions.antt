@@ -73,7 +73,7 @@ word_cut : (x : ℕ) (w : List ℕ) (b : ℕ) (bs : List ℕ) → HasNoBlank (x 
 word_cut x [] b bs s e = words_one x (b ∷ bs) s.0 (ap not e) ∙ ap (λ (ws : List (List ℕ)). (x ∷ []) ∷ ws) (words_blank b bs e)
 word_cut x (y ∷ w) b bs s e = words_more x ((y ∷ w) ++ b ∷ bs) s.0 (ap not s.1.0) ∙ ap (prepend_to_first x) (word_cut y w b bs s.1 e)
 
--- that the first word of the bytes `(x ∷ w) ++ bs` begins with `x ∷ w`
+-- `BeginsWord x w bs` holds if the first word of the bytes `(x ∷ w) ++ bs` begins with `x ∷ w`.
 abbrev pub BeginsWord : ℕ → List ℕ → List ℕ → Type 0
 BeginsWord x w bs = (more : List ℕ) × (ws : List (List ℕ)) × (words ((x ∷ w) ++ bs) ≡ ((x ∷ w) ++ more) ∷ ws)
 
@@ -102,7 +102,8 @@ and_true : (may : Bool) → (may && true) ≡ may
 and_true true = refl
 and_true false = refl
 
--- whether the first nonblank byte of a line is `%`, `c` or `p`
+-- `Begins l percent comment header` holds if the flags say whether the first nonblank byte of the line is `%`, `c` or
+-- `p`.
 pub record Begins (l : List ℕ) (percent comment header : Bool) : Type 0 where
   pub ends : begins_with 37 l ≡ percent
   pub comments : begins_with 99 l ≡ comment

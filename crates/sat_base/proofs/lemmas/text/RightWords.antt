@@ -17,11 +17,11 @@ use Rattle.sat_base.proofs.lemmas.text.Positions.{first_word, blank_left, end_le
 use Rattle.sat_base.proofs.lemmas.text.Places.{IsSpot_of, moves_minus_digit, moves_digit, says_letter, says_number}
 use Rattle.sat_base.proofs.lemmas.text.HeaderPlaces.{EndsAs, begun_c, begun_vars, begun_clauses, between_moves, c_n, cn_f, ended_vars, ended_clauses, says_header, after_ended}
 
--- that a text can continue from this place without a wrong word
+-- `MayBeRight p` holds if a text can continue from this place without a wrong word.
 abbrev MayBeRight : Place → Type 0
 MayBeRight p = (spot : Position) → IsAt p spot → (n : ℕ) → HasValidContinuation (remaining_scan spot n)
 
--- that the token is not wrong, or there is none
+-- `IsRight given` holds if the token is not wrong, or there is none.
 abbrev IsRight : Option CodeToken → Type 0
 IsRight None = Unit {0}
 IsRight (Some t) = t ≡ code.Wrong → ⊥
@@ -131,7 +131,7 @@ in_header_right (header.Vars value) = vars_right value
 in_header_right (header.Clauses vars value) = clauses_right vars value
 
 -- ALL PLACES
--- in a wrong word, or in a header line after a wrong word
+-- `IsWrongPlace place` holds if the place is in a wrong word, or in a header line after a wrong word.
 abbrev IsWrongPlace : Place → Type 0
 IsWrongPlace at.Bad = Unit {0}
 IsWrongPlace at.Spoilt = Unit {0}
@@ -149,6 +149,7 @@ place_right (at.Header p) w = in_header_right p
 place_right at.Spoilt w = absurd (w tt)
 place_right x w = none_right x (λ spot e. rw e (λ n. refl))
 
+-- a text can continue without a wrong word from every place that is not in a wrong word or header line
 pub right_ahead : (machine : Tokenizer) → (machine.place ≡ at.Bad → ⊥) → (machine.place ≡ at.Spoilt → ⊥) → (before : List ℕ → Scan) → IsPositionedBefore machine before → HasValidContinuation before
 unfolding IsPositionedBefore
 right_ahead machine b s before (spot, n, i, l, e) =

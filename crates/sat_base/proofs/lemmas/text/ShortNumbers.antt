@@ -1,5 +1,5 @@
 -- What the digits at the start of bytes spell.
-use Rattle.std.proofs.Common.{ℕ, zero, suc, ◌+◌, ◌-◌, ◌*◌, ◌^◌, ◌<◌, ◌≤◌, ◌≡◌, ◌∙◌, Bool, true, false, Option, Some, List, [], ◌∷◌, ◌++◌, length, take, drop, get_or, decimal, append-nil, append_assoc, refl, sym, ap, subst, arith}
+use Rattle.std.proofs.Common.{ℕ, zero, suc, ◌+◌, ◌-◌, ◌*◌, ◌^◌, ◌<◌, ◌≤◌, ◌≡◌, ◌∙◌, Bool, true, false, Some, List, [], ◌∷◌, ◌++◌, length, take, drop, get_or, decimal, append-nil, append_assoc, refl, sym, ap, subst, arith}
 use Rattle.std.proofs.lemmas.Bool.Decides.{nat_tests}
 use Rattle.std.proofs.lemmas.List.{length-drop, length-take, take-append-drop}
 use Rattle.std.proofs.Math.Seq.{drop-cons, take-length}
@@ -39,7 +39,7 @@ further n m (d ∷ ds) h l e =
     let next = next_digit 0 (omega arith) n d low high (omega arith) (omega arith) in
     sym (append_assoc (digits_so_far n) (d ∷ []) ds) ∙ ap (λ (z : List ℕ). z ++ ds) (sym next ∙ sym (so_far (10 * n + (d - 48)) (omega arith))) ∙ further (10 * n + (d - 48)) m ds (omega arith) l g
 
--- that a list of digits is the decimal of their value
+-- `IsDecimalOf xs m` holds if the digits `xs` are those of the number `m`, which is not 0, without leading zeros.
 pub record IsDecimalOf (xs : List ℕ) (m : ℕ) : Type 0 where
   pub more : 0 < m
   pub same : xs ≡ digits_so_far m

@@ -22,7 +22,7 @@ use Rattle.sat_checker.specs.Accepts.{ready_after}
 use Rattle.sat_checker.specs.Looks.{most_looks}
 use Rattle.sat_checker.specs.CheckerView.{CheckerView, has_failed, looks_of, IsSettled, HasAccepted, FailsBeforeStep, AnswersStep}
 use Rattle.sat_checker.specs.inner.DimacsPieces.{with_flag}
-use Rattle.sat_checker.specs.ProofView.{taken_after, most_bytes, most_looks_after, GaveSteps, ReadsProofPart, HasAcceptedUnfailed, FoundNoEnd, AnswersProof}
+use Rattle.sat_checker.specs.ProofView.{taken_after, most_bytes, most_looks_after, GaveSteps, StopsWithinStep, ReadsProofPart, HasAcceptedUnfailed, FoundNoEnd, AnswersProof}
 use Rattle.sat_checker.specs.inner.ProofSteps.{CountsReads, CheckerAtSource, at_source, TriesStep, StepsOn, TakesStepsBeforeEnd, read_error, is_final, bytes_left}
 use Rattle.sat_checker.specs.announcements.Announcements.{Notice}
 use Rattle.sat_checker.specs.declared.processing.ProcessingError.{ProcessingError}
@@ -101,12 +101,12 @@ calls_of (Err unread_by.Ends) s t a = a.0.calls
 calls_of (Err unread_by.Cut) s t a = a.2.0.calls
 calls_of (Err unread_by.BadByte) s t a = a.2.calls
 calls_of (Err unread_by.Read) s t a = a.1.calls
-calls_of (Err unread_by.OutOfMemory) s t a = a.2.calls
+calls_of (Err unread_by.OutOfMemory) s t a = a.2.0.calls
 calls_of (Err unread_by.HasFailed) s t a = rw a (omega arith)
 
 -- if memory runs out while a step is read, the source is at its end only if it was before
 pub starved_going : (e : StepError) (s t : Source) → read_error e ≡ errors.OutOfMemory → AnswersUnlessFailed (Err e) s t → AtEnd t → AtEnd s
-starved_going unread_by.OutOfMemory s t h a = a.2.going refl
+starved_going unread_by.OutOfMemory s t h a = a.2.0.going refl
 starved_going e s t h a = let k : read_error e ≡ errors.OutOfMemory = h in absurd cc
 
 -- a `?` returns the error of its call
@@ -121,6 +121,12 @@ error_of_err e = cc
 -- a source from which nothing was read is not at its end
 pub fresh_unended : (s : Source) → s ≡ new_source s.reader → AtEnd s → ⊥
 fresh_unended s e h = let z : s.reads ≡ 0 = ap (λ (t : Source). t.reads) e in let k : 0 < s.reads = h.0 in absurd (omega arith)
+
+-- the bytes given after the steps are those of the step that was not read completely, if no others are pending
+pub stops_within : (tag : ℕ) (more ws : List ℕ) → ws ≡ [] → IsProperPrefix SpellsStep (tag ∷ more) → StopsWithinStep ((tag ∷ more) ++ ws)
+stops_within tag more ws e h =
+    let d : tag ∷ more ≡ (tag ∷ more) ++ ws = sym (append-nil (tag ∷ more)) ∙ ap (λ (z : List ℕ). (tag ∷ more) ++ z) (sym e) in
+    record { some = omega arith; front = subst (IsProperPrefix SpellsStep) d h }
 
 pub fresh_counts : (s : Source) → CountsReads s s
 fresh_counts s = refl
@@ -224,7 +230,7 @@ module _ {L : Type 0} (Hears : L → Notice → Result Unit ProcessingError → 
   unread_answer seen c s t unread_by.BadByte step earlier h k n valid = let a = n.answer in (a.0, a.1, a.2, a.3, a.4, record { goes_on = unfailed c earlier h valid; looks = refl })
   unread_answer seen c s t unread_by.Read step earlier h k n valid = let a = n.answer in (a.0, a.1, a.2, record { goes_on = unfailed c earlier h valid; looks = refl })
   unread_answer seen c s t unread_by.OutOfMemory step earlier h k n valid =
-      let a = n.answer in inl (record { tag = a.0; more = a.1; passes = a.2; begins = a.3; looks = refl }, failed_now c earlier h valid)
+      let a = n.answer in inl (record { tag = a.0; more = a.1; passes = a.2.0; none = a.2.1; begins = a.3; looks = refl }, failed_now c earlier h valid)
   unread_answer seen c s t unread_by.HasFailed step earlier h k n valid = absurd (true≢false (sym n.was ∙ k))
 
   tried_looks : (a b c : CheckerAtSource L) (earlier xs : List Step) (x : Step) → TakesStepsBeforeEnd Hears before begun a b earlier xs → TriesStep b c (taken_after xs earlier) x → looks_of c.checker ≤ looks_of a.checker + most_looks_after (xs ++ x ∷ []) earlier
@@ -301,7 +307,7 @@ module _ {L : Type 0} (Hears : L → Notice → Result Unit ProcessingError → 
           kept_by 0 a b c earlier xs _ p w.0.passes,
           inl (
             went_waiting 0 a b c earlier xs (w.0.tag ∷ w.0.more) (omega arith) e h k w.0.looks p w.0.passes,
-            record { tag = w.0.tag; more = w.0.more; following = c.source.waiting; whole = refl; begins = w.0.begins },
+            stops_within w.0.tag w.0.more c.source.waiting w.0.none w.0.begins,
             w.1,
           ),
         )

@@ -1,6 +1,6 @@
 -- The check is exact without the literals that have no room, because no clause of the buckets has them.
 use Rattle.std.proofs.Common.{ℕ, ◌≡◌, ◌↔◌, ◌∙◌, ◌+◌, ◌<◌, Bool, true, false, ◌||◌, cond, eqb, List, [], ◌∷◌, ◌++◌, length, take, drop, get_or, map, refl, sym, ap, subst, ◌⊎◌, inl, inr}
-use Rattle.std.proofs.lemmas.Bool.{or_cases, or_left, or_right, or_parts, both_ways, eqb-true, eq-eqb, false_from_ne_true}
+use Rattle.std.proofs.lemmas.Bool.{or_cases, or_left, or_right, or_parts, both_ways, cond-true, eqb-true, eq-eqb, false_from_ne_true}
 use Rattle.std.proofs.lemmas.List.{map-append}
 use Rattle.std.specs.List.{AllByRecursion, list_any}
 use Rattle.sat_base.specs.values.Literals.{negated, negated_if}
@@ -109,30 +109,50 @@ module _ (old mid : LiteralsAndRoom) (seen : List ℕ) (x : ℕ) (within : (l : 
       swap false true a = refl
       swap false false a = refl
 
+-- negating all literals does not change whether both signs of a variable occur
+pub tautology_signed : (negate : Bool) (ls : List ℕ) → is_tautology (signed negate ls) ≡ is_tautology ls
+tautology_signed false ls = refl
+tautology_signed true [] = refl
+tautology_signed true (l ∷ ls) =
+    ap (λ b. b || is_tautology (map negated ls)) (among_negations ls (negated (negated l)) ∙ ap (is_among ls) (ap negated (negated-negated l)))
+    ∙ ap (λ b. is_among ls (negated l) || b) (tautology_signed true ls)
+
 -- the literal at index `i`, after the earlier ones are denied
-module _ (old mid : LiteralsAndRoom) (negate : Bool) (ls before : List ℕ) (i l : ℕ) (inside : i < length ls) (is : l ≡ get_or ls i l) (front : before ≡ take i ls) (room : mid.room ≡ old.room)
+module _ (old mid : LiteralsAndRoom) (negate : Bool) (ls : List ℕ) (i l : ℕ) (inside : i < length ls) (is : l ≡ get_or ls i l) (room : mid.room ≡ old.room)
     (within : (m : ℕ) → is_among old.literals m ≡ true → is_among old.room m ≡ true) (denied : DeniedInRoom old (signed negate (take i ls)) mid) where
   one_more : signed negate (take (i + 1) ls) ≡ signed negate (take i ls) ++ negated_if negate l ∷ []
   one_more = clause_more negate ls i l inside ∙ ap (λ k. signed negate (take i ls) ++ negated_if negate k ∷ []) (sym is)
 
-  tested : cond (is_among mid.room (negated_if negate l)) (is_among mid.literals (negated_if negate l)) (is_among before (negated l))
-      ≡ cond (is_among old.room (negated_if negate l)) (is_among mid.literals (negated_if negate l)) (is_among (signed negate (take i ls)) (negated (negated_if negate l)))
-  tested =
-      ap (λ r. cond (is_among r (negated_if negate l)) (is_among mid.literals (negated_if negate l)) (is_among before (negated l))) room
-      ∙ ap (cond (is_among old.room (negated_if negate l)) (is_among mid.literals (negated_if negate l))) (ap (λ ks. is_among ks (negated l)) front ∙ sym (other_among negate (take i ls) l))
+  split : (signed negate (take i ls) ++ negated_if negate l ∷ []) ++ signed negate (drop (i + 1) ls) ≡ signed negate ls
+  split = ap (λ c. c ++ signed negate (drop (i + 1) ls)) (sym one_more) ∙ clause_split negate ls (i + 1)
 
-  pub place_met : cond (is_among mid.room (negated_if negate l)) (is_among mid.literals (negated_if negate l)) (is_among before (negated l)) ≡ true
+  -- its negation is not before it, since the clause is no tautology
+  fresh : is_tautology ls ≡ false → is_among (signed negate (take i ls)) (negated (negated_if negate l)) ≡ false
+  fresh t = false_from_ne_true (is_among (signed negate (take i ls)) (negated (negated_if negate l))) (
+      λ a. both_ways (is_tautology (signed negate ls)) (tautology_signed negate ls ∙ t)
+      (subst (λ c. is_tautology c ≡ true) split (tautology_front (signed negate (take i ls) ++ negated_if negate l ∷ []) (signed negate (drop (i + 1) ls))
+      (tautology_push (signed negate (take i ls)) (negated_if negate l)
+      ∙ or_left (is_among (signed negate (take i ls)) (negated (negated_if negate l))) (is_tautology (signed negate (take i ls))) a))))
+
+  pub place_met : (x : ℕ) → x ≡ negated_if negate l → ((m : ℕ) → is_among mid.literals m ≡ true → is_among mid.room m ≡ true) → is_among mid.literals x ≡ true
       → (list_any (is_among old.literals) (signed negate ls) ≡ true) ⊎ (is_tautology (signed negate ls) ≡ true)
-  place_met h =
-      met_in_room old mid (signed negate (take i ls)) (negated_if negate l) within denied (signed negate ls) (signed negate (drop (i + 1) ls))
-      (ap (λ c. c ++ signed negate (drop (i + 1) ls)) (sym one_more) ∙ clause_split negate ls (i + 1)) (sym tested ∙ h)
+  place_met x e stand h =
+      let k : is_among mid.literals (negated_if negate l) ≡ true = subst (λ y. is_among mid.literals y ≡ true) e h in
+      let r : is_among old.room (negated_if negate l) ≡ true = subst (λ xs. is_among xs (negated_if negate l) ≡ true) room (stand (negated_if negate l) k) in
+      met_in_room old mid (signed negate (take i ls)) (negated_if negate l) within denied (signed negate ls) (signed negate (drop (i + 1) ls)) split
+      (cond-true (is_among old.room (negated_if negate l)) (is_among mid.literals (negated_if negate l)) (is_among (signed negate (take i ls)) (negated (negated_if negate l))) r ∙ k)
 
-  pub place_denied : (new : LiteralsAndRoom) (other : ℕ) → other ≡ negated (negated_if negate l) → cond (is_among mid.room (negated_if negate l)) (is_among mid.literals (negated_if negate l)) (is_among before (negated l)) ≡ false
-      → AgreesOn mid.room new.literals (other ∷ mid.literals) → DeniedInRoom old (signed negate (take (i + 1) ls)) new
-  place_denied new other e h same =
+  pub place_denied : (new : LiteralsAndRoom) (x other : ℕ) → x ≡ negated_if negate l → other ≡ negated x → is_among mid.literals x ≡ false → is_tautology ls ≡ false → AgreesOn mid.room new.literals (other ∷ mid.literals)
+      → DeniedInRoom old (signed negate (take (i + 1) ls)) new
+  place_denied new x other e o h t same =
       subst (λ c. DeniedInRoom old c new) (sym one_more)
-      (denied_more old mid (signed negate (take i ls)) (negated_if negate l) within denied new (sym tested ∙ h)
-      (λ m r. same m (subst (λ xs. is_among xs m ≡ true) (sym room) r) ∙ ap (λ o. eqb o m || is_among mid.literals m) e))
+      (denied_more old mid (signed negate (take i ls)) (negated_if negate l) within denied new
+      (either (is_among old.room (negated_if negate l)) (subst (λ y. is_among mid.literals y ≡ false) e h) (fresh t))
+      (λ m r. same m (subst (λ xs. is_among xs m ≡ true) (sym room) r) ∙ ap (λ y. eqb y m || is_among mid.literals m) (o ∙ ap negated e)))
+    where
+      either : (b : Bool) → {u v : Bool} → u ≡ false → v ≡ false → cond b u v ≡ false
+      either true p q = p
+      either false p q = q
 
 -- a conflict depends only on the literals that have room
 pub rule_same : (room us vs : List ℕ) (buckets : List (List (List ℕ))) → AgreesOn room us vs → AllByRecursion (HasClausesRoom room) buckets → BucketsConflict us buckets → BucketsConflict vs buckets

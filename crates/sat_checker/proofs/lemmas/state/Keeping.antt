@@ -1,5 +1,5 @@
 -- What the checker's state represents after a step.
-use Rattle.std.proofs.Common.{ℕ, ◌≡◌, Bool, false, cond, List, [], ◌∷◌, Option, None, Some, refl, sym, ◌∙◌, ap, subst, Result, Ok, Err}
+use Rattle.std.proofs.Common.{ℕ, ◌≡◌, Bool, false, cond, List, [], ◌∷◌, Option, None, Some, refl, sym, ◌∙◌, ap, subst, Result, Err}
 use Rattle.std.specs.List.{AllByRecursion}
 use Rattle.sat_base.specs.values.Literals.{variable}
 use Rattle.sat_base.specs.steps.Steps.{SolverVarName, AddClause, DeleteClause, Deletion, Redundant, Satisfied, Simplified}

@@ -13,7 +13,7 @@ same_variable : (x l : ℕ) → x ≡ negated l → variable x ≡ variable l
 same_variable x l e = omega arith
 
 -- a list mentions a variable if it has one of its literals
-var_among : (ls : List ℕ) (l : ℕ) → (is_among ls l ≡ true) ⊎ (is_among ls (negated l) ≡ true) → mentions ls (variable l) ≡ true
+pub var_among : (ls : List ℕ) (l : ℕ) → (is_among ls l ≡ true) ⊎ (is_among ls (negated l) ≡ true) → mentions ls (variable l) ≡ true
 var_among [] l (inl h) = absurd (true≢false (sym h))
 var_among [] l (inr h) = absurd (true≢false (sym h))
 var_among (x ∷ xs) l h = go h (var_among xs l)
@@ -34,7 +34,7 @@ var_among (x ∷ xs) l h = go h (var_among xs l)
 two_literals : (x l : ℕ) → variable x ≡ variable l → (x ≢ l) → x ≡ negated l
 two_literals x l e n = omega arith
 
-var_not_among : (ls : List ℕ) (l : ℕ) → is_among ls l ≡ false → is_among ls (negated l) ≡ false → mentions ls (variable l) ≡ false
+pub var_not_among : (ls : List ℕ) (l : ℕ) → is_among ls l ≡ false → is_among ls (negated l) ≡ false → mentions ls (variable l) ≡ false
 var_not_among [] l a b = refl
 var_not_among (x ∷ xs) l a b = go (eqb x l) refl (eqb x (negated l)) refl (var_not_among xs l)
   where

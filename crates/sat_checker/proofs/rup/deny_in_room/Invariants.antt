@@ -3,9 +3,9 @@ use Rattle.sat_checker.specs.inner.Look.{AssumesMore}
 use Rattle.sat_checker.specs.inner.AssumedRoom.{DeniedInRoom, signed}
 use Rattle.sat_checker.proofs.rup.deny_in_room.Given as goal
 
-abbrev pub invariant-loop-place : goal.invariant-loop-place
-invariant-loop-place l = record {
-  denied : DeniedInRoom l.fn.assigned (signed l.negate (take l.place l.literals)) l.assigned;
+abbrev pub invariant-loop-literal : goal.invariant-loop-literal
+invariant-loop-literal l = record {
+  denied : DeniedInRoom l.fn.assigned (signed l.negate (take l.literal-index l.literals)) l.assigned;
   room : l.assigned.room ≡ l.fn.assigned.room;
   extends : AssumesMore l.fn.assigned l.assigned;
 }

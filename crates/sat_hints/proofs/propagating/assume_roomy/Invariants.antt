@@ -1,10 +1,9 @@
-use Rattle.std.proofs.Common.{◌≡◌}
-use Rattle.sat_checker.specs.inner.AssumedRoom.{signed}
-use Rattle.sat_hints.proofs.lemmas.Signs.{AgreesFirst}
+use Rattle.std.proofs.Common.{◌≡◌, take}
+use Rattle.sat_checker.specs.inner.AssumedRoom.{AgreesOn, signed}
 use Rattle.sat_hints.proofs.propagating.assume_roomy.Given as goal
 
-abbrev pub invariant-loop-place : goal.invariant-loop-place
-invariant-loop-place l = record {
-  agrees : AgreesFirst l.fn.assumed.room (signed l.negate l.literals) l.place l.assumed.literals;
+abbrev pub invariant-loop-literal : goal.invariant-loop-literal
+invariant-loop-literal l = record {
+  agrees : AgreesOn l.fn.assumed.room l.assumed.literals (take l.literal-index (signed l.negate l.literals));
   room : l.assumed.room ≡ l.fn.assumed.room;
 }

@@ -44,7 +44,7 @@ puts_header words words' refs o h holds_clauses has len header lits change =
     header_put words words' refs o h holds_clauses has header
     (lits ∙ take_all h.len (lits_at words o) (omega (arith, same_count words o (holds_clauses.clauses o has)))) change
 
--- whether a clause counts for a tier, given its header
+-- a live clause counts for a tier exactly if its header has this tier
 counted_live : (words : List ℕ) (t : Tier) (o : ℕ) (tier : Tier) → is_live words o ≡ true → (header_at words o).tier ≡ tier → is_live_in_tier words t o ≡ (index_of tier == index_of t)
 counted_live words t o tier live is = ap (λ b. b && (index_of (header_at words o).tier == index_of t)) live ∙ ap (λ x. index_of x == index_of t) is
 
@@ -113,6 +113,7 @@ after_delete words o db = record db {
   garbage = min (db.garbage + (length (lits_at words o) + 3)) (2 ^ 64 - 1);
 }
 
+-- marking a live clause as deleted preserves the invariant of the list of clauses
 pub deletes : (words : List ℕ) (db : Db) (words' : List ℕ) (o : ℕ) → DbMatchesBuffer words db → Contains (live_refs words db.refs) o →
     PutsHeader words words' db.refs o (record (header_at words o) { deleted = true }) → DeletesClause words db words' (after_delete words o db) o
 deletes words db words' o h c put =
@@ -178,6 +179,7 @@ garbage_put words words' refs o h rising has live live' put =
     let now : garbage_of words' o ≡ 0 = cond-true (is_live words' o) 0 (length (lits_at words' o) + 3) live' in
     omega arith
 
+-- moving a live clause to another tier preserves the invariant of the list of clauses
 pub moves : (words : List ℕ) (db : Db) (words' : List ℕ) (o : ℕ) (tier : Tier) → DbMatchesBuffer words db → Contains (live_refs words db.refs) o → index_of (header_at words o).tier ≢ index_of tier →
     PutsHeader words words' db.refs o (record (header_at words o) { tier = tier }) → MovesClause words db words' (after_move words o tier db) o tier
 moves words db words' o tier h c differ put =
@@ -237,6 +239,7 @@ after_add o tier db = record db { refs = db.refs ++ o ∷ []; counts = tier_coun
 added_keeps : (words words' : List ℕ) (db : Db) (o : ℕ) (header : Header) (lits : List ℕ) → DbMatchesBuffer words db → AppendsClause words words' o header lits → (p : ℕ) → Contains db.refs p → SameClauseAt words words' p
 added_keeps words words' db o header lits h added p c = kept_below words words' db.refs o p header lits h.holds_clauses c added
 
+-- appending a clause to the buffer and to the list preserves the invariant of the list of clauses
 pub adds : (words : List ℕ) (db : Db) (words' : List ℕ) (o : ℕ) (header : Header) (lits : List ℕ) → DbMatchesBuffer words db → header.deleted ≡ false → 3 ≤ length lits → length (db.refs ++ o ∷ []) < 2 ^ 64 →
     AppendsClause words words' o header lits → AddsLongClause words db words' (after_add o header.tier db) o header lits
 adds words db words' o header lits h new three few added =

@@ -21,6 +21,7 @@ keeps_on a b c p x y = record { clause = y.clause; header = y.header ∙ x.heade
 live_kept : (old new : List ℕ) (p : ℕ) → SameClauseAt old new p → is_live old p ≡ is_live new p
 live_kept old new p k = ap (λ (h : Header). not h.deleted) (sym k.header)
 
+-- the invariant of the pass holds before the first clause
 pub filtering_none : {F : Type 0} (R : F → ℕ → Bool → F → Type 0) (f : F) (words refs : List ℕ) → HoldsClauses words refs → FilterInvariant R f words words refs 0 f
 filtering_none R f words refs holds_clauses = record {
   answers = [];
@@ -84,6 +85,7 @@ pub filtering_kept : {F : Type 0} (R : F → ℕ → Bool → F → Type 0) (f f
     o ≡ get_or refs at 0 → SameClauseAt old new o
 filtering_kept R f f' old new refs at o h lt e = subst (λ p. SameClauseAt old new p) (sym e) (h.rest at (omega arith) lt)
 
+-- the next clause of the pass was live before the pass if it is live
 pub filtering_alive : {F : Type 0} (R : F → ℕ → Bool → F → Type 0) (f f' : F) (old new refs : List ℕ) (at o : ℕ) → FilterInvariant R f old new refs at f' → at < length refs →
     o ≡ get_or refs at 0 → is_live new o ≡ true → Contains (live_refs old refs) o
 filtering_alive R f f' old new refs at o h lt e alive = live_place old refs at o lt e (live_kept old new o (filtering_kept R f f' old new refs at o h lt e) ∙ alive)
@@ -141,6 +143,7 @@ filtering_drop R f f' f'' old new new' refs at p rising h lt is live asked puts 
       rest = λ k a b. keeps_on old new new' (get_or refs k 0) (h.rest k (omega arith) b) (other k b (omega arith));
     }
 
+-- after the pass, the live clauses are those that passed the test, and are unchanged
 pub filtering_all : {F : Type 0} (R : F → ℕ → Bool → F → Type 0) (f f' : F) (old new refs : List ℕ) (at : ℕ) → FilterInvariant R f old new refs at f' → at ≡ length refs →
     IsFiltered R f (live_refs old refs) (live_refs new refs) × SameClausesAt old new (live_refs new refs)
 filtering_all R f f' old new refs at h e =

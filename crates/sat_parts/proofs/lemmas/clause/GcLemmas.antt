@@ -64,6 +64,7 @@ packed_more w r w2 c h ls holds_clauses packed added =
     let own : length (lits_at w2 c) ≡ length ls = ap (λ (xs : List ℕ). length xs) added.lits_there in
     omega (arith, sum_by_push (λ o. length (lits_at w2 o) + 3) r c, kept, own, packed, added.size)
 
+-- a deleted clause is not copied
 pub copying_skip : (words refs w r : List ℕ) (i : ℕ) → CopyInvariant words refs w r i → i < length refs → is_live words (get_or refs i 0) ≡ false → CopyInvariant words refs w r (i + 1)
 copying_skip words refs w r i h lt dead =
     let e : live_refs words (take i refs) ≡ live_refs words (take (i + 1) refs) = sym (live_skip words refs i lt dead) in
@@ -98,6 +99,7 @@ copies_more words live w r w2 c o h holds_clauses clause added =
       ];
     }
 
+-- the next live clause was copied
 pub copying_more : (words refs w r w2 : List ℕ) (i c o : ℕ) → HoldsClauses words refs → AreStrictlyIncreasing refs → CopyInvariant words refs w r i → i < length refs → o ≡ get_or refs i 0 → is_live words o ≡ true →
     AppendsClause w w2 c (header_at words o) (lits_at words o) → CopyInvariant words refs w2 (r ++ c ∷ []) (i + 1)
 copying_more words refs w r w2 i c o holds_clauses rising h lt o_is live added =
@@ -124,6 +126,7 @@ copying_more words refs w r w2 i c o holds_clauses rising h lt o_is live added =
       packed = packed_more w r w2 c (header_at words o) (lits_at words o) h.holds_clauses h.packed added;
     }
 
+-- after all clauses, exactly the live ones were copied, none to a larger offset
 pub copying_all : (words refs w r : List ℕ) (i : ℕ) → CopyInvariant words refs w r i → i ≡ length refs → Copies words (live_refs words refs) w r × ((k : ℕ) → k < length r → get_or r k 0 ≤ get_or (live_refs words refs) k 0)
 copying_all words refs w r i h e =
     let all : live_refs words (take i refs) ≡ live_refs words refs = ap (λ (xs : List ℕ). live_refs words xs) (take_all i refs (omega arith)) in
@@ -186,6 +189,7 @@ follows_all live refs' n (Long o) r e there h = elim h [
       absurd (x.1 c.0 (omega (arith, c.1)) (at_place live o c))
 ]
 
+-- the reason that names the next clause follows it to its copy
 pub followed_more : (words live refs' lits : List ℕ) (n first : ℕ) (nodes one two : List ImplNode) → AreFollowed live refs' lits n nodes one → AreFirsts words live lits nodes →
     first ≡ lit_of words (get_or live n 0) 0 → ((k : ℕ) → k < n → get_or refs' k 0 < get_or live n 0) →
     ((node_of one (variable first)).reason ≡ Long (get_or live n 0) → two ≡ with_node (variable first) (record (node_of one (variable first)) { reason = Long (get_or refs' n 0) }) one) →
@@ -301,6 +305,7 @@ copy_live_is words live w r h all x c =
     let lt : c.0 < length live = omega (arith, c.1, h.size) in
     ap (λ z. is_live w z) (sym (at_place r x c)) ∙ ap (λ (y : Header). not y.deleted) (h.headers c.0 lt) ∙ all (get_or live c.0 0) (place_in live c.0 lt)
 
+-- the list of the copies has the invariant of the list of clauses
 pub holds_copies : (words w r : List ℕ) (db : Db) (i : ℕ) → DbMatchesBuffer words db → CopyInvariant words db.refs w r i → i ≡ length db.refs → DbMatchesBuffer w (after_collection r db)
 holds_copies words w r db i h x e =
     let c : Copies words (live_refs words db.refs) w r = (copying_all words db.refs w r i x e).0 in
@@ -325,6 +330,7 @@ holds_copies words w r db i h x e =
           (h.long (get_or (live_refs words db.refs) d.0 0) (live_in words db.refs (get_or (live_refs words db.refs) d.0 0) (place_in (live_refs words db.refs) d.0 lt)));
     }
 
+-- copied clauses and reasons that follow them are a garbage collection
 pub collected : (words w r lits : List ℕ) (db : Db) (i n : ℕ) (nodes nodes' : List ImplNode) → DbMatchesBuffer words db → CopyInvariant words db.refs w r i → i ≡ length db.refs →
     AreFirsts words (live_refs words db.refs) lits nodes → AreFollowed (live_refs words db.refs) r lits n nodes nodes' → n ≡ length (live_refs words db.refs) →
     Collects words db nodes lits w (after_collection r db) nodes'

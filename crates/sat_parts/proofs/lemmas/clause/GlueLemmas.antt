@@ -12,11 +12,12 @@ use Rattle.sat_parts.specs.declared.prop.graph.ImplNode.{ImplNode}
 use Rattle.sat_parts.specs.prop.Graphs.{node_of}
 use Rattle.sat_parts.specs.clause.Glue.{count_distinct, levels_of}
 
--- whether a number is in a list
+-- `among q xs` is true if the number `q` is in the list.
 abbrev pub among : ℕ → List ℕ → Bool
 among q xs = list_any (λ x. eqb q x) xs
 
--- that the flags of the first i levels are set, and `glue` counts the different ones
+-- `AreMarked flags levels i glue` holds if the flags of the first `i` levels are set, and `glue` counts the different
+-- ones.
 pub record AreMarked (flags : List Bool) (levels : List ℕ) (i glue : ℕ) : Type 0 where
   pub keys : List ℕ
   pub distinct : IsDistinct eqb keys
@@ -40,6 +41,7 @@ or_false : (a : Bool) → (a || false) ≡ a
 or_false true = refl
 or_false false = refl
 
+-- a level whose flag is set was counted before
 pub marked_seen : (flags : List Bool) (levels : List ℕ) (i glue x : ℕ) → AreMarked flags levels i glue → i < length levels → x ≡ get_or levels i 0 → x < length flags →
     get_or flags x false ≡ true → AreMarked flags levels (i + 1) glue
 marked_seen flags levels i glue x h lt x_is b seen =
@@ -55,6 +57,7 @@ marked_seen flags levels i glue x h lt x_is b seen =
       marks = λ q c. h.marks q c ∙ more q;
     }
 
+-- a level whose flag is not set is counted, and its flag is set
 pub marked_new : (flags : List Bool) (levels : List ℕ) (i glue x : ℕ) → AreMarked flags levels i glue → i < length levels → x ≡ get_or levels i 0 → x < length flags →
     get_or flags x false ≡ false → AreMarked (set flags x true) levels (i + 1) (glue + 1)
 marked_new flags levels i glue x h lt x_is b unseen =
@@ -77,6 +80,7 @@ marked_new flags levels i glue x h lt x_is b unseen =
       ];
     }
 
+-- after all levels, `glue` is the number of different ones, and exactly their flags are set
 pub marked_all : (flags : List Bool) (levels : List ℕ) (i glue : ℕ) → AreMarked flags levels i glue → i ≡ length levels →
     (glue ≡ count_distinct levels) × ((q : ℕ) → q < length flags → get_or flags q false ≡ among q levels)
 marked_all flags levels i glue h e =
@@ -85,7 +89,7 @@ marked_all flags levels i glue h e =
       λ q b. h.marks q b ∙ ap (λ xs. among q xs) all,
     )
 
--- that the first i levels have n different ones
+-- `HasKeys levels i n` holds if the first `i` levels have `n` different ones.
 record HasKeys (levels : List ℕ) (i n : ℕ) : Type 0 where
   keys : List ℕ
   distinct : IsDistinct eqb keys
@@ -132,10 +136,11 @@ pub marked_least : (flags : List Bool) (levels : List ℕ) (i glue : ℕ) → Ar
 marked_least flags levels i glue h lt =
     keys_least levels (length levels - i) i glue (record { keys = h.keys; distinct = h.distinct; counted = h.counted; same = h.same }) (omega arith)
 
--- that every flag still set belongs to a level from index i on
+-- `AreLeft flags levels i` holds if every flag still set belongs to a level from index `i` on.
 abbrev pub AreLeft : List Bool → List ℕ → ℕ → Type 0
 AreLeft flags levels i = (q : ℕ) → q < length flags → get_or flags q false ≡ true → among q (drop i levels) ≡ true
 
+-- clearing the flag of the next level leaves only flags of later levels
 pub left_more : (flags : List Bool) (levels : List ℕ) (i x : ℕ) → AreLeft flags levels i → i < length levels → x ≡ get_or levels i 0 → x < length flags → AreLeft (set flags x false) levels (i + 1)
 left_more flags levels i x h lt x_is b q c t =
     let size : length (set flags x false) ≡ length flags = length-set flags x false in

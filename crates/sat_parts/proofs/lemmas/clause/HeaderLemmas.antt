@@ -10,6 +10,7 @@ use Rattle.sat_parts.specs.clause.Db.{Db, is_live, live_refs, is_live_in_tier, g
 use Rattle.sat_parts.specs.clause.Activity.{PutsHeaders, PutsFirst}
 use Rattle.sat_parts.proofs.lemmas.clause.ListLemmas.{at_place, sum_same, filter_same}
 
+-- once the first n clauses are all clauses, all have their new headers
 pub first_all : (words one refs : List ℕ) (f : ℕ → Header) (n : ℕ) → PutsFirst words one refs f n → n ≡ length refs → PutsHeaders words one refs f
 first_all words one refs f n x e = record {
   size = x.size;
@@ -42,6 +43,7 @@ holds_headers words one db f h x dead tier =
       long = λ p c. subst (λ (ls : List ℕ). 3 ≤ length ls) (sym (x.lits p c)) (h.long p c);
     }
 
+-- new headers that keep `deleted` leave the same clauses live
 pub live_headers : (words one : List ℕ) (db : Db) (f : ℕ → Header) → PutsHeaders words one db.refs f → ((p : ℕ) → Contains db.refs p → (f p).deleted ≡ (header_at words p).deleted) →
     live_refs one db.refs ≡ live_refs words db.refs
 live_headers words one db f x dead = filter_same (is_live words) (is_live one) db.refs (λ p c. ap (λ (y : Header). not y.deleted) (x.headers p c) ∙ ap (λ b. not b) (dead p c))
@@ -67,6 +69,7 @@ one_of words o p h f e = elim (cases_eq p o) [
   | inr n ↦ ap (λ (x : Header). f x) (cond-false (p == o) h (header_at words p) (ne_eqb p o n))
 ]
 
+-- a new header that keeps `deleted` and the tier preserves the invariant of the list of clauses
 pub holds_put : (words one : List ℕ) (db : Db) (o : ℕ) (h : Header) → DbMatchesBuffer words db → PutsHeader words one db.refs o h → h.deleted ≡ (header_at words o).deleted → h.tier ≡ (header_at words o).tier →
     DbMatchesBuffer one db × (live_refs one db.refs ≡ live_refs words db.refs)
 holds_put words one db o h x put dead tier =
@@ -82,6 +85,7 @@ passed_more p refs xs at x e lt is passes =
     ap (λ (zs : List ℕ). zs ++ x ∷ []) e ∙ ap (λ z. filter p (take at refs) ++ z ∷ []) is
     ∙ ap (λ (zs : List ℕ). filter p (take at refs) ++ zs) (sym (cond-true (p (get_or refs at 0)) (get_or refs at 0 ∷ []) [] y)) ∙ sym (filter_more p refs at 0 lt)
 
+-- an item that fails the test is not among those that were selected
 pub passed_skip : (p : ℕ → Bool) (refs xs : List ℕ) (at x : ℕ) → xs ≡ filter p (take at refs) → at < length refs → x ≡ get_or refs at 0 → p x ≡ false → xs ≡ filter p (take (at + 1) refs)
 passed_skip p refs xs at x e lt is fails =
     let n : p (get_or refs at 0) ≡ false = subst (λ z. p z ≡ false) is fails in

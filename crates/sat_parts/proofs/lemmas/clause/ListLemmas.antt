@@ -51,6 +51,7 @@ rising_distinct xs j k h a b e = elim (cases_eq j k) [
   ]
 ]
 
+-- an item other than x is in the rest of the list
 pub there : (x : ℕ) (xs : List ℕ) (o : ℕ) → x ≢ o → Contains (x ∷ xs) o → Contains xs o
 there x xs o n (zero, lt, e) = absurd (n e)
 there x xs o n (suc k, lt, e) = (k, omega arith, e)
@@ -104,6 +105,7 @@ counted_some p (x ∷ xs) o c e = elim (cases_eq x o) [
       omega (arith, sum_by-cons (λ z. cond {A = ℕ} (p z) 1 0) x xs)
 ]
 
+-- dropping o from a list whose first item may be left out drops it from the rest
 pub one_dropped : (b : Bool) (o x : ℕ) (xs : List ℕ) → cond (b && not (eqb x o)) (x ∷ without o xs) (without o xs) ≡ without o (cond b (x ∷ xs) xs)
 one_dropped true o x xs = refl
 one_dropped false o x xs = refl

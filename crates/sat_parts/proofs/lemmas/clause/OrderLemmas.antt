@@ -42,6 +42,7 @@ other_first i j k e n = grind (arith, nat_tests)
 other_rest : (i j k : ℕ) → (k ≡ i → ⊥) → (k ≡ j → ⊥) → other i j k ≡ k
 other_rest i j k n m = grind (arith, nat_tests)
 
+-- the literal at a position after two literals were swapped
 pub swapped_at : (ls : List ℕ) (i j k : ℕ) → i < length ls → j < length ls → get_or (swapped ls i j) k 0 ≡ get_or ls (other i j k) 0
 swapped_at ls i j k p q = elim (cases_eq k j) [
   | inl e ↦ ap (λ x. get_or (swapped ls i j) x 0) e ∙ at_second ls i j q ∙ ap (λ x. get_or ls x 0) (sym (other_second i j k e))
@@ -215,6 +216,7 @@ reorders_one a b live o g s = record {
   };
 }
 
+-- permuting the literals of clauses preserves `AreClauses`
 pub kept_clauses : (a b live : List ℕ) (count : ℕ) → AreClauses a live count → PermutesClauses a b live → AreClauses b live count
 kept_clauses a b live count h r =
     let k : SameUpToOrder a b live = r.all live (λ o g. g) h.holds_clauses in
@@ -228,6 +230,7 @@ kept_clauses a b live count h r =
       distinct = λ o g. (k.lits o g).apart (h.distinct o g);
     }
 
+-- a bound on the literals of a clause holds after they were permuted
 pub below_shuffled : (a b : List ℕ) (o n : ℕ) → PermutesClause a b o → ((k : ℕ) → k < size_of a o → lit_of a o k < n) → (k : ℕ) → k < size_of b o → lit_of b o k < n
 below_shuffled a b o n e h k p =
     let s : size_of b o ≡ size_of a o = e.lits.size in

@@ -9,6 +9,7 @@ use Rattle.sat_parts.specs.parts.Whole.{state, SearchStateInvariant, IsFullyProp
 use Rattle.sat_parts.proofs.lemmas.parts.ValueLemmas.{open_or_true}
 use Rattle.sat_parts.proofs.lemmas.parts.LevelLemmas.{model_found, complete_now}
 
+-- a fully propagated assignment of all variables in clauses satisfies all clauses
 pub is_modelled : (p : SearchState) → SearchStateInvariant p → IsFullyPropagated p → AllAssigned p → ClausesAreSatisfied p
 is_modelled p h done all = record {
   long = λ o c.

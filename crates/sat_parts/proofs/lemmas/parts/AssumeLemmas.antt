@@ -107,7 +107,7 @@ placed_next ls below place l s x lt is h free there k =
       all = λ more. absurd (omega arith);
     }
 
--- whether a level begins at this position
+-- one more start of a level elsewhere begins no level at this position
 begins_after : (x : ℕ) (xs : List ℕ) (i : ℕ) → x ≢ i → BeginsNoLevel xs i → BeginsNoLevel (x ∷ xs) i
 begins_after x xs i n none zero b e = n e
 begins_after x xs i n none (suc k) b e = none k (omega arith) e

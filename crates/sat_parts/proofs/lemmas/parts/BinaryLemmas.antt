@@ -66,7 +66,7 @@ pub implied_new : (x : List (List ℕ)) (p m : ℕ) → p < length x → Contain
 implied_new x p m within =
     subst (λ (ys : List ℕ). Contains ys m) (sym (get_or-set_same x p (implied_by x p ++ m ∷ []) [] within)) (Contains-push (implied_by x p) m)
 
--- the same after the two implications of a new clause were added
+-- what holds of all implications holds after the two implications of a new clause were added, if it holds of these
 pub binary_all : (x : Binaries) (a b : ℕ) (Q : ℕ → ℕ → Type 0) → negated a < length x.implied → negated b < length x.implied →
     ((l k : ℕ) → k < length (implied_by x.implied l) → Q l (get_or (implied_by x.implied l) k 0)) → Q (negated a) b → Q (negated b) a →
     (l k : ℕ) → k < length (implied_by (with_binary a b x).implied l) → Q l (get_or (implied_by (with_binary a b x).implied l) k 0)

@@ -215,6 +215,7 @@ again_true s l m h x holds =
           get_or-set_other (set s.values (variable l) None) (variable l) (variable m) (Some (is_positive l)) None d ∙ get_or-set_other s.values (variable l) (variable m) None None d ∙ holds
     ]
 
+-- if a unit goes back to the trail, the true literals are the unit and those of other variables that were true
 pub again_back : (s : PropagationState) (l m : ℕ) → IsRemoved s l → IsTrueLit (enqueued l NoCause (dropped l s)).values m → (m ≡ l) ⊎ ((variable m ≢ variable l) × IsTrueLit s.values m)
 again_back s l m x holds =
     let below : variable l < length s.values = below_from_value s.values (variable l) _ x.holds in

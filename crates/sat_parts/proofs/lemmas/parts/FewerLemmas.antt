@@ -33,11 +33,11 @@ use Rattle.sat_parts.proofs.lemmas.prop.CollectedLemmas.{with_graph, asks_collec
 use Rattle.sat_parts.specs.parts.Round.{IsUnused, IsSoundBelow, RoundInvariant}
 use Rattle.sat_parts.proofs.lemmas.parts.TurnLemmas.{turns_by}
 
--- that every live clause was live before, with the same literals
+-- `LeavesClauses words refs words' refs'` holds if every live clause was live before, with the same literals.
 abbrev pub LeavesClauses : (words refs words' refs' : List ℕ) → Type 0
 LeavesClauses words refs words' refs' = (o : ℕ) → Contains (live_refs words' refs') o → Contains (live_refs words refs) o × (lits_at words' o ≡ lits_at words o)
 
--- that the reasons on the trail are live
+-- `KeepsReasons words' refs' s` holds if the clauses of the long reasons on the trail are live.
 abbrev pub KeepsReasons : (words' refs' : List ℕ) (s : PropagationState) → Type 0
 KeepsReasons words' refs' s = (i o : ℕ) → i < length s.trail.lits → (node s (lit_at s i)).reason ≡ Long o → Contains (live_refs words' refs') o
 
@@ -47,6 +47,7 @@ unused_fewer words refs words' refs' implied v same u = record {
   binary = u.binary;
 }
 
+-- the invariant between rounds holds with fewer clauses, if those of the reasons stay
 pub sound_fewer : (words words' : List ℕ) (db db' : Db) (w w' : Watching) (b : Binaries) (a : Values) (g : List ImplNode) (t : Trailed) (q : Queue) →
     RoundInvariant words db w b a g t q → DbMatchesBuffer words' db' → LeavesClauses words db.refs words' db'.refs → KeepsReasons words' db'.refs (state_of a g t) → length w'.lists ≡ length w.lists →
     (w'.enabled ≡ true → AreWatched words' (live_refs words' db'.refs) w'.lists (length a.current)) → RoundInvariant words' db' w' b a g t q
@@ -149,6 +150,7 @@ levelled_collected words db s words' db' nodes' x h = record {
   caused = λ i k b c d e. unit_followed (live_refs words db.refs) db'.refs _ _ (x.reasons i d) ∙ h.caused i k b c d e;
 }
 
+-- the invariant between rounds holds after a garbage collection
 pub sound_collected : (words words' : List ℕ) (db db' : Db) (w w' : Watching) (b : Binaries) (a : Values) (g g' : List ImplNode) (t : Trailed) (q : Queue) →
     RoundInvariant words db w b a g t q → Collects words db g t.lits words' db' g' → w' ≡ record w { enabled = false } → RoundInvariant words' db' w' b a g' t q
 sound_collected words words' db db' w w' b a g g' t q h x to_w =

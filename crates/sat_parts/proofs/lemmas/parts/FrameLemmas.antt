@@ -8,7 +8,10 @@ use Rattle.sat_parts.specs.declared.prop.graph.Reason.{Reason}
 use Rattle.sat_parts.specs.declared.prop.graph.Reason.TheVariants.{Unit as NoCause}
 use Rattle.sat_parts.specs.prop.Graphs.{has_no_clause, node_at}
 use Rattle.sat_parts.specs.prop.Values.{Values, IsTrueLit, IsUnassignedLit}
-use Rattle.sat_parts.specs.prop.Trails.{Trailed, with_level}
+use Rattle.sat_parts.specs.prop.Trails.{Trailed, with_level, cut_to}
+use Rattle.sat_parts.specs.prop.Undone.{undone_to, undone_lits}
+use Rattle.sat_parts.specs.prop.Backtracked.{BacktrackEffect}
+use Rattle.sat_parts.proofs.lemmas.prop.BacktrackLemmas.{keeps_low, undone_length}
 use Rattle.sat_parts.specs.prop.State.{PropagationState, node, level, lit_at, StateIsConsistent, TrailGrows, enqueued}
 use Rattle.sat_parts.specs.prop.Ready.{state_of}
 use Rattle.sat_parts.proofs.lemmas.prop.StateLemmas.{grows_enqueued, lit_last, node_new}
@@ -47,6 +50,19 @@ carries_grown s s' a g new = record {
   ];
   bottom = λ l t z. (g.kept l t, ap (λ (n : ImplNode). n.level) (g.nodes l t) ∙ z);
 }
+
+-- levels that are undone
+pub carries_undone : (v : ℕ) (a : Values) (g : List ImplNode) (t : Trailed) → StateIsConsistent (state_of a g t) → v < length t.starts → AddsNoUnit (state_of a g t) (state_of (undone_to v t a) g (cut_to v t))
+carries_undone v a g t h lt =
+    let k : BacktrackEffect v (state_of a g t) (state_of (undone_to v t a) g (cut_to v t)) = keeps_low v a g t h lt in
+    record {
+      size = undone_length (undone_lits v t) a;
+      units = λ l u. elim u [
+        | inl r ↦ inl (record { holds = k.true_kept l r.holds; depth = r.depth; bottom = r.bottom })
+        | inr b ↦ inr (record { place = b.place; within = omega (arith, b.within, k.shorter); there = sym (k.places b.place b.within) ∙ b.there; bottom = b.bottom; none = b.none })
+      ];
+      bottom = λ l x z. (k.low_kept l x (omega (arith, z)), z);
+    }
 
 -- an unassigned literal becomes true by a clause, or above level 0
 pub carries_enqueued : (s : PropagationState) (l : ℕ) (r : Reason) → StateIsConsistent s → IsUnassignedLit s.values l → variable l < length s.values → (has_no_clause r ≡ false) ⊎ (0 < length s.trail.starts) → AddsNoUnit s (enqueued l r s)

@@ -30,7 +30,7 @@ use Rattle.sat_parts.specs.declared.parts.SearchState.{SearchState}
 use Rattle.sat_parts.specs.parts.Whole.{state, SearchStateInvariant}
 use Rattle.sat_parts.specs.parts.Frame.{AddsNoUnit, KeepsTo, SameExceptLongClauses, ReordersLits, ChangesHeaders, MovesLongClauses}
 
--- that literals are unchanged, and no clause became or ceased to be a learned one
+-- `SidesStay words words' refs` holds if literals are unchanged, and no clause became or ceased to be a learned one.
 pub record SidesStay (words words' refs : List ℕ) : Type 0 where
   pub lits : (o : ℕ) → Contains refs o → lits_at words' o ≡ lits_at words o
   pub sides : (o : ℕ) → Contains refs o → is_learned (header_at words' o).tier ≡ is_learned (header_at words o).tier
@@ -82,6 +82,7 @@ sides_decayed words words' refs c c' later all = elim (cases_lt (later_bump c) (
   | inr le ↦ sides_all words words' refs (shifted words) (all le).1 (λ p k. refl)
 ]
 
+-- a call that changes only headers, and keeps clauses live and learned or not, satisfies `ChangesHeaders`
 pub headed_by : (p p' : SearchState) → live_refs p'.clauses p'.db.refs ≡ live_refs p.clauses p.db.refs → SidesStay p.clauses p'.clauses p.db.refs → SameExceptLongClauses p p' → ChangesHeaders p p'
 headed_by p p' live x same = record {
   live = live;

@@ -48,6 +48,7 @@ level_same s m = ap (λ u. (node_of s.nodes u).level) (negated_variable m)
 pub open_not_left : (s : PropagationState) (m : ℕ) → StateIsConsistent s → IsUnassignedLit s.values m → HasLeftQueue s (negated m) → ⊥
 open_not_left s m h n x = some_none (left_true s (negated m) h x) (ap (λ u. value_of s.values u) (negated_variable m) ∙ n)
 
+-- the literals of a learned clause are in range
 pub pending_below : (s : PropagationState) (q : Queue) (ls : List ℕ) → IsUnitAfterBacktracking s q ls → (k : ℕ) → k < length ls → get_or ls k 0 < 2 * length s.values
 pending_below s q ls x k b = elim (cases_eq k 0) [
   | inl e ↦ (let f : get_or ls k 0 ≡ get_or ls 0 0 = ap (λ i. get_or ls i 0) e in omega (arith, x.there))

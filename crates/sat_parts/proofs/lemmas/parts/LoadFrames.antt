@@ -100,6 +100,7 @@ stored_size : (p p' : SearchState) (ls : List ℕ) → AddsOriginalClause p p' l
 stored_size p p' ls (stores_binary two a b c carries) = carries.size
 stored_size p p' ls (stores_long three o adds b carries) = carries.size
 
+-- loading a clause keeps the number of variables
 pub says_size : (r : Loaded) (p p' : SearchState) (ls : List ℕ) → LoadEffect r p p' ls → length p'.assignment.current ≡ length p.assignment.current
 says_size Stored p p' ls says = stored_size p p' ls says
 says_size One p p' ls says = says.3.size
@@ -111,6 +112,7 @@ stored_units : (p p' : SearchState) (ls : List ℕ) → AddsOriginalClause p p' 
 stored_units p p' ls (stores_binary two a b c carries) l u = carries.units l u
 stored_units p p' ls (stores_long three o adds b carries) l u = carries.units l u
 
+-- loading a clause makes at most its first literal a new unit
 pub says_units : (r : Loaded) (p p' : SearchState) (ls : List ℕ) → LoadEffect r p p' ls → (l : ℕ) → IsUnitLit (state p') l → IsUnitLit (state p) l ⊎ ((0 < length ls) × (l ≡ get_or ls 0 0))
 says_units Stored p p' ls says l u = inl (stored_units p p' ls says l u)
 says_units One p p' ls says l u = elim (says.3.units l u) [ inl o ↦ inl o | inr e ↦ inr (omega (arith, says.0), e) ]
@@ -122,6 +124,7 @@ stored_bottom : (p p' : SearchState) (ls : List ℕ) → AddsOriginalClause p p'
 stored_bottom p p' ls (stores_binary two a b c carries) l t z = carries.bottom l t z
 stored_bottom p p' ls (stores_long three o adds b carries) l t z = carries.bottom l t z
 
+-- literals of level 0 stay true at level 0 when a clause is loaded
 pub says_bottom : (r : Loaded) (p p' : SearchState) (ls : List ℕ) → LoadEffect r p p' ls → (l : ℕ) → IsTrueLit p.assignment.current l → level (state p) l ≡ 0 → IsTrueLit p'.assignment.current l × (level (state p') l ≡ 0)
 says_bottom Stored p p' ls says l t z = stored_bottom p p' ls says l t z
 says_bottom One p p' ls says l t z = says.3.bottom l t z

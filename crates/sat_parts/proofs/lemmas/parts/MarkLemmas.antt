@@ -10,6 +10,7 @@ use Rattle.sat_parts.specs.parts.Round.{IsUnused}
 use Rattle.sat_parts.specs.parts.Using.{MarksJustWhere, HasVar, InLong, InBinary}
 use Rattle.sat_parts.proofs.lemmas.parts.ReduceLemmas.{filter_in, in_filter}
 
+-- two passes mark the variables that either of them marks
 pub marks_more : (a b c : List Bool) (P Q R : ℕ → Type 0) → MarksJustWhere a b P → MarksJustWhere b c Q → ((v : ℕ) → P v → R v) → ((v : ℕ) → Q v → R v) → ((v : ℕ) → R v → P v ⊎ Q v) → MarksJustWhere a c R
 marks_more a b c P Q R x y p q r = record {
   size = y.size ∙ x.size;
@@ -31,6 +32,7 @@ long_more a b c words refs n o x e live y = marks_more a b c (InLong words refs 
       | inr ge ↦ inr (subst (λ p. HasVar words p (size_of words p) v) (ap (λ k. get_or refs k 0) (let q : z.0 ≡ n = omega (arith, z.1.0) in q) ∙ e) z.1.2)
     ])
 
+-- a deleted clause has no variable to mark
 pub long_skip : (a b : List Bool) (words refs : List ℕ) (n o : ℕ) → MarksJustWhere a b (InLong words refs n) → get_or refs n 0 ≡ o → is_live words o ≡ false → MarksJustWhere a b (InLong words refs (n + 1))
 long_skip a b words refs n o x e dead = marks_same a b (InLong words refs n) (InLong words refs (n + 1)) x
     (λ v z. (z.0, (omega (arith, z.1.0), z.1.1, z.1.2)))

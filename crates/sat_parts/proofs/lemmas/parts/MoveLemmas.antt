@@ -44,6 +44,7 @@ ready_moved words words' refs implied s s' q m kept e h v b none = elim (h v (om
   })
 ]
 
+-- propagation preserves the invariant of all parts
 pub sound_moved : (words words' : List ℕ) (db : Db) (w w' : Watching) (b : Binaries) (a a' : Values) (g g' : List ImplNode) (t t' : Trailed) (q : Queue) (top top' : ℕ) →
     IsSoundBelow words db w b a g t q top → DbMatchesBuffer words' db → PropagatesOn (live_refs words db.refs) b.implied words (state_of a g t) words' (state_of a' g' t') →
     live_refs words' db.refs ≡ live_refs words db.refs → PropagationInvariant words' db.refs w' b.implied (state_of a' g' t') top' →

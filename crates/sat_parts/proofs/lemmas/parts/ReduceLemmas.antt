@@ -105,6 +105,7 @@ is_ranked words list x c =
     let e : ranked words (get_or list c.0 0) ≡ x = sym (get_or-map (ranked words) list c.0 0 x (omega (arith, c.1))) ∙ c.2 in
     subst (λ (z : ℕ × ℕ). z.0 ≡ clause_rank words z.1) e refl
 
+-- sorted by rank, the clauses are sorted by activity, then by offset
 pub rising_ranks : (words list : List ℕ) (pairs : List (ℕ × ℕ)) → IsPermutation (map (ranked words) list) pairs → IsNonDecreasingBy (λ (x : ℕ × ℕ). x.0) pairs → IsNonDecreasingBy (clause_rank words) (map (λ (x : ℕ × ℕ). x.1) pairs)
 rising_ranks words list pairs p rising i j d le lt =
     let size : length (map (λ (x : ℕ × ℕ). x.1) pairs) ≡ length pairs = length-map pairs (λ (x : ℕ × ℕ). x.1) in

@@ -36,7 +36,7 @@ implies_by words words' live live' implied implied' s s' i (Long o) e f long bin
           subst (λ (l : ℕ). IsFalseBefore s' i l) (sym (ap (λ (ls : List ℕ). get_or ls j 0) k.1)) (f (lit_of words o j) (h.2 j x (subst (λ (ls : List ℕ). j < length ls) k.1 y))),
     )
 
--- the same for all reasons on the trail, if only clauses change
+-- all reasons on the trail stay unit if only clauses change, and the clauses of the reasons stay
 pub turns_by : (words words' live live' : List ℕ) (implied implied' : List (List ℕ)) (s : PropagationState) →
     ((i o : ℕ) → i < length s.trail.lits → (node s (lit_at s i)).reason ≡ Long o → Contains live o → Contains live' o × (lits_at words' o ≡ lits_at words o)) →
     ((i : ℕ) (ls : List ℕ) → i < length s.trail.lits → (node s (lit_at s i)).reason ≡ Binary ls →

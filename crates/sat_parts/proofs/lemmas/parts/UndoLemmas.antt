@@ -43,6 +43,7 @@ undone_available v a g t q l h lt size holds high =
       | inr x ↦ absurd (omega (arith, x.bottom))
     ]
 
+-- undoing levels restores the invariant of all parts for literals of all levels
 pub sound_undone : (words : List ℕ) (db : Db) (w : Watching) (b : Binaries) (a : Values) (g : List ImplNode) (t : Trailed) (q : Queue) (top v : ℕ) →
     IsSoundBelow words db w b a g t q top → v < length t.starts → v < top →
     IsSoundBelow words db w b (undone_to v t a) g (cut_to v t) (all_available (undone_lits v t) q) (length (cut_to v t).starts + 1)
@@ -71,6 +72,7 @@ units_undone a g t v h lt x i b e =
     let same : lit_at (state_of (undone_to v t a) g (cut_to v t)) i ≡ lit_at s i = k.places i b in
     ap (λ l. (node s l).reason) same ∙ x i (omega (arith, k.shorter)) (ap (λ l. level s l) (sym same) ∙ e)
 
+-- undoing levels preserves `LevelZeroInvariant`
 pub based_undone : (t : Trailed) (v : ℕ) → v < length t.starts → LevelZeroInvariant t → LevelZeroInvariant (cut_to v t)
 based_undone t v lt h =
     let size : length (take v t.starts) ≡ v = length-take-le v t.starts (omega arith) in

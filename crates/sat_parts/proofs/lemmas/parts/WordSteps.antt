@@ -109,9 +109,11 @@ from_now s = record s { trail = record s.trail { cleared = 0 } }
 levelled_now : (s : PropagationState) → IsLevelled s → IsLevelled (from_now s)
 levelled_now s x = record { strict = x.strict; begun = x.begun; decided = x.decided; caused = x.caused }
 
+-- a decision appends a letter to those of the trail
 pub standing_decided : (s : PropagationState) (l : ℕ) → IsLevelled s → IsPrefix (trail_letters s.trail) (trail_letters (with_lit l (with_level s.trail)))
 standing_decided s l x = (D ∷ [], words_rise.decided (from_now s) l (levelled_now s x))
 
+-- undoing levels and appending a literal raises the letters of the trail
 pub standing_learned : (s : PropagationState) (l v : ℕ) → IsLevelled s → v < length s.trail.starts → IsLowerWord (trail_letters s.trail) (trail_letters (with_lit l (cut_to v s.trail)))
 standing_learned s l v x lt = words_rise.rises (from_now s) l v (levelled_now s x) lt
 
@@ -223,7 +225,7 @@ module _ (am : List ℕ) (s : PropagationState) (q : Queue) (l : ℕ) (r : Reaso
     idle = idle_enqueued;
   }
 
--- the same for a decision
+-- gone and idle variables stay so after a decision
 pub gone_decided : (am : List ℕ) → (s : PropagationState) (q q' : Queue) (l : ℕ) → IsUnassignedLit s.values l → (is_available q (variable l) ≡ true) ⊎ Contains am (variable l) → ((u : ℕ) → is_available q u ≡ false → is_available q' u ≡ false) → GoneAndIdleStay am s q (decided_on l s) q'
 gone_decided am s q q' l unset picks less =
     let f : GoneAndIdleStay am (record s { trail = with_level s.trail }) q (decided_on l s) q = gone_enqueued am (record s { trail = with_level s.trail }) q l NoCause unset picks in
@@ -314,7 +316,7 @@ available_other [] q v h = refl
 available_other (l ∷ ls) q v h =
     available_other ls (with_available (variable l) true q) v (λ k b. h (suc k) (omega arith)) ∙ get_or-set_other q.available (variable l) v true false (λ e. h 0 (omega arith) (sym e))
 
--- the same when levels are undone
+-- gone and idle variables stay so when levels are undone
 pub gone_undone : (am : List ℕ) → (top : ℕ) (a : Values) (g : List ImplNode) (t : Trailed) (q : Queue) → StateIsConsistent (state_of a g t) → top < length t.starts →
     GoneAndIdleStay am (state_of a g t) q (state_of (undone_to top t a) g (cut_to top t)) (all_available (undone_lits top t) q)
 gone_undone am top a g t q h lt = record {
@@ -346,7 +348,7 @@ gone_undone am top a g t q h lt = record {
       y.2,
     )
 
--- the same when units are taken off the trail
+-- gone and idle variables stay so when units are taken off the trail
 gone_cleared : (am : List ℕ) → (a : Values) (g : List ImplNode) (t : Trailed) (q : Queue) → StateIsConsistent (state_of a g t) → GoneAndIdleStay am (state_of a g t) q (state_of a (removed t.lits g) (with_cleared t)) q
 gone_cleared am a g t q h = record {
   size = refl;
@@ -360,6 +362,7 @@ gone_cleared am a g t q h = record {
   idle = λ v y. y;
 }
 
+-- words extend if the letters of the trail do
 pub word_goes : (am : List ℕ) → (s : PropagationState) (q : Queue) (s' : PropagationState) (q' : Queue) → GoneAndIdleStay am s q s' q' → IsPrefix (trail_letters s.trail) (trail_letters s'.trail) → WordExtends am s q s' q'
 word_goes am s q s' q' stay more = (
   stay,
@@ -372,6 +375,7 @@ word_goes am s q s' q' stay more = (
   ),
 )
 
+-- words rise if the letters of the trail do
 pub word_rises : (am : List ℕ) → (s : PropagationState) (q : Queue) (s' : PropagationState) (q' : Queue) → GoneAndIdleStay am s q s' q' → IsLowerWord (trail_letters s.trail) (trail_letters s'.trail) → WordRises am s q s' q'
 word_rises am s q s' q' stay more = (
   stay,
@@ -509,7 +513,7 @@ pub rises_learned : (am : List ℕ) → (s : PropagationState) (q : Queue) (s' :
 rises_learned am s q s' q' l top stay levels lt e =
     word_rises am s q s' q' stay (subst (λ (t : Trailed). IsLowerWord (trail_letters s.trail) (trail_letters t)) (sym e) (standing_learned s l top levels lt))
 
--- the same if the levels are undone first, and the learned literal is enqueued later
+-- undoing levels, and later enqueueing the learned literal, raises the word
 pub rises_taken : (p u n : SearchState) (l top : ℕ) → TrailWordStays p u → TrailWordStays u n → u.trail ≡ cut_to top p.trail → n.trail ≡ with_lit l u.trail → IsLevelled (state p) → top < length p.trail.starts → TrailWordRises p n
 rises_taken p u n l top undone stay cut last levelled lt am =
     rises_learned am (state p) p.vsids (state n) n.vsids l top (goes_trans am (state p) p.vsids (state u) u.vsids (state n) n.vsids (undone am) (stay am)) levelled lt

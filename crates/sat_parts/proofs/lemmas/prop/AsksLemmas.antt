@@ -13,6 +13,7 @@ use Rattle.sat_parts.specs.prop.Ready.{AreWatched, AreSettled, ReadyBelow, Propa
 use Rattle.sat_parts.specs.prop.Propagation.{PropagationInvariant, PropagationResult}
 use Rattle.sat_parts.proofs.lemmas.prop.BuildLemmas.{live_in, live_same}
 
+-- the invariant for all parts gives `ReadyBelow` for the enabled watch lists
 pub ready_from : (words refs : List ℕ) (w w' : Watching) (implied : List (List ℕ)) (s : PropagationState) (top : ℕ) → PropagationInvariant words refs w implied s top →
     AreWatched words (live_refs words refs) w'.lists (length s.values) → ReadyBelow words (live_refs words refs) w'.lists implied s top
 ready_from words refs w w' implied s top h x = record {
@@ -37,6 +38,7 @@ asks_from words refs w implied s top live holds_clauses e h = record {
   binary = h.binary;
 }
 
+-- the result of the loop over the queue is the result of propagation for all parts
 pub gives_from : (refs : List ℕ) (implied : List (List ℕ)) (words : List ℕ) (s : PropagationState) (words' : List ℕ) (s' : PropagationState) (w : Watching) (r : Result (Unit {0}) Conflict) →
     HoldsClauses words refs → Propagated (live_refs words refs) implied words s words' s' w.lists r → PropagationResult refs implied words s words' s' w r
 gives_from refs implied words s words' s' w (Ok x) holds_clauses h =

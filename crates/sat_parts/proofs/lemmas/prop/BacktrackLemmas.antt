@@ -99,7 +99,8 @@ cut_lit v a nodes t i lt = get_or-take (cut_at v t) t.lits i 0 lt
 undone_lit : (v : ℕ) (a : Values) (nodes : List ImplNode) (t : Trailed) (k : ℕ) → get_or (drop (cut_at v t) t.lits) k 0 ≡ lit_at (before a nodes t) (cut_at v t + k)
 undone_lit v a nodes t k = get_or-drop (cut_at v t) t.lits k 0
 
--- that a literal stays: it is before this position, or was taken off the trail
+-- `IsKept v a nodes t m` holds if the literal `m` is before the position at which level `v` is cut off, or was taken
+-- off the trail.
 abbrev pub IsKept : ℕ → Values → List ImplNode → Trailed → ℕ → Type 0
 IsKept v a nodes t m = IsBefore (before a nodes t) (cut_at v t) m ⊎ IsRemoved (before a nodes t) m
 

@@ -106,7 +106,7 @@ live_same old new (r ∷ rs) h =
     let t : live_refs new rs ≡ live_refs old rs = live_same old new rs (λ o x. h o (suc x.0, omega (arith, x.1), x.2)) in
     ap (λ (b : Bool). cond b (r ∷ live_refs new rs) (live_refs new rs)) e ∙ ap (λ (xs : List ℕ). cond (is_live old r) (r ∷ xs) xs) t
 
--- the same, in the variables of the code
+-- one more live clause is watched, in the variables of the code
 pub built_by : (words refs : List ℕ) (w w' : Watching) (count k o a b : ℕ) → AreClauses words (live_refs words refs) count → AreBuilt words refs w.lists count k → k < length refs →
     o ≡ get_or refs k 0 → is_live words o ≡ true → a ≡ lit_of words o 0 → b ≡ lit_of words o 1 → w.enabled ≡ true → w' ≡ with_clause_watches o a b w →
     AreBuilt words refs w'.lists count (k + 1) × (w'.enabled ≡ true)

@@ -65,6 +65,7 @@ followed_first words live words' refs' lit o (Long p) r' n same first h e =
       ap (λ z. lit_of words' z 0) (sym q) ∙ ap (λ (ls : List ℕ). get_or ls 0 0) (same h.0 h.1.0) ∙ ap (λ z. lit_of words z 0) h.1.1 ∙ first p refl,
     )
 
+-- a garbage collection preserves the invariant of propagation
 pub asks_collected : (words : List ℕ) (db : Db) (s : PropagationState) (words' : List ℕ) (db' : Db) (nodes' : List ImplNode) (w w' : Watching) (implied : List (List ℕ)) (top : ℕ) →
     Collects words db s.nodes s.trail.lits words' db' nodes' → w'.enabled ≡ false → length w'.lists ≡ length w.lists → PropagationInvariant words db.refs w implied s top →
     PropagationInvariant words' db'.refs w' implied (with_graph s nodes') top

@@ -17,7 +17,7 @@ use Rattle.sat_parts.proofs.lemmas.clause.ListLemmas.{at_place}
 both_signs : (v : ℕ → Bool) (l : ℕ) → literal_true v l ≡ true → literal_true v (negated l) ≡ true → ⊥
 both_signs v l a b = grind (arith, nat_tests)
 
--- that the valuation satisfies the literals before this position
+-- `HoldsBefore s v n` holds if the valuation satisfies the literals before position `n`.
 abbrev HoldsBefore : (s : PropagationState) (v : ℕ → Bool) (n : ℕ) → Type 0
 HoldsBefore s v n = (i : ℕ) → i < n → i < length s.trail.lits → literal_true v (lit_at s i) ≡ true
 

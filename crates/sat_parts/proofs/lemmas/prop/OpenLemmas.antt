@@ -5,7 +5,8 @@ use Rattle.std.proofs.lemmas.List.{take-set}
 use Rattle.std.proofs.lemmas.List.Sums.{sum_by_more}
 use Rattle.std.specs.List.{sum_by}
 
--- the first lists were replaced by what f makes of them, and `left` is how many elements these have (it saturates)
+-- `ReplacedSoFar f before now at left` holds if the first lists were replaced by what `f` makes of them, and `left` is
+-- how many elements these have (it saturates).
 pub record ReplacedSoFar (f : ℕ → List ℕ → List ℕ) (before now : List (List ℕ)) (at left : ℕ) : Type 0 where
   pub done : (k : ℕ) → k < at → get_or now k [] ≡ f k (get_or before k [])
   pub rest : (k : ℕ) → at ≤ k → get_or now k [] ≡ get_or before k []

@@ -91,6 +91,7 @@ part_kept places lits more code m h le n same =
       | inr after ↦ inr (omega (arith, after))
     ]))
 
+-- moving a list to a new room leaves all lists as they were
 pub lists_moved : (places : List Place) (lits more : List ℕ) (code room : ℕ) → ArePlaces places (length lits) → code < length places → (place_at places code).len ≤ room →
     CopiesPadded (place_at places code).start (place_at places code).len room lits more →
     lists_of (set places code (record { start = length lits; len = (place_at places code).len; room = room })) more ≡ lists_of places lits
@@ -104,6 +105,7 @@ lists_moved places lits more code room h lt few c =
     ∙ ap (λ (xs : List ℕ). set (lists_of places lits) code xs) (sym (lists_at places lits code))
     ∙ set-get_or (lists_of places lits) code []
 
+-- appending to a list that has room for one more changes only this list
 pub lists_pushed : (places : List Place) (lits : List ℕ) (code x : ℕ) → ArePlaces places (length lits) → code < length places → (place_at places code).len < (place_at places code).room →
     lists_of (set places code (record { start = (place_at places code).start; len = (place_at places code).len + 1; room = (place_at places code).room }))
     (set lits ((place_at places code).start + (place_at places code).len) x) ≡ set (lists_of places lits) code (get_or (lists_of places lits) code [] ++ x ∷ [])
@@ -135,6 +137,7 @@ lists_pushed places lits code x h lt room =
     (λ k b away. get_or-set_other lits (p.start + p.len) k x 0 (elim away [ inl a ↦ omega (arith, room) | inr b ↦ omega (arith, room) ])))
     ∙ ap (λ (xs : List ℕ). set (lists_of places lits) code (xs ++ x ∷ [])) (sym (lists_at places lits code))
 
+-- shortening or rewriting a list within its room changes only this list
 pub lists_left : (places : List Place) (lits more : List ℕ) (code left : ℕ) (xs : List ℕ) → ArePlaces places (length lits) → length more ≡ length lits → code < length places →
     take left (drop (place_at places code).start more) ≡ xs →
     ((k : ℕ) → (k < (place_at places code).start) ⊎ ((place_at places code).start + (place_at places code).len ≤ k) → get_or more k 0 ≡ get_or lits k 0) →

@@ -161,10 +161,12 @@ binary_below implied s t l a h w m k f d b =
     let n : m ≢ l = λ e. (let x : level t m ≡ level t l = ap (λ z. level t z) e in omega (arith, w.top)) in
     implied_grows implied s t (λ z. z ≢ l) a h (w.moves [] []).grows w.head m k f n b
 
+-- propagation over binary clauses keeps the long clauses ready
 pub binary_long : (w live : List ℕ) (lists : List (List Watch)) (implied : List (List ℕ)) (s t : PropagationState) (l at : ℕ) →
     LongReady w live lists s (λ m. m ≢ l) → BinaryWalkInvariant implied l s t at → LongReady w live lists t (λ m. m ≢ l)
 binary_long w live lists implied s t l at h b = long_grows w live lists s t (λ m. m ≢ l) h (b.moves [] []).grows b.head b.agrees b.queue
 
+-- a conflict over binary clauses is one whatever the long clauses are
 pub binary_names : (words live : List ℕ) (implied : List (List ℕ)) (values : List (Option Bool)) (e : Conflict) → IsConflict [] [] implied values e → IsConflict words live implied values e
 binary_names words live implied values (Binary ls) h = h
 binary_names words live implied values (Long o) h = absurd (omega (arith, h.0.1))
@@ -194,6 +196,7 @@ ready_again w v live lists implied s t a ranges i firsts x =
       firsts = firsts_moved live implied w s v t a (x.moves implied) firsts;
     }
 
+-- after a falsified long clause, propagation can continue once the current level is undone
 pub stopped_long : (w v live : List ℕ) (lists : List (List Watch)) (implied : List (List ℕ)) (s t : PropagationState) (o : ℕ) →
     StateIsConsistent s → AreLists implied (length s.values) → AreImplied implied s (λ m. level s m < current_level s + 1) → HaveFirsts w live s →
     WatchWalkEffect live w s v t lists (Some o) → ReadyBelow v live lists implied t (current_level t)
@@ -245,7 +248,7 @@ complete w live lists implied s h e = record {
       (h.binary l k x (all_due s l h.long.agrees x) b).0;
 }
 
--- the next literal of the queue, as `pop_queue` returns it
+-- `IsNext s l` holds if the literal `l` is the next one of the queue, as `pop_queue` returns it.
 abbrev pub IsNext : PropagationState → ℕ → Type 0
 IsNext s l = slice_get s.trail.lits s.trail.head ≡ Some l
 
@@ -256,6 +259,7 @@ next_agrees s l a e = agrees_popped s a (next_there s l e).0
 pub next_left : (s : PropagationState) (l : ℕ) → IsNext s l → HasLeftQueue (popped s) l
 next_left s l e = popped_left s l (next_there s l e).0 (next_there s l e).1
 
+-- the next literal of the queue is at the current level
 pub next_top : (s : PropagationState) (l : ℕ) → IsQueueCurrent s → IsNext s l → level (popped s) l ≡ current_level (popped s)
 next_top s l q e = ap (λ m. level s m) (sym (next_there s l e).1) ∙ q s.trail.head (omega arith) (next_there s l e).0
 
@@ -266,6 +270,7 @@ pub next_long : (w live : List ℕ) (lists : List (List Watch)) (implied : List 
 next_long w live lists implied s t l h e b =
     binary_long w live lists implied (popped s) t l (length (implied_by implied l)) (long_popped w live lists s l h.long (next_there s l e).0 (next_there s l e).1) b
 
+-- after a falsified binary clause, propagation can continue once the current level is undone
 pub next_stops_binary : (w live : List ℕ) (lists : List (List Watch)) (implied : List (List ℕ)) (s t : PropagationState) (l : ℕ) →
     IsReadyToPropagate w live lists implied s → IsNext s l → BinaryWalkInvariant implied l (popped s) t 0 → ReadyBelow w live lists implied t (current_level t)
 next_stops_binary w live lists implied s t l h e b =
@@ -278,6 +283,7 @@ middle_binary : (implied : List (List ℕ)) (s t : PropagationState) (l : ℕ) �
 middle_binary implied s t l a i e b =
     binary_settled implied (popped s) t l (next_agrees s l a e) (implied_popped implied s l a i (next_there s l e).1) b
 
+-- after a literal was propagated without a conflict, propagation can continue
 pub next_goes_on : (w v live : List ℕ) (lists lists' : List (List Watch)) (implied : List (List ℕ)) (s t u : PropagationState) (l : ℕ) →
     IsReadyToPropagate w live lists implied s → IsNext s l → BinaryWalkInvariant implied l (popped s) t (length (implied_by implied l)) → WatchWalkEffect live w t v u lists' None →
     IsReadyToPropagate v live lists' implied u
@@ -287,6 +293,7 @@ next_goes_on w v live lists lists' implied s t u l h e b x =
     (middle_binary implied s t l h.long.agrees h.binary e b)
     (firsts_moved live implied w (popped s) w t (next_agrees s l h.long.agrees e) (b.moves w live) h.firsts) x
 
+-- the next literal was propagated up to a falsified long clause; propagation can continue one level down
 pub next_stops_long : (w v live : List ℕ) (lists lists' : List (List Watch)) (implied : List (List ℕ)) (s t u : PropagationState) (l o : ℕ) →
     IsReadyToPropagate w live lists implied s → IsNext s l → BinaryWalkInvariant implied l (popped s) t (length (implied_by implied l)) → WatchWalkEffect live w t v u lists' (Some o) →
     ReadyBelow v live lists' implied u (current_level u)
@@ -302,6 +309,7 @@ pub next_moves_binary : (live : List ℕ) (implied : List (List ℕ)) (w0 : List
 next_moves_binary live implied w0 s0 w s t l at m b =
     moves_trans live implied w0 s0 w (popped s) w t (moves_trans live implied w0 s0 w s w (popped s) m (moves_popped live implied w s)) (b.moves w live)
 
+-- the propagation so far and that of the next literal are one propagation
 pub next_moves : (live : List ℕ) (implied : List (List ℕ)) (w0 : List ℕ) (s0 : PropagationState) (w v : List ℕ) (s t u : PropagationState) (lists : List (List Watch)) (found : Option ℕ) (l at : ℕ) →
     PropagatesOn live implied w0 s0 w s → BinaryWalkInvariant implied l (popped s) t at → WatchWalkEffect live w t v u lists found → PropagatesOn live implied w0 s0 v u
 next_moves live implied w0 s0 w v s t u lists found l at m b x =

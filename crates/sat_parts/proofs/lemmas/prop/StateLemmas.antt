@@ -89,6 +89,7 @@ trail_enqueued s l r t room =
       counted = t.counted;
     }
 
+-- an unassigned literal that becomes true preserves `StateIsConsistent`
 pub agrees_enqueued : (s : PropagationState) (l : ℕ) (r : Reason) → StateIsConsistent s → IsUnassignedLit s.values l → variable l < length s.values → length s.trail.lits < s.trail.room → StateIsConsistent (enqueued l r s)
 agrees_enqueued s l r h n below room =
     let size : length (s.trail.lits ++ l ∷ []) ≡ length s.trail.lits + 1 = length_push s.trail.lits l in

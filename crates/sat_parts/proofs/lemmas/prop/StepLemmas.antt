@@ -107,6 +107,7 @@ asks_enqueued words refs w implied s top l r n below cause h =
           ];
     }
 
+-- an unassigned literal of a variable in range can be enqueued: the trail has room for it
 pub agrees_by : (s : PropagationState) (l : ℕ) (r : Reason) → IsUnassignedLit s.values l → variable l < length s.values → StateIsConsistent s → StateIsConsistent (enqueued l r s)
 agrees_by s l r n below a = agrees_enqueued s l r a n below (room_for s l r a n below)
 
@@ -117,6 +118,7 @@ raised s = record s { trail = with_level s.trail }
 grows_raised : (s : PropagationState) (l : ℕ) → IsRemoved (raised s) l → IsRemoved s l
 grows_raised s l r = record { holds = r.holds; depth = r.depth; bottom = r.bottom }
 
+-- one more level preserves `StateIsConsistent`
 pub agrees_raised : (s : PropagationState) → StateIsConsistent s → length s.trail.starts + 1 < 2 ^ 32 → StateIsConsistent (raised s)
 agrees_raised s h few =
     let size : length (s.trail.starts ++ length s.trail.lits ∷ []) ≡ length s.trail.starts + 1 = length_push s.trail.starts (length s.trail.lits) in

@@ -30,10 +30,11 @@ good_shuffled w v live count p x c hp e g =
     let m : (j : ℕ) × ((j < size_of w x.cref) × (lit_of v x.cref j ≡ lit_of w x.cref g.1.0)) = s.forth g.1.0 g.1.1.0 in
     (g.0, (m.0, (subst (λ (n : ℕ). m.0 < n) (sym s.size) m.1.0, m.1.1 ∙ g.1.1.1)))
 
--- that the first two literals of the clause at p were its first two before
+-- `KeepsFirstTwo w v p` holds if the first two literals of the clause at `p` were its first two before.
 abbrev pub KeepsFirstTwo : List ℕ → List ℕ → ℕ → Type 0
 KeepsFirstTwo w v p = (i : ℕ) → i < 2 → (j : ℕ) × ((j < 2) × (lit_of v p i ≡ lit_of w p j))
 
+-- if one clause keeps its first two literals, all clauses do
 pub first_two : (w v live : List ℕ) (count p o : ℕ) → AreClauses w live count → Contains live p → PermutesClause w v p → Contains live o → KeepsFirstTwo w v p → KeepsFirstTwo w v o
 first_two w v live count p o c hp e ho f = elim (cases_eq p o) [
   | inl q ↦ subst (λ (x : ℕ). KeepsFirstTwo w v x) q f
@@ -47,6 +48,7 @@ at_two P zero one i hi = elim (cases_eq i 0) [
   | inr q ↦ let u : i ≡ 1 = omega arith in subst (λ (x : ℕ). P x) (sym u) one
 ]
 
+-- putting the false literal second keeps the first two literals
 pub oriented_two : (w v : List ℕ) (p fl : ℕ) → IsOther w v p fl → lit_of v p 1 ≡ fl → KeepsFirstTwo w v p
 oriented_two w v p fl other second =
     let F : ℕ → Type 0 = λ i. (j : ℕ) × ((j < 2) × (lit_of v p i ≡ lit_of w p j)) in
@@ -140,7 +142,7 @@ new_watch lists m x lt =
     subst (λ (xs : List Watch). HasWatch xs x.cref) (sym (get_or-set_same lists m (watches_of lists m ++ x ∷ []) [] lt))
     (length (watches_of lists m), (omega (arith, length-append (watches_of lists m) (x ∷ [])), ap (λ (z : Watch). z.cref) (get_or_at (watches_of lists m) x [] no_watch (length (watches_of lists m)) refl)))
 
--- that every watch of the list is sound
+-- `AllGood w live xs` holds if every watch of the list is sound.
 abbrev pub AllGood : List ℕ → List ℕ → List Watch → Type 0
 AllGood w live xs = (p : ℕ) → p < length xs → IsSoundWatch w live (get_or xs p no_watch)
 

@@ -24,7 +24,8 @@ use Rattle.sat_parts.proofs.lemmas.prop.ReasonLemmas.{moves_refl, moves_shuffled
 use Rattle.sat_parts.proofs.lemmas.prop.WalkLemmas.{shuffled_all, first_two, oriented_two, walked_kept, walked_close, walked_open, cut}
 use Rattle.sat_parts.proofs.lemmas.prop.HalfLemmas.{satisfied_order, place_live, half_kept, half_stale, half_moved, half_grows}
 
--- the invariant of a walk that began with the words w0 and the state s0
+-- `Walking live w0 s0 w s lists list lit kept at` holds if `WalkInvariant` does, for a walk that began with the words
+-- `w0` and the state `s0`.
 pub record Walking (live w0 : List ℕ) (s0 : PropagationState) (w : List ℕ) (s : PropagationState) (lists : List (List Watch)) (list : List Watch) (lit kept at : ℕ) : Type 0 where
   pub half : WalkInvariant w live s lists list lit kept at
   pub moves : (implied : List (List ℕ)) → PropagatesOn live implied w0 s0 w s
@@ -64,6 +65,7 @@ step_blocked live w0 s0 w s lists list lit kept at p b h lt at_p at_b t =
       head = h.head;
     }
 
+-- the clause no longer watches the literal, and its watch is dropped
 pub step_stale : (live w0 : List ℕ) (s0 : PropagationState) (w : List ℕ) (s : PropagationState) (lists : List (List Watch)) (list : List Watch) (lit kept at p : ℕ) →
     Walking live w0 s0 w s lists list lit kept at → at < length list → p ≡ (get_or list at no_watch).cref →
     lit_of w p 0 ≢ negated lit → lit_of w p 1 ≢ negated lit →
@@ -85,6 +87,7 @@ visit_moves live w0 s0 w v s lists list lit kept at p h lt at_p e other implied 
     (moves_shuffled live implied w s v p (length s.values) half.agrees half.clauses (place_live w live s lists list lit kept at p half lt at_p) e
     (first_stays w v s p (negated lit) (lit_false w live s lists list lit kept at half) other))
 
+-- the clause watches another literal instead, and its watch moves to that literal
 pub step_moved : (live w0 : List ℕ) (s0 : PropagationState) (w v : List ℕ) (s : PropagationState) (lists : List (List Watch)) (list : List Watch) (lit kept at p : ℕ) →
     Walking live w0 s0 w s lists list lit kept at → at < length list → p ≡ (get_or list at no_watch).cref →
     PermutesClause w v p → IsOther w v p (negated lit) → (IsFalseLit s.values (lit_of v p 1) → ⊥) →
@@ -102,6 +105,7 @@ first_there w v live s lists list lit kept at p h hp e =
     let size : size_of v p ≡ size_of w p = e.lits.size in
     omega arith
 
+-- the clause has a true first literal, and its watch stays
 pub step_kept : (live w0 : List ℕ) (s0 : PropagationState) (w v : List ℕ) (s : PropagationState) (lists : List (List Watch)) (list : List Watch) (lit kept at p n : ℕ) →
     Walking live w0 s0 w s lists list lit kept at → at < length list → p ≡ (get_or list at no_watch).cref →
     PermutesClause w v p → WalkInvariantAtClause w v p (negated lit) → n ≡ lit_of v p 0 → IsTrueLit s.values (lit_of v p 0) →
@@ -131,6 +135,7 @@ false_so_far s l n r a g f = elim (a.known (negated l) (true_from_false s.values
   | inr x ↦ inr (removed_forth s (enqueued n r s) (negated l) g x)
 ]
 
+-- the clause makes its first literal true, and its watch stays
 pub step_propagates : (live w0 : List ℕ) (s0 : PropagationState) (w v : List ℕ) (s : PropagationState) (lists : List (List Watch)) (list : List Watch) (lit kept at p n : ℕ) →
     Walking live w0 s0 w s lists list lit kept at → at < length list → p ≡ (get_or list at no_watch).cref →
     PermutesClause w v p → WalkInvariantAtClause w v p (negated lit) → n ≡ lit_of v p 0 →
@@ -253,6 +258,7 @@ left_below s l a f =
     let v : variable l < length s.values = below_from_value s.values (variable l) (is_positive l) (left_true s l a f) in
     omega arith
 
+-- the literal of a walk is in range
 pub walk_small : (w live : List ℕ) (s : PropagationState) (lists : List (List Watch)) (list : List Watch) (lit kept at : ℕ) →
     WalkInvariant w live s lists list lit kept at → lit < 2 * length s.values
 walk_small w live s lists list lit kept at h = left_below s lit h.agrees h.left

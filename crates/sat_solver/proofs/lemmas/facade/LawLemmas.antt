@@ -1,21 +1,26 @@
 -- Laws about solvers, in terms of what callers see.
-use Rattle.std.proofs.Common.{ℕ, ◌≡◌, inl, inr, refl, sym, subst, Option, None, Result, Ok, Err, List, []}
-use Rattle.std.specs.Prelude.{MatchResult}
+use Rattle.std.proofs.Common.{ℕ, ◌≡◌, ◌∙◌, true, inl, inr, refl, sym, ap, subst, append-nil, Some, Result, Ok, Err, List, [], ◌++◌}
+use Rattle.std.specs.Prelude.{MatchResult, reverse}
 use Rattle.anyhow.specs.declared.error.Error.{Error}
+use Rattle.sat_base.specs.device.Device.{Writer, WriterAccepts}
 use Rattle.sat_base.specs.steps.Steps.{Step}
+use Rattle.sat_base.specs.steps.StepText.{SpellsSteps}
 use Rattle.sat_checker.specs.announcements.Announcements.{Notice}
 use Rattle.sat_solver.specs.declared.config.SolverConfigUpdate.{SolverConfigUpdate}
 use Rattle.sat_solver.specs.declared.error.SolverError.{SolverError}
 use Rattle.sat_solver.specs.declared.error.SolverError.TheVariants as errors
+use Rattle.sat_solver.specs.declared.proof.format.ProofFormat.{ProofFormat}
+use Rattle.sat_solver.specs.proof.OutputView.{text_in, AreSpeltInFormat}
 use Rattle.sat_solver.specs.proof.Prefixes.{TargetTakesPrefix}
-use Rattle.sat_solver.specs.proof.ProofView.{Target}
+use Rattle.sat_solver.specs.proof.ProofView.{Target, GivesWriter}
+use Rattle.sat_solver.specs.solver.Calls.{IsFlushed}
 use Rattle.sat_solver.specs.facade.View.{SolverView}
-use Rattle.sat_solver.specs.facade.Calls.{BreaksOff, MakesSteps, ReachesBySteps, TargetAfter}
+use Rattle.sat_solver.specs.facade.Calls.{BreaksOff, ReachesBySteps, TargetAfter}
 use Rattle.sat_solver.specs.facade.Configuring.{Configures}
 use Rattle.sat_solver.specs.facade.Extending.{CallsAddClause, CallsNewVar}
-use Rattle.sat_solver.specs.facade.Laws.{CallsGoOn}
-use Rattle.sat_solver.specs.facade.Proving.{AddsProcessor, ClosesProof, ClosesText, Enables}
-use Rattle.sat_solver.proofs.lemmas.session.ProofLemmas.{carries_none}
+use Rattle.sat_solver.specs.facade.Laws.{CallsGoOn, FlushedIsText}
+use Rattle.sat_solver.specs.facade.Proving.{AddsProcessor, Enables}
+use Rattle.sat_solver.proofs.lemmas.session.ProofLemmas.{carries_none, text_spells}
 
 after : (e : SolverError) (old : Target) (steps : List Step) (new : Target) → TargetAfter e old steps new → TargetTakesPrefix old steps new
 after (errors.ProofIoError cause) old steps new h = inr ([], steps, refl, h)
@@ -81,3 +86,19 @@ clause_extended (Err e) old new clause h = h
 pub name_extended : {L : Type 0} {takes : L → Notice → Result Unit Error → L → Type 0} (r : Result ℕ SolverError) (old new : SolverView L) → CallsNewVar takes r old new → MatchResult r (λ user. CallsNewVar takes (Ok user) old new) (λ e. CallsNewVar takes (Err e) old new)
 name_extended (Ok user) old new h = h
 name_extended (Err e) old new h = h
+
+pub flushed_is_text : FlushedIsText
+flushed_is_text f from given steps now h flushed g =
+    let k = subst (λ (z : Target). IsFlushed z) h.2 flushed in
+    let q : Some given ≡ Some h.1.writer = subst (λ (z : Target). GivesWriter z (Some given)) h.2 g in
+    let same : h.1.writer ≡ given = cc in
+    let sent = h.3.wrote.sent in
+    let all : sent.fresh ≡ text_in f h.3.written = sym (append-nil sent.fresh) ∙ ap (λ (z : List ℕ). sent.fresh ++ z) (sym k.0) ∙ sym sent.flows in
+    record {
+      written = h.3.written;
+      counting = h.0;
+      cuts = h.3.cuts;
+      spells = λ e. subst (λ (z : ProofFormat). SpellsSteps (reverse h.3.written) (text_in z h.3.written)) (sym e) (text_spells h.3.written (subst (λ z. AreSpeltInFormat z h.3.written) e h.3.wrote.spelt));
+      takes = subst (λ (z : Writer). WriterAccepts from z (text_in f h.3.written)) same (subst (WriterAccepts from h.1.writer) all sent.takes);
+      flushed = subst (λ (z : Writer). z.flushed ≡ true) same k.1;
+    }

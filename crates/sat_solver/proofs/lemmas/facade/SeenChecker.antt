@@ -1,12 +1,12 @@
 -- What a call means for the solver's own checker, as callers see it.
-use Rattle.std.proofs.Common.{ℕ, ◌≡◌, ◌⊎◌, inl, inr, ap, Bool, true, false, Option, Some, None, Result, Ok, Err, List, [], ◌∷◌}
+use Rattle.std.proofs.Common.{ℕ, ◌≡◌, inl, inr, ap, Bool, true, false, Option, Some, None, Result, Ok, Err, List}
 use Rattle.std.proofs.lemmas.Bool.{true≢false}
 use Rattle.std.proofs.Math.Logic.{∥∥₁_elim, ∥∥₁_prop}
 use Rattle.std.specs.Prelude.{IfOk, IfErr, MatchOption, is_some}
 use Rattle.std.specs.Global.{Vec}
 use Rattle.anyhow.specs.declared.error.Error.{Error}
 use Rattle.sat_base.specs.device.Device.{Writer}
-use Rattle.sat_base.specs.steps.Steps.{Step, End}
+use Rattle.sat_base.specs.steps.Steps.{Step}
 use Rattle.sat_checker.specs.announcements.Announcements.{Notice}
 use Rattle.sat_checker.specs.declared.processing.ProofProcessor.{Ghosts}
 use Rattle.sat_checker.specs.listeners.ProcessingView.{listeners_of}
@@ -16,13 +16,11 @@ use Rattle.sat_solver.specs.cdcl.Faults as faults
 use Rattle.sat_solver.specs.cdcl.StepEffects.{EmitsUpToFault}
 use Rattle.sat_solver.specs.declared.error.SolverError.{SolverError}
 use Rattle.sat_solver.specs.declared.error.SolverError.TheVariants as errors
-use Rattle.sat_solver.specs.declared.proof.Proof.{Proof}
 use Rattle.sat_solver.specs.declared.proof.checker.Checked.{Checked}
 use Rattle.sat_solver.specs.declared.proof.emitted.CheckFault.{CheckFault}
 use Rattle.sat_solver.specs.declared.proof.emitted.CheckFault.TheVariants as checks
 use Rattle.sat_solver.specs.declared.proof.emitted.EmittedSteps.{EmittedSteps}
-use Rattle.sat_solver.specs.declared.solver.Solver.{Solver as Engine}
-use Rattle.sat_solver.specs.declared.state.SatState.TheVariants as states
+use Rattle.sat_solver.specs.declared.solver.Engine.{Engine}
 use Rattle.sat_solver.specs.proof.Checked.{listeners_of_checked}
 use Rattle.sat_solver.specs.proof.EmittedView.{HasListeners, IsUpToDate, LastWidthIsIn, MadeListenersAtRestart, OwnCheckerFailed, listed_in}
 use Rattle.sat_solver.specs.proof.ProofView as proofs
@@ -32,9 +30,8 @@ use Rattle.sat_solver.specs.solver.Answering as answering
 use Rattle.sat_solver.specs.solver.Calls as calls
 use Rattle.sat_solver.specs.solver.Naming as naming
 use Rattle.sat_solver.specs.solver.Proving as proving
-use Rattle.sat_solver.specs.facade.View.{OwnChecker, SolverView}
-use Rattle.sat_solver.specs.facade.Inner.{own_checker, view_of}
-use Rattle.sat_solver.specs.facade.Checking.{AllStepsReported, CheckerAfter, CheckerAfterAsk, CheckerAfterClosing, CheckerAfterError, CheckerAfterLast, CheckerFailed, FailedAskChecks, FailsAfterHearing, FlushFails, IsAtWidth, KeepsWidth, ReportsAsk}
+use Rattle.sat_solver.specs.facade.Inner.{own_checker}
+use Rattle.sat_solver.specs.facade.Checking.{AllStepsReported, CheckerAfter, CheckerAfterAsk, CheckerAfterClosing, CheckerAfterError, CheckerFailed, FailedAskChecks, FailsAfterHearing, FlushFails, KeepsWidth, ReportsAsk}
 use Rattle.sat_solver.specs.facade.Proving.{listed}
 use Rattle.sat_solver.proofs.lemmas.facade.Seen.{v}
 
@@ -60,19 +57,19 @@ begun_seen false m None begun e h = h
 begun_seen false m (Some added) begun e h = h
 
 module _ {W L : Type 0} {G : Ghosts L} (seen : W → Writer) where
-  failed : (fault : CheckFault) (b : Engine W L G) → proofs.CheckerFailed fault b.core.proof → CheckerFailed G.takes fault (v seen b)
-  failed fault b h = failure_seen G.takes fault b.core.proof.made.own b.core.proof.made.roll.items (steps_of b.core.proof) h
+  failed : (fault : CheckFault) (b : Engine W L G) → proofs.CheckerFailed fault b.context.proof → CheckerFailed G.takes fault (v seen b)
+  failed fault b h = failure_seen G.takes fault b.context.proof.made.own b.context.proof.made.roll.items (steps_of b.context.proof) h
 
-  keeps_width : (a b : Engine W L G) → ((steps_of b.core.proof ≡ steps_of a.core.proof → ⊥) → proofs.IsAtWidth b.core.proof) → KeepsWidth (v seen a) (v seen b)
-  keeps_width a b h made going = width_seen b.core.proof.counting.bits b.core.proof.made.own (h made going)
+  keeps_width : (a b : Engine W L G) → ((steps_of b.context.proof ≡ steps_of a.context.proof → ⊥) → proofs.IsAtWidth b.context.proof) → KeepsWidth (v seen a) (v seen b)
+  keeps_width a b h made going = width_seen b.context.proof.counting.bits b.context.proof.made.own (h made going)
 
-  reported : (b : Engine W L G) → proofs.AllStepsReported b.core.proof → AllStepsReported (v seen b)
-  reported b h = reported_seen (has_missed_step b.core.proof) b.core.proof.made.own h
+  reported : (b : Engine W L G) → proofs.AllStepsReported b.context.proof → AllStepsReported (v seen b)
+  reported b h = reported_seen (has_missed_step b.context.proof) b.context.proof.made.own h
 
-  kept : (a b : Engine W L G) → b ≡ a → has_missed_step b.core.proof ≡ has_missed_step a.core.proof
-  kept a b h = ap (λ (s : Engine W L G). has_missed_step s.core.proof) h
+  kept : (a b : Engine W L G) → b ≡ a → has_missed_step b.context.proof ≡ has_missed_step a.context.proof
+  kept a b h = ap (λ (s : Engine W L G). has_missed_step s.context.proof) h
 
-  after_error : (e : SolverError) (steps : List Step) (a b : Engine W L G) → faults.NamesLoss e a.core.proof b.core.proof → EmitsUpToFault {A = Unit {0}} seen (Err e) steps a.core.proof b.core.proof → CheckerAfterError G.takes e (v seen a) (v seen b)
+  after_error : (e : SolverError) (steps : List Step) (a b : Engine W L G) → faults.NamesLoss e a.context.proof b.context.proof → EmitsUpToFault {A = Unit {0}} seen (Err e) steps a.context.proof b.context.proof → CheckerAfterError G.takes e (v seen a) (v seen b)
   after_error (errors.ProofIoError cause) steps a b loss h = tt
   after_error (errors.ProofProcessorError cause) steps a b loss h = failed (checks.Processor cause) b h.why
   after_error errors.CounterEnd steps a b loss h = failed checks.CounterEnd b h.why
@@ -85,7 +82,7 @@ module _ {W L : Type 0} {G : Ghosts L} (seen : W → Writer) where
   names_error : (full : Type 0) (e : SolverError) (a b : Engine W L G) → adding.EndsNamesOr full seen e a b → CheckerAfterError G.takes e (v seen a) (v seen b)
   names_error full e a b h = after_error e h.breaks.steps a b h.breaks.loss h.breaks.went
 
-  pub clause_checked : (r : Result (Unit {0}) SolverError) (a b : Engine W L G) (user : List ℕ) → adding.AddsClause seen r a b user → CheckerAfter G.takes r (v seen a) (v seen b)
+  pub clause_checked : (r : Result (Unit {0}) SolverError) (a b : Engine W L G) (user : List ℕ) → adding.EngineAddsClause seen r a b user → CheckerAfter G.takes r (v seen a) (v seen b)
   clause_checked (Ok x) a b user h = keeps_width a b h.did.width
   clause_checked (Err errors.WitnessVariable) a b user h = kept a b h.same
   clause_checked (Err errors.NotInDrat) a b user h = kept a b h.same
@@ -93,7 +90,7 @@ module _ {W L : Type 0} {G : Ghosts L} (seen : W → Writer) where
   clause_checked (Err errors.HasFailed) a b user h = kept a b h.same
   clause_checked (Err e) a b user h = names_error _ e a b h.2
 
-  pub assumptions_checked : (r : Result (Unit {0}) SolverError) (a b : Engine W L G) (user : List ℕ) → adding.AssumesOrRefuses seen r a b user → CheckerAfter G.takes r (v seen a) (v seen b)
+  pub assumptions_checked : (r : Result (Unit {0}) SolverError) (a b : Engine W L G) (user : List ℕ) → adding.EngineAssumesOrRefuses seen r a b user → CheckerAfter G.takes r (v seen a) (v seen b)
   assumptions_checked (Ok x) a b user h = keeps_width a b (h.did Unknown).width
   assumptions_checked (Err errors.WitnessVariable) a b user h = kept a b h.same
   assumptions_checked (Err errors.NotInDrat) a b user h = kept a b h.same
@@ -101,47 +98,47 @@ module _ {W L : Type 0} {G : Ghosts L} (seen : W → Writer) where
   assumptions_checked (Err errors.HasFailed) a b user h = kept a b h.same
   assumptions_checked (Err e) a b user h = names_error _ e a b h.2
 
-  pub mode_checked : (r : Result (Unit {0}) SolverError) (a b : Engine W L G) (user : ℕ) (judge : ScriptState → ScriptState) (due : ScriptState → List Expected) (IsAllowedStep : List Step → Step → Type 0) → naming.ChangesMode seen r a b user judge due IsAllowedStep → CheckerAfter G.takes r (v seen a) (v seen b)
+  pub mode_checked : (r : Result (Unit {0}) SolverError) (a b : Engine W L G) (user : ℕ) (judge : ScriptState → ScriptState) (due : ScriptState → List Expected) (IsAllowedStep : List Step → Step → Type 0) → naming.EngineChangesMode seen r a b user judge due IsAllowedStep → CheckerAfter G.takes r (v seen a) (v seen b)
   mode_checked (Ok x) a b user judge due IsAllowedStep h = keeps_width a b h.1.did.width
   mode_checked (Err errors.AssumedVariable) a b user judge due IsAllowedStep h = kept a b h.same
   mode_checked (Err errors.VariableLimit) a b user judge due IsAllowedStep h = kept a b h.same
   mode_checked (Err errors.HasFailed) a b user judge due IsAllowedStep h = kept a b h.same
   mode_checked (Err e) a b user judge due IsAllowedStep h = names_error _ e a b h.2
 
-  pub new_checked : (r : Result ℕ SolverError) (a b : Engine W L G) → naming.NamesNew seen r a b → CheckerAfter G.takes r (v seen a) (v seen b)
+  pub new_checked : (r : Result ℕ SolverError) (a b : Engine W L G) → naming.EngineNamesNew seen r a b → CheckerAfter G.takes r (v seen a) (v seen b)
   new_checked (Ok user) a b h = keeps_width a b h.1.did.width
   new_checked (Err errors.VariableLimit) a b h = kept a b h.same
   new_checked (Err errors.HasFailed) a b h = kept a b h.same
   new_checked (Err e) a b h = names_error _ e a b h.1
 
-  unnamed_checked : (e : SolverError) (a b : Engine W L G) → naming.NamesFail seen e a b → CheckerAfterError G.takes e (v seen a) (v seen b)
+  unnamed_checked : (e : SolverError) (a b : Engine W L G) → naming.EngineNamesFail seen e a b → CheckerAfterError G.takes e (v seen a) (v seen b)
   unnamed_checked errors.VariableLimit a b h = absurd h
   unnamed_checked errors.HasFailed a b h = kept a b h.same
   unnamed_checked e a b h = names_error _ e a b h
 
-  pub observing_checked : (r : Result (Vec ℕ) SolverError) (a b : Engine W L G) → IfOk r (λ users. naming.Observed seen a b users.items) → IfErr r (λ e. naming.NamesFail seen e a b) → CheckerAfter G.takes r (v seen a) (v seen b)
+  pub observing_checked : (r : Result (Vec ℕ) SolverError) (a b : Engine W L G) → IfOk r (λ users. naming.EngineObserved seen a b users.items) → IfErr r (λ e. naming.EngineNamesFail seen e a b) → CheckerAfter G.takes r (v seen a) (v seen b)
   observing_checked (Ok users) a b h k = keeps_width a b h.steps.width
   observing_checked (Err e) a b h k = unnamed_checked e a b k
 
   -- ASKS
 
-  ask_reported : (a b : Engine W L G) → calls.Answered seen a b → ReportsAsk (v seen a) (v seen b)
+  ask_reported : (a b : Engine W L G) → calls.EngineAnswered seen a b → ReportsAsk (v seen a) (v seen b)
   ask_reported a b h = (keeps_width a b h.did.width, reported b h.reported)
 
-  flush_failed : (e : SolverError) (a b : Engine W L G) → answering.FlushFails seen e a.core.proof b.core.proof → FlushFails G.takes e (v seen b)
+  flush_failed : (e : SolverError) (a b : Engine W L G) → answering.EngineFlushFails seen e a.context.proof b.context.proof → FlushFails G.takes e (v seen b)
   flush_failed (errors.ProofIoError cause) a b h = tt
   flush_failed (errors.ProofProcessorError cause) a b h = failed (checks.Processor cause) b h.why
   flush_failed errors.CounterEnd a b h = failed checks.CounterEnd b h.why
   flush_failed errors.OutOfMemory a b h = failed checks.OutOfMemory b h.why
   flush_failed e a b h = absurd h
 
-  ask_failed : (e : SolverError) (a b : Engine W L G) → calls.EndsInFailure seen e a b → FailedAskChecks G.takes e (v seen a) (v seen b)
+  ask_failed : (e : SolverError) (a b : Engine W L G) → calls.EngineEndsInFailure seen e a b → FailedAskChecks G.takes e (v seen a) (v seen b)
   ask_failed e a b h = record {
     after = after_error e h.breaks.steps a b h.breaks.loss h.breaks.went;
     known = λ k. flush_failed e a b (h.known k);
   }
 
-  pub ask_checked : (r : Result Bool SolverError) (a b : Engine W L G) → calls.Solves seen r a b → CheckerAfterAsk G.takes r (v seen a) (v seen b)
+  pub ask_checked : (r : Result Bool SolverError) (a b : Engine W L G) → calls.EngineSolves seen r a b → CheckerAfterAsk G.takes r (v seen a) (v seen b)
   ask_checked (Ok sat) a b h = ask_reported a b h.0
   ask_checked (Err errors.Interrupted) a b h = ask_reported a b h.0
   ask_checked (Err errors.HasFailed) a b h = kept a b h.same
@@ -149,7 +146,7 @@ module _ {W L : Type 0} {G : Ghosts L} (seen : W → Writer) where
 
   -- CLOSING
 
-  pub closing_checked : (r : Result (Option W) SolverError) (a b : Engine W L G) → proving.ClosesProof seen r a b → CheckerAfterClosing G.takes r (v seen a) (v seen b)
+  pub closing_checked : (r : Result (Option W) SolverError) (a b : Engine W L G) → proving.EngineClosesProof seen r a b → CheckerAfterClosing G.takes r (v seen a) (v seen b)
   closing_checked (Ok None) a b h = tt
   closing_checked (Ok (Some given)) a b h = reported b h.closes.reported
   closing_checked (Err errors.HasFailed) a b h = (kept a b h.same, tt)

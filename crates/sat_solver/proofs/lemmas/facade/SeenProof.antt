@@ -1,14 +1,13 @@
 -- What a call does to the proof and to the parameters, as callers see it.
-use Rattle.std.proofs.Common.{ℕ, ◌≡◌, ◌∙◌, ◌⊎◌, inl, inr, refl, sym, ap, subst, append-nil, Bool, true, false, Option, Some, None, Result, Ok, Err, List, [], ◌∷◌, ◌++◌}
+use Rattle.std.proofs.Common.{ℕ, ◌≡◌, ◌∙◌, inl, inr, refl, sym, ap, subst, append-nil, Bool, false, Option, Some, None, Result, Ok, Err, List, [], ◌∷◌, ◌++◌}
 use Rattle.std.proofs.Math.Logic.{∥∥₁_elim, ∥∥₁_prop}
 use Rattle.std.specs.Prelude.{IfOk, IfSome}
 use Rattle.sat_base.specs.device.Device.{Writer}
 use Rattle.sat_base.specs.steps.Steps.{Step, End}
 use Rattle.sat_checker.specs.declared.processing.ProofProcessor.{Ghosts}
 use Rattle.sat_solver.specs.proof.Prefixes.{PrefixSince, TargetTakesPrefix}
-use Rattle.sat_solver.specs.proof.ProofTexts as texts
 use Rattle.sat_solver.specs.proof.ProofView as proofs
-use Rattle.sat_solver.specs.proof.ProofView.{Target, TargetTakes, FailsCheck, GivesWriter, returned_writer, target_of, steps_of, proof_listeners, has_missed_step, has_asked}
+use Rattle.sat_solver.specs.proof.ProofView.{Target, TargetTakes, GivesWriter, returned_writer, target_of, steps_of, proof_listeners, has_missed_step}
 use Rattle.sat_solver.specs.session.Session.{AreAllowedSteps}
 use Rattle.std.specs.Global.{Vec}
 use Rattle.sat_parts.specs.clause.Activity.{Scale}
@@ -19,9 +18,8 @@ use Rattle.sat_solver.specs.declared.context.Context.{Context}
 use Rattle.sat_solver.specs.declared.error.SolverError.{SolverError}
 use Rattle.sat_solver.specs.declared.error.SolverError.TheVariants as errors
 use Rattle.sat_solver.specs.declared.proof.format.ProofFormat.{ProofFormat}
-use Rattle.sat_solver.specs.declared.proof.emitted.CheckFault.{CheckFault}
 use Rattle.sat_solver.specs.declared.progress.Progress.{Progress}
-use Rattle.sat_solver.specs.declared.solver.Solver.{Solver as Engine}
+use Rattle.sat_solver.specs.declared.solver.Engine.{Engine}
 use Rattle.sat_solver.specs.declared.state.SatState.{SatState}
 use Rattle.sat_solver.specs.declared.state.SatState.TheVariants as states
 use Rattle.sat_solver.specs.solver.Configuring as configuring
@@ -29,12 +27,10 @@ use Rattle.sat_solver.specs.solver.Progressing as progressing
 use Rattle.sat_solver.specs.solver.Proving as proving
 use Rattle.sat_solver.specs.solver.Whole.{IsSolver}
 use Rattle.sat_solver.specs.facade.Answers.{IsOngoing}
-use Rattle.sat_solver.specs.solver.View as inner
-use Rattle.sat_solver.specs.facade.View.{Checking, SolverView, IsEmpty}
-use Rattle.sat_solver.specs.facade.Inner.{view_of, progress_of}
-use Rattle.sat_solver.specs.facade.Calls.{BreaksOff, TargetAfter}
-use Rattle.sat_solver.specs.facade.Configuring.{Configures, Configured, decay_after}
-use Rattle.sat_solver.specs.facade.Proving.{AddsProcessor, listed, CloseFails, ClosesProof, ClosesText, Enables, IsCertificate, IsDratRefutation, OpensProof, ReturnsAcceptedPrefix, writer_given}
+use Rattle.sat_solver.specs.facade.View.{Checking, SolverView}
+use Rattle.sat_solver.specs.facade.Inner.{progress_of}
+use Rattle.sat_solver.specs.facade.Configuring.{Configures, decay_after}
+use Rattle.sat_solver.specs.facade.Proving.{AddsProcessor, listed, ClosesProof, ClosesText, Enables, IsCertificate, IsDratRefutation, OpensProof, ReturnsAcceptedPrefix, writer_given}
 use Rattle.sat_solver.proofs.lemmas.session.PrefixLemmas.{fronts_are_accepted}
 use Rattle.sat_solver.proofs.lemmas.session.ProofLemmas.{carries_none}
 use Rattle.sat_solver.proofs.lemmas.facade.Seen.{v, refused, differs}
@@ -51,25 +47,9 @@ numbers : {a b c d e f g h a' b' c' d' e' f' g' h' : ℕ} → a ≡ a' → b ≡
 numbers p1 p2 p3 p4 p5 p6 p7 p8 = rw (p1, p2, p3, p4, p5, p6, p7, p8) refl
 
 module _ {W L : Type 0} {G : Ghosts L} (seen : W → Writer) where
-  pub emptied : (s : Engine W L G) → inner.IsEmpty seen s → IsEmpty (v seen s)
-  emptied s h = record {
-    failed = ap (λ (x : inner.View L). x.failed) h.view;
-    used = ap (λ (x : inner.View L). x.used) h.view;
-    answer = ap (λ (x : inner.View L). x.answer) h.view;
-    assumptions = ap (λ (x : inner.View L). x.assumptions) h.view;
-    rounds = ap (λ (x : inner.View L). x.rounds) h.view;
-    restarts = ap (λ (x : inner.View L). x.restarts) h.view;
-    parameters = ap (λ (x : inner.View L). x.parameters) h.view;
-    steps = ap (λ (x : inner.View L). x.steps) h.view;
-    target = ap (λ (x : inner.View L). x.target) h.view;
-    listeners = ap (λ (x : inner.View L). x.listeners) h.view;
-    asked = ap (λ (x : inner.View L). x.asked) h.view;
-    state = h.state;
-  }
-
   -- OPENING
 
-  pub opened : (r : Result (Unit {0}) SolverError) (format : ProofFormat) (target : W) (a b : Engine W L G) → proving.OpensProof seen r format target a b → OpensProof r format (seen target) (v seen a) (v seen b)
+  pub opened : (r : Result (Unit {0}) SolverError) (format : ProofFormat) (target : W) (a b : Engine W L G) → proving.EngineOpensProof seen r format target a b → OpensProof r format (seen target) (v seen a) (v seen b)
   opened (Ok x) format target a b h = record {
     going = h.going;
     first = h.first;
@@ -81,10 +61,10 @@ module _ {W L : Type 0} {G : Ghosts L} (seen : W → Writer) where
   opened (Err e) format target a b h = absurd h
 
   -- the listeners of a checker that is begun by a solver that has not failed
-  begun_with : (a : Engine W L G) (begun more : List L) → IsSolver a → a.failed ≡ false → proofs.ListenersAtRestart a.core.proof begun → Some (begun ++ more) ≡ Some (listed (proof_listeners a.core.proof) ++ more)
-  begun_with a begun more solver going h = ap (λ (begun : List L). Some (begun ++ more)) (begun_seen (has_missed_step a.core.proof) a.core.proof.made (proof_listeners a.core.proof) begun (solver going).taking h)
+  begun_with : (a : Engine W L G) (begun more : List L) → IsSolver a → a.failed ≡ false → proofs.ListenersAtRestart a.context.proof begun → Some (begun ++ more) ≡ Some (listed (proof_listeners a.context.proof) ++ more)
+  begun_with a begun more solver going h = ap (λ (begun : List L). Some (begun ++ more)) (begun_seen (has_missed_step a.context.proof) a.context.proof.made (proof_listeners a.context.proof) begun (solver going).taking h)
 
-  pub enabled : (r : Result (Unit {0}) SolverError) (a b : Engine W L G) → IsSolver a → proving.Enables seen r a b → Enables r (v seen a) (v seen b)
+  pub enabled : (r : Result (Unit {0}) SolverError) (a b : Engine W L G) → IsSolver a → proving.EngineEnables seen r a b → Enables r (v seen a) (v seen b)
   enabled (Ok x) a b solver h = record {
     going = h.going;
     first = h.first;
@@ -95,7 +75,7 @@ module _ {W L : Type 0} {G : Ghosts L} (seen : W → Writer) where
   enabled (Err errors.TooLate) a b solver h = refused seen a b _ h
   enabled (Err e) a b solver h = absurd h
 
-  pub listened : (r : Result (Unit {0}) SolverError) (processor : L) (a b : Engine W L G) → IsSolver a → proving.AddsProcessor seen r processor a b → AddsProcessor r processor (v seen a) (v seen b)
+  pub listened : (r : Result (Unit {0}) SolverError) (processor : L) (a b : Engine W L G) → IsSolver a → proving.EngineAddsProcessor seen r processor a b → AddsProcessor r processor (v seen a) (v seen b)
   listened (Ok x) processor a b solver h = record {
     going = h.going;
     first = h.first;
@@ -111,14 +91,14 @@ module _ {W L : Type 0} {G : Ghosts L} (seen : W → Writer) where
     failed = h.failed;
     steps = h.steps;
     target = h.target;
-    listeners = h.listens.listening ∙ begun_with a h.listens.before [] solver h.going h.listens.listed ∙ ap Some (append-nil (listed (proof_listeners a.core.proof)));
+    listeners = h.listens.listening ∙ begun_with a h.listens.before [] solver h.going h.listens.listed ∙ ap Some (append-nil (listed (proof_listeners a.context.proof)));
     clock = h.clock;
   }
   listened (Err e) processor a b solver h = absurd h
 
   -- CLOSING
 
-  pub closed : (r : Result (Option W) SolverError) (a b : Engine W L G) → proving.ClosesProof seen r a b → ClosesProof (writer_given seen r) (v seen a) (v seen b)
+  pub closed : (r : Result (Option W) SolverError) (a b : Engine W L G) → proving.EngineClosesProof seen r a b → ClosesProof (writer_given seen r) (v seen a) (v seen b)
   closed (Ok None) a b h = record {
     going = h.going;
     shut = h.closes.shut;
@@ -137,11 +117,11 @@ module _ {W L : Type 0} {G : Ghosts L} (seen : W → Writer) where
   closed (Err (errors.ProofProcessorError cause)) a b h = record { going = h.going; failed = h.failed; clock = h.clock }
   closed (Err e) a b h = absurd h
 
-  pub closed_text : (r : Result (Option W) SolverError) (a b : Engine W L G) → proving.ClosesProof seen r a b → ClosesText (writer_given seen r) (v seen a) (v seen b)
+  pub closed_text : (r : Result (Option W) SolverError) (a b : Engine W L G) → proving.EngineClosesProof seen r a b → ClosesText (writer_given seen r) (v seen a) (v seen b)
   closed_text (Ok None) a b h = tt
   closed_text (Ok (Some given)) a b h = h.closes.takes
   closed_text (Err errors.HasFailed) a b h = record {
-    breaks = record { steps = []; history = ap (λ (s : Engine W L G). steps_of s.core.proof) h.same; listening = ap (λ (s : Engine W L G). proof_listeners s.core.proof) h.same; target = subst (λ (s : Engine W L G). TargetTakes (target_of seen a.core.proof) [] (target_of seen s.core.proof)) (sym h.same) (carries_none (target_of seen a.core.proof)) };
+    breaks = record { steps = []; history = ap (λ (s : Engine W L G). steps_of s.context.proof) h.same; listening = ap (λ (s : Engine W L G). proof_listeners s.context.proof) h.same; target = subst (λ (s : Engine W L G). TargetTakes (target_of seen a.context.proof) [] (target_of seen s.context.proof)) (sym h.same) (carries_none (target_of seen a.context.proof)) };
     last = refl;
   }
   closed_text (Err (errors.ProofIoError cause)) a b h = record {
@@ -168,52 +148,52 @@ module _ {W L : Type 0} {G : Ghosts L} (seen : W → Writer) where
   }
   closed_text (Err e) a b h = absurd h
 
-  pub certificate : (given : W) (a b : Engine W L G) → proving.ClosesProof seen (Ok (Some given)) a b → IsCertificate (seen given) (v seen a) (v seen b)
+  pub certificate : (given : W) (a b : Engine W L G) → proving.EngineClosesProof seen (Ok (Some given)) a b → IsCertificate (seen given) (v seen a) (v seen b)
   certificate given a b h f from before begun wrote = h.certificate f from before begun (record { steps = wrote.steps; following = wrote.following; target = wrote.target })
 
-  pub refutes : (given : W) (a b : Engine W L G) → proving.ClosesProof seen (Ok (Some given)) a b → IsDratRefutation (v seen a) (v seen b)
+  pub refutes : (given : W) (a b : Engine W L G) → proving.EngineClosesProof seen (Ok (Some given)) a b → IsDratRefutation (v seen a) (v seen b)
   refutes given a b h = record { derives = h.derives; refutes = h.refutes }
 
-  pub certified : (r : Result (Option W) SolverError) (a b : Engine W L G) → proving.ClosesProof seen r a b → IfOk r (λ o. IfSome o (λ given. IsCertificate (seen given) (v seen a) (v seen b)))
+  pub certified : (r : Result (Option W) SolverError) (a b : Engine W L G) → proving.EngineClosesProof seen r a b → IfOk r (λ o. IfSome o (λ given. IsCertificate (seen given) (v seen a) (v seen b)))
   certified (Ok None) a b h = tt
   certified (Ok (Some given)) a b h = certificate given a b h
   certified (Err e) a b h = tt
 
-  pub drat_refuted : (r : Result (Option W) SolverError) (a b : Engine W L G) → proving.ClosesProof seen r a b → IfOk r (λ o. IfSome o (λ _. IsDratRefutation (v seen a) (v seen b)))
+  pub drat_refuted : (r : Result (Option W) SolverError) (a b : Engine W L G) → proving.EngineClosesProof seen r a b → IfOk r (λ o. IfSome o (λ _. IsDratRefutation (v seen a) (v seen b)))
   drat_refuted (Ok None) a b h = tt
   drat_refuted (Ok (Some given)) a b h = refutes given a b h
   drat_refuted (Err e) a b h = tt
 
-  pub returns_front : (s : Engine W L G) (returned : Option W) → GivesWriter (target_of seen s.core.proof) (returned_writer seen returned) → ReturnsAcceptedPrefix (returned_writer seen returned) (v seen s)
+  pub returns_front : (s : Engine W L G) (returned : Option W) → GivesWriter (target_of seen s.context.proof) (returned_writer seen returned) → ReturnsAcceptedPrefix (returned_writer seen returned) (v seen s)
   returns_front s returned g opened f from given is open_then begun went =
-      let follows = subst (λ (t : Target). TargetTakesPrefix t went.steps (target_of seen s.core.proof)) open_then went.target in
-      let gives = subst (λ (o : Option Writer). GivesWriter (target_of seen s.core.proof) o) is g in
-      ∥∥₁_elim s.core.proof.made.may ∥∥₁_prop (λ may.
-      let front = fronts_are_accepted f from given opened.steps went.steps (target_of seen s.core.proof) begun (subst AreAllowedSteps went.history may) follows gives in
+      let follows = subst (λ (t : Target). TargetTakesPrefix t went.steps (target_of seen s.context.proof)) open_then went.target in
+      let gives = subst (λ (o : Option Writer). GivesWriter (target_of seen s.context.proof) o) is g in
+      ∥∥₁_elim s.context.proof.made.may ∥∥₁_prop (λ may.
+      let front = fronts_are_accepted f from given opened.steps went.steps (target_of seen s.context.proof) begun (subst AreAllowedSteps went.history may) follows gives in
       ∣ subst (PrefixSince f from given opened.steps) (sym went.history) front ∣₁)
 
   -- PARAMETERS
 
-  alike : (parts : SearchState) (decay : ℕ) (u : SolverConfigUpdate) (a b : Engine W L G) → configuring.Configured u a b → b.core.search.parts ≡ record a.core.search.parts { vsids = parts.vsids } → b.core.search.activity.decay ≡ decay
-      → v seen b ≡ record (v seen a) { parameters = updated u a.core.config; clock = configuring.at_scale u.luby_restart_interval_scale a.clock; decay = parts.vsids.decay; clause_decay = decay }
+  alike : (parts : SearchState) (decay : ℕ) (u : SolverConfigUpdate) (a b : Engine W L G) → configuring.EngineConfigured u a b → b.context.search.parts ≡ record a.context.search.parts { vsids = parts.vsids } → b.context.search.activity.decay ≡ decay
+      → v seen b ≡ record (v seen a) { parameters = updated u a.context.config; clock = configuring.at_scale u.luby_restart_interval_scale a.clock; decay = parts.vsids.decay; clause_decay = decay }
   alike parts decay u a b h parts_are decay_is =
       let assumed = ap (λ (t : Vec ℕ). t.items) h.same.assumed in
       rw (h.failed ∙ sym h.going, h.same.used, h.same.state, h.same.names, parts_are, decay_is, assumed, h.same.reported, h.clock, h.config, h.same.proof) refl
 
-  passed : (u : SolverConfigUpdate) (a b : Engine W L G) → configuring.Configured u a b → configuring.SetsDecays (record a.core { config = updated u a.core.config }) b.core
-      → v seen b ≡ record (v seen a) { parameters = updated u a.core.config; clock = configuring.at_scale u.luby_restart_interval_scale a.clock; decay = (updated u a.core.config).vsids_decay; clause_decay = (updated u a.core.config).clause_activity_decay }
+  passed : (u : SolverConfigUpdate) (a b : Engine W L G) → configuring.EngineConfigured u a b → configuring.SetsDecays (record a.context { config = updated u a.context.config }) b.context
+      → v seen b ≡ record (v seen a) { parameters = updated u a.context.config; clock = configuring.at_scale u.luby_restart_interval_scale a.clock; decay = (updated u a.context.config).vsids_decay; clause_decay = (updated u a.context.config).clause_activity_decay }
   passed u a b h k =
-      alike b.core.search.parts (updated u a.core.config).clause_activity_decay u a b h (k.parts ∙ ap (λ (q : SearchState). record a.core.search.parts { vsids = q.vsids }) (sym k.parts)) (ap (λ (q : Scale). q.decay) k.activity)
-      ∙ ap (λ (q : SearchState). record (v seen a) { parameters = updated u a.core.config; clock = configuring.at_scale u.luby_restart_interval_scale a.clock; decay = q.vsids.decay; clause_decay = (updated u a.core.config).clause_activity_decay }) k.parts
+      alike b.context.search.parts (updated u a.context.config).clause_activity_decay u a b h (k.parts ∙ ap (λ (q : SearchState). record a.context.search.parts { vsids = q.vsids }) (sym k.parts)) (ap (λ (q : Scale). q.decay) k.activity)
+      ∙ ap (λ (q : SearchState). record (v seen a) { parameters = updated u a.context.config; clock = configuring.at_scale u.luby_restart_interval_scale a.clock; decay = q.vsids.decay; clause_decay = (updated u a.context.config).clause_activity_decay }) k.parts
 
-  changed : (st : SatState) (u : SolverConfigUpdate) (a b : Engine W L G) → configuring.Configured u a b → configuring.PassesToSearch st (record a.core { config = updated u a.core.config }) b.core
-      → v seen b ≡ record (v seen a) { parameters = updated u a.core.config; clock = configuring.at_scale u.luby_restart_interval_scale a.clock; decay = decay_after st a.core.search.parts.vsids.decay (updated u a.core.config).vsids_decay; clause_decay = decay_after st a.core.search.activity.decay (updated u a.core.config).clause_activity_decay }
-  changed states.Unsat u a b h k = alike a.core.search.parts a.core.search.activity.decay u a b h (ap (λ (c : Context W L G). c.search.parts) k) (ap (λ (c : Context W L G). c.search.activity.decay) k)
+  changed : (st : SatState) (u : SolverConfigUpdate) (a b : Engine W L G) → configuring.EngineConfigured u a b → configuring.PassesToSearch st (record a.context { config = updated u a.context.config }) b.context
+      → v seen b ≡ record (v seen a) { parameters = updated u a.context.config; clock = configuring.at_scale u.luby_restart_interval_scale a.clock; decay = decay_after st a.context.search.parts.vsids.decay (updated u a.context.config).vsids_decay; clause_decay = decay_after st a.context.search.activity.decay (updated u a.context.config).clause_activity_decay }
+  changed states.Unsat u a b h k = alike a.context.search.parts a.context.search.activity.decay u a b h (ap (λ (c : Context W L G). c.search.parts) k) (ap (λ (c : Context W L G). c.search.activity.decay) k)
   changed states.Unknown u a b h k = passed u a b h k
   changed states.Sat u a b h k = passed u a b h k
   changed states.UnsatUnderAssumptions u a b h k = passed u a b h k
 
-  pub configured : (r : Result (Unit {0}) SolverError) (u : SolverConfigUpdate) (a b : Engine W L G) → configuring.Configures r u a b → Configures r u (v seen a) (v seen b)
+  pub configured : (r : Result (Unit {0}) SolverError) (u : SolverConfigUpdate) (a b : Engine W L G) → configuring.EngineConfigures r u a b → Configures r u (v seen a) (v seen b)
   configured (Ok x) u a b h = record { going = h.going; range = h.range; same = changed a.state u a b h h.decays }
   configured (Err errors.HasFailed) u a b h = refused seen a b _ h
   configured (Err errors.OutOfRange) u a b h = refused seen a b _ h
@@ -221,7 +201,7 @@ module _ {W L : Type 0} {G : Ghosts L} (seen : W → Writer) where
 
   -- NUMBERS
 
-  pub progressed : (s : Engine W L G) → IsSolver s → (r : Progress) → r.conflicts ≡ s.clock.rounds → r.restarts ≡ s.clock.restarts.count → (IsSolver s → s.failed ≡ false → r.vars ≡ progressing.solver_unassigned_count s) → (progressing.IsOngoing s → progressing.CountsClausesIn r s) → IsOngoing (v seen s) → r ≡ progress_of s
+  pub progressed : (s : Engine W L G) → IsSolver s → (r : Progress) → r.conflicts ≡ s.clock.rounds → r.restarts ≡ s.clock.restarts.count → (IsSolver s → s.failed ≡ false → r.vars ≡ progressing.solver_unassigned_count s) → (progressing.EngineIsOngoing s → progressing.CountsClausesIn r s) → IsOngoing (v seen s) → r ≡ progress_of s
   progressed s solver r conflicts restarts vars clauses on =
       let c = clauses (record { solver = solver; going = on.going; left = on.left }) in
       numbers conflicts restarts (vars solver on.going) c.binary c.irred c.core c.mid c.local

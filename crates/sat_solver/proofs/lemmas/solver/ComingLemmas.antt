@@ -22,14 +22,14 @@ use Rattle.sat_solver.specs.variables.Calls.{NamesEffect}
 use Rattle.sat_solver.proofs.lemmas.session.ProofLemmas.{gains_adds, gained_width}
 use Rattle.sat_solver.proofs.lemmas.variables.Doing.{judged_by}
 use Rattle.sat_solver.proofs.lemmas.solver.SpeltLemmas.{global_images_of, global_images_kept}
-use Rattle.sat_solver.specs.declared.solver.Solver.{Solver}
+use Rattle.sat_solver.specs.declared.solver.Engine.{Engine}
 use Rattle.sat_solver.specs.declared.state.SatState.{SatState}
 use Rattle.sat_solver.specs.declared.state.SatState.TheVariants as states
 use Rattle.sat_solver.specs.declared.solver.load.Loading.{Loading}
 use Rattle.sat_solver.specs.cdcl.StepEffects.{IsFault, IsFaultOr}
 use Rattle.sat_solver.specs.solver.Taking.{TookClause, TookAssumptions, BreaksNames, BreaksNamesOr}
-use Rattle.sat_solver.specs.solver.Whole.{HasFullStore, SolverInvariant, SolverPartsInvariant, HoldsInState, AskGoesOn, steps_in}
-use Rattle.sat_solver.specs.solver.Adding.{AddClauseEffect, with_added, due_for_clause, ForgetsAnswer, AreSampled, IsBeforeDrat, AddsClause, ReplacesAssumptions, AssumesOrRefuses, due_for_asked}
+use Rattle.sat_solver.specs.solver.Whole.{EngineHasFullStore, SolverInvariant, SolverPartsInvariant, HoldsInState, AskGoesOn, steps_in}
+use Rattle.sat_solver.specs.solver.Adding.{AddClauseEffect, with_added, due_for_clause, ForgetsAnswer, EngineAreSampled, EngineIsBeforeDrat, EngineAddsClause, EngineReplacesAssumptions, EngineAssumesOrRefuses, due_for_asked}
 use Rattle.sat_solver.specs.clause.Activity.{AreDecays}
 use Rattle.sat_solver.specs.solver.Asking.{SetAssumptionsEffect}
 use Rattle.sat_solver.specs.variables.VariableRoom.{HasVariablesFor, user_vars_in}
@@ -52,13 +52,13 @@ goes_of states.Sat c n asked assumed core k h = h.0
 goes_of states.UnsatUnderAssumptions c n asked assumed core k h = h.0
 goes_of states.Unsat c n asked assumed core k h = absurd (k refl)
 
-module _ {W L : Type 0} {G : Ghosts L} (seen : W → Writer) (s : Solver W L G) (whole : SolverInvariant s) (apart : s.state ≡ states.Unsat → ⊥) where
-  pub going_on : AskGoesOn s.core s.names s.asked
-  going_on = goes_of s.state s.core s.names s.asked s.assumed.items s.reported.failed_core.items apart whole.says
+module _ {W L : Type 0} {G : Ghosts L} (seen : W → Writer) (s : Engine W L G) (whole : SolverInvariant s) (apart : s.state ≡ states.Unsat → ⊥) where
+  pub going_on : AskGoesOn s.context s.names s.asked
+  going_on = goes_of s.state s.context s.names s.asked s.assumed.items s.reported.failed_core.items apart whole.says
 
   module _ (b : Context W L G) (n' : Variables) (user : List ℕ) (loading : Loading) where
-    abbrev pub added : SatState → Solver W L G
-    added st = record s { core = b; names = n'; loading = loading; state = st }
+    abbrev pub added : SatState → Engine W L G
+    added st = record s { context = b; names = n'; loading = loading; state = st }
 
     by_state : (before now : SatState) → (before ≡ states.Unsat → ⊥) → ((now ≡ states.Unknown) ⊎ (now ≡ states.Unsat)) → ForgetsAnswer before now
     by_state states.Unknown states.Unknown k e = tt
@@ -88,7 +88,7 @@ module _ {W L : Type 0} {G : Ghosts L} (seen : W → Writer) (s : Solver W L G) 
     due_by e k d = d
 
     -- a clause was added, and unsat isn't recorded
-    pub took_left : TookClause seen s.names n' s.core b user true → AddClauseEffect seen s (added states.Unknown) user
+    pub took_left : TookClause seen s.names n' s.context b user true → AddClauseEffect seen s (added states.Unknown) user
     took_left t = record {
       whole = record {
         valid = t.does.valid;
@@ -106,9 +106,9 @@ module _ {W L : Type 0} {G : Ghosts L} (seen : W → Writer) (s : Solver W L G) 
       comes = t.comes;
       order = λ k. t.order;
       left_out = λ e. absurd (apart e);
-      took = (t.took.0, gains_adds seen t.took.0 s.core.proof b.proof t.took.1);
+      took = (t.took.0, gains_adds seen t.took.0 s.context.proof b.proof t.took.1);
       asked = t.took.1.asked;
-      width = gained_width seen s.core.proof b.proof t.took;
+      width = gained_width seen s.context.proof b.proof t.took;
       failed = refl;
       used = refl;
       config = t.config;
@@ -116,7 +116,7 @@ module _ {W L : Type 0} {G : Ghosts L} (seen : W → Writer) (s : Solver W L G) 
     }
 
     -- a clause was added, and unsat is recorded
-    pub took_none : TookClause seen s.names n' s.core b user false → AddClauseEffect seen s (added states.Unsat) user
+    pub took_none : TookClause seen s.names n' s.context b user false → AddClauseEffect seen s (added states.Unsat) user
     took_none t = record {
       whole = record {
         valid = t.does.valid;
@@ -134,9 +134,9 @@ module _ {W L : Type 0} {G : Ghosts L} (seen : W → Writer) (s : Solver W L G) 
       comes = t.comes;
       order = λ k. t.order;
       left_out = λ e. absurd (apart e);
-      took = (t.took.0, gains_adds seen t.took.0 s.core.proof b.proof t.took.1);
+      took = (t.took.0, gains_adds seen t.took.0 s.context.proof b.proof t.took.1);
       asked = t.took.1.asked;
-      width = gained_width seen s.core.proof b.proof t.took;
+      width = gained_width seen s.context.proof b.proof t.took;
       failed = refl;
       used = refl;
       config = t.config;
@@ -144,7 +144,7 @@ module _ {W L : Type 0} {G : Ghosts L} (seen : W → Writer) (s : Solver W L G) 
     }
 
   -- other assumptions replaced the earlier ones
-  pub asked_in : (b : Context W L G) (n' : Variables) (user : List ℕ) (asked : MappedLits) → TookAssumptions seen s.names n' s.core b user asked → SetAssumptionsEffect seen s (record s { core = b; names = n'; asked = asked; state = states.Unknown }) user
+  pub asked_in : (b : Context W L G) (n' : Variables) (user : List ℕ) (asked : MappedLits) → TookAssumptions seen s.names n' s.context b user asked → SetAssumptionsEffect seen s (record s { context = b; names = n'; asked = asked; state = states.Unknown }) user
   asked_in b n' user asked t = record {
     whole = record {
       valid = (t.does Unknown).valid;
@@ -160,9 +160,9 @@ module _ {W L : Type 0} {G : Ghosts L} (seen : W → Writer) (s : Solver W L G) 
     };
     does = t.does;
     comes = t.comes;
-    took = (t.took.0, gains_adds seen t.took.0 s.core.proof b.proof t.took.1);
+    took = (t.took.0, gains_adds seen t.took.0 s.context.proof b.proof t.took.1);
     asked = t.took.1.asked;
-    width = gained_width seen s.core.proof b.proof t.took;
+    width = gained_width seen s.context.proof b.proof t.took;
     failed = refl;
     used = refl;
     config = t.config;
@@ -175,12 +175,12 @@ module _ {W L : Type 0} {G : Ghosts L} (seen : W → Writer) (s : Solver W L G) 
       forgets states.UnsatUnderAssumptions k = tt
       forgets states.Unsat k = absurd (k refl)
 
-module _ {W L : Type 0} {G : Ghosts L} (seen : W → Writer) (s : Solver W L G) (whole : SolverInvariant s) (known : s.state ≡ states.Unsat) (p : Proof W L G) (n' : Variables) (user : List ℕ) (took : ComesByCheckedSteps seen s.core.proof p) where
-  unsat : (session_of s.core.proof).unsat ≡ true
-  unsat = subst (λ st. HoldsInState st s.core s.names s.asked s.assumed.items s.reported.failed_core.items) known whole.says
+module _ {W L : Type 0} {G : Ghosts L} (seen : W → Writer) (s : Engine W L G) (whole : SolverInvariant s) (known : s.state ≡ states.Unsat) (p : Proof W L G) (n' : Variables) (user : List ℕ) (took : ComesByCheckedSteps seen s.context.proof p) where
+  unsat : (session_of s.context.proof).unsat ≡ true
+  unsat = subst (λ st. HoldsInState st s.context s.names s.asked s.assumed.items s.reported.failed_core.items) known whole.says
 
   -- a clause was left out, since unsat is recorded
-  pub left_in : LeavesOut s.names n' (steps_in s) (steps_of p) user → AddClauseEffect seen s (record s { core = record s.core { proof = p }; names = n' }) user
+  pub left_in : LeavesOut s.names n' (steps_in s) (steps_of p) user → AddClauseEffect seen s (record s { context = record s.context { proof = p }; names = n' }) user
   left_in l = record {
     whole = record {
       valid = l.does.valid;
@@ -192,15 +192,15 @@ module _ {W L : Type 0} {G : Ghosts L} (seen : W → Writer) (s : Solver W L G) 
       decays = whole.decays;
       taking = took.1.taking ∙ whole.taking;
       judged = judged_by l.does whole.judged;
-      says = subst (λ st. HoldsInState st (record s.core { proof = p }) n' s.asked s.assumed.items s.reported.failed_core.items) (sym known) (l.unseen.search.unsat ∙ unsat);
+      says = subst (λ st. HoldsInState st (record s.context { proof = p }) n' s.asked s.assumed.items s.reported.failed_core.items) (sym known) (l.unseen.search.unsat ∙ unsat);
     };
     does = subst (λ st. NamesEffect s.names n' (steps_in s) (steps_of p) (with_added user) (due_for_clause st user)) (sym known) l.does;
     comes = comes_added (names_in user) (steps_in s) (steps_of p) (comes_due (names_in user) (steps_in s) (steps_of p) l.comes);
     order = λ k. absurd (k known);
     left_out = λ e. l.comes;
-    took = (took.0, gains_adds seen took.0 s.core.proof p took.1);
+    took = (took.0, gains_adds seen took.0 s.context.proof p took.1);
     asked = took.1.asked;
-    width = gained_width seen s.core.proof p took;
+    width = gained_width seen s.context.proof p took;
     failed = refl;
     used = refl;
     config = refl;
@@ -215,7 +215,7 @@ module _ {W L : Type 0} {G : Ghosts L} (seen : W → Writer) (s : Solver W L G) 
       }
 
   -- assumptions replaced the earlier ones, but were not passed to the search
-  pub asked_known : (asked : MappedLits) → assuming.IntroducesAssumptions s.names n' (steps_in s) (steps_of p) user asked → SetAssumptionsEffect seen s (record s { core = record s.core { proof = p }; names = n'; asked = asked }) user
+  pub asked_known : (asked : MappedLits) → assuming.IntroducesAssumptions s.names n' (steps_in s) (steps_of p) user asked → SetAssumptionsEffect seen s (record s { context = record s.context { proof = p }; names = n'; asked = asked }) user
   asked_known asked a = record {
     whole = record {
       valid = (a.does Unknown).valid;
@@ -227,13 +227,13 @@ module _ {W L : Type 0} {G : Ghosts L} (seen : W → Writer) (s : Solver W L G) 
       decays = whole.decays;
       taking = took.1.taking ∙ whole.taking;
       judged = judged_by (a.does Unknown) whole.judged;
-      says = subst (λ st. HoldsInState st (record s.core { proof = p }) n' asked user s.reported.failed_core.items) (sym known) (ap (λ ss. (session_after ss).unsat) a.written ∙ a.search.unsat ∙ unsat);
+      says = subst (λ st. HoldsInState st (record s.context { proof = p }) n' asked user s.reported.failed_core.items) (sym known) (ap (λ ss. (session_after ss).unsat) a.written ∙ a.search.unsat ∙ unsat);
     };
     does = a.does;
     comes = a.comes;
-    took = (took.0, gains_adds seen took.0 s.core.proof p took.1);
+    took = (took.0, gains_adds seen took.0 s.context.proof p took.1);
     asked = took.1.asked;
-    width = gained_width seen s.core.proof p took;
+    width = gained_width seen s.context.proof p took;
     failed = refl;
     used = refl;
     config = refl;
@@ -243,7 +243,7 @@ module _ {W L : Type 0} {G : Ghosts L} (seen : W → Writer) (s : Solver W L G) 
 -- FAULTS
 
 -- adding a clause failed
-pub adding_ends : {W L : Type 0} {G : Ghosts L} (seen : W → Writer) (e : SolverError) (s new : Solver W L G) (user : List ℕ) → s.failed ≡ false → IsBeforeDrat seen s → AreSampled s user → HasVariablesFor s.names (user_vars_in user) → IsFaultOr (HasFullStore new) e → BreaksNamesOr (HasFullStore new) seen e s.core new.core → new.clock ≡ s.clock → new.failed ≡ true → AddsClause seen (Err e) s new user
+pub adding_ends : {W L : Type 0} {G : Ghosts L} (seen : W → Writer) (e : SolverError) (s new : Engine W L G) (user : List ℕ) → s.failed ≡ false → EngineIsBeforeDrat seen s → EngineAreSampled s user → HasVariablesFor s.names (user_vars_in user) → IsFaultOr (EngineHasFullStore new) e → BreaksNamesOr (EngineHasFullStore new) seen e s.context new.context → new.clock ≡ s.clock → new.failed ≡ true → EngineAddsClause seen (Err e) s new user
 adding_ends seen errors.OutOfMemory s new user g d w r x b k f = ((d, w), r, record { going = g; failed = f; fault = x; breaks = b; clock = k })
 adding_ends seen errors.StoreFull s new user g d w r x b k f = ((d, w), r, record { going = g; failed = f; fault = x; breaks = b; clock = k })
 adding_ends seen (errors.ProofIoError cause) s new user g d w r x b k f = ((d, w), r, record { going = g; failed = f; fault = x; breaks = b; clock = k })
@@ -252,7 +252,7 @@ adding_ends seen errors.CounterEnd s new user g d w r x b k f = ((d, w), r, reco
 adding_ends seen e s new user g d w r x b k f = absurd x
 
 -- setting assumptions failed
-pub asking_ends : {W L : Type 0} {G : Ghosts L} (seen : W → Writer) (e : SolverError) (s new : Solver W L G) (user : List ℕ) → s.failed ≡ false → AreSampled s user → HasVariablesFor s.names (user_vars_in user) → IsFault e → BreaksNames seen e s.core new.core → new.clock ≡ s.clock → new.failed ≡ true → AssumesOrRefuses seen (Err e) s new user
+pub asking_ends : {W L : Type 0} {G : Ghosts L} (seen : W → Writer) (e : SolverError) (s new : Engine W L G) (user : List ℕ) → s.failed ≡ false → EngineAreSampled s user → HasVariablesFor s.names (user_vars_in user) → IsFault e → BreaksNames seen e s.context new.context → new.clock ≡ s.clock → new.failed ≡ true → EngineAssumesOrRefuses seen (Err e) s new user
 asking_ends seen errors.OutOfMemory s new user g w r x b k f = (w, r, record { going = g; failed = f; fault = x; breaks = b; clock = k })
 asking_ends seen (errors.ProofIoError cause) s new user g w r x b k f = (w, r, record { going = g; failed = f; fault = x; breaks = b; clock = k })
 asking_ends seen (errors.ProofProcessorError cause) s new user g w r x b k f = (w, r, record { going = g; failed = f; fault = x; breaks = b; clock = k })
@@ -262,37 +262,37 @@ asking_ends seen e s new user g w r x b k f = absurd x
 -- CALLS
 
 -- no literal is over a name of mode witness
-pub none_refused : {W L : Type 0} {G : Ghosts L} (s : Solver W L G) (user : List ℕ) (o : Option ℕ) → ((j : ScriptState) (live : LiveVariables) → NamesMatchState s.names j live → refused_literal j (names_in user) ≡ as_refusal o) → is_some o ≡ false → AreSampled s user
+pub none_refused : {W L : Type 0} {G : Ghosts L} (s : Engine W L G) (user : List ℕ) (o : Option ℕ) → ((j : ScriptState) (live : LiveVariables) → NamesMatchState s.names j live → refused_literal j (names_in user) ≡ as_refusal o) → is_some o ≡ false → EngineAreSampled s user
 none_refused s user None judged none = λ j live agree. judged j live agree.judged
 none_refused s user (Some name) judged none = absurd (true≢false none)
 
 -- assumptions were accepted, but memory ran out before they were stored over names
-pub asking_starved : {W L : Type 0} {G : Ghosts L} (seen : W → Writer) (s mid new : Solver W L G) (user : List ℕ) → s.failed ≡ false → AreSampled s user → HasVariablesFor s.names (user_vars_in user) → has_missed_step s.core.proof ≡ false → SetAssumptionsEffect seen (record s { used = true }) mid user → mid.clock ≡ s.clock → new.core ≡ (failed_with mid).core → new.clock ≡ mid.clock → new.failed ≡ true → AssumesOrRefuses seen (Err errors.OutOfMemory) s new user
+pub asking_starved : {W L : Type 0} {G : Ghosts L} (seen : W → Writer) (s mid new : Engine W L G) (user : List ℕ) → s.failed ≡ false → EngineAreSampled s user → HasVariablesFor s.names (user_vars_in user) → has_missed_step s.context.proof ≡ false → SetAssumptionsEffect seen (record s { used = true }) mid user → mid.clock ≡ s.clock → new.context ≡ (failed_with mid).context → new.clock ≡ mid.clock → new.failed ≡ true → EngineAssumesOrRefuses seen (Err errors.OutOfMemory) s new user
 asking_starved seen s mid new user going sampled room taking a clock core same failed = (
   sampled,
   room,
-  record { going = going; failed = failed; fault = tt; breaks = subst (λ c. BreaksNames seen errors.OutOfMemory s.core c) (sym core) (names_reported seen errors.OutOfMemory s.core mid (took_starved seen s.core mid.core a.took (a.whole.taking ∙ sym taking))); clock = same ∙ clock },
+  record { going = going; failed = failed; fault = tt; breaks = subst (λ c. BreaksNames seen errors.OutOfMemory s.context c) (sym core) (names_reported seen errors.OutOfMemory s.context mid (took_starved seen s.context mid.context a.took (a.whole.taking ∙ sym taking))); clock = same ∙ clock },
 )
 
 -- assumptions were accepted and stored over names
-pub assumed_by : {W L : Type 0} {G : Ghosts L} (seen : W → Writer) (s mid new : Solver W L G) (user : List ℕ) → s.failed ≡ false → AreSampled s user → HasVariablesFor s.names (user_vars_in user) → SetAssumptionsEffect seen (record s { used = true }) mid user → mid.clock ≡ s.clock → new ≡ record mid { assumed = new.assumed } → new.assumed.items ≡ user → ReplacesAssumptions seen s new user
+pub assumed_by : {W L : Type 0} {G : Ghosts L} (seen : W → Writer) (s mid new : Engine W L G) (user : List ℕ) → s.failed ≡ false → EngineAreSampled s user → HasVariablesFor s.names (user_vars_in user) → SetAssumptionsEffect seen (record s { used = true }) mid user → mid.clock ≡ s.clock → new ≡ record mid { assumed = new.assumed } → new.assumed.items ≡ user → EngineReplacesAssumptions seen s new user
 assumed_by {W} {L} {G} seen s mid new user going sampled room a clock same items = record {
   sampled = sampled;
   room = room;
   did = λ o. record {
-    whole = subst (λ (x : Solver W L G). SolverPartsInvariant x.core x.names x.asked new.assumed.items x.reported.failed_core.items x.clock.restarts.scale x.state) (sym same)
-        (subst (λ ls. SolverPartsInvariant mid.core mid.names mid.asked ls mid.reported.failed_core.items mid.clock.restarts.scale mid.state) (sym items) a.whole);
+    whole = subst (λ (x : Engine W L G). SolverPartsInvariant x.context x.names x.asked new.assumed.items x.reported.failed_core.items x.clock.restarts.scale x.state) (sym same)
+        (subst (λ ls. SolverPartsInvariant mid.context mid.names mid.asked ls mid.reported.failed_core.items mid.clock.restarts.scale mid.state) (sym items) a.whole);
     going = going;
-    failed = ap (λ (x : Solver W L G). x.failed) same ∙ a.failed ∙ going;
-    used = ap (λ (x : Solver W L G). x.used) same ∙ a.used;
-    config = ap (λ (x : Solver W L G). x.core.config) same ∙ a.config;
-    does = subst (λ (x : Solver W L G). NamesEffect s.names x.names (steps_in s) (steps_in x) (introduce_all (names_in user)) (due_for_asked o user)) (sym same) (a.does o);
-    took = subst (λ (x : Solver W L G). ComesBySteps seen s.core.proof x.core.proof) (sym same) a.took;
-    width = subst (λ (x : Solver W L G). (steps_in x ≡ steps_in s → ⊥) → IsAtWidth x.core.proof) (sym same) a.width;
+    failed = ap (λ (x : Engine W L G). x.failed) same ∙ a.failed ∙ going;
+    used = ap (λ (x : Engine W L G). x.used) same ∙ a.used;
+    config = ap (λ (x : Engine W L G). x.context.config) same ∙ a.config;
+    does = subst (λ (x : Engine W L G). NamesEffect s.names x.names (steps_in s) (steps_in x) (introduce_all (names_in user)) (due_for_asked o user)) (sym same) (a.does o);
+    took = subst (λ (x : Engine W L G). ComesBySteps seen s.context.proof x.context.proof) (sym same) a.took;
+    width = subst (λ (x : Engine W L G). (steps_in x ≡ steps_in s → ⊥) → IsAtWidth x.context.proof) (sym same) a.width;
   };
-  comes = subst (λ (x : Solver W L G). OnlyAllowedSteps (IsLiteralsStep (names_in user)) (steps_in s) (steps_in x)) (sym same) a.comes;
-  asked = ap (λ (x : Solver W L G). has_asked x.core.proof) same ∙ a.asked;
+  comes = subst (λ (x : Engine W L G). OnlyAllowedSteps (IsLiteralsStep (names_in user)) (steps_in s) (steps_in x)) (sym same) a.comes;
+  asked = ap (λ (x : Engine W L G). has_asked x.context.proof) same ∙ a.asked;
   assumed = items;
-  clock = ap (λ (x : Solver W L G). x.clock) same ∙ clock;
-  state = subst (λ (x : Solver W L G). ForgetsAnswer s.state x.state) (sym same) a.state;
+  clock = ap (λ (x : Engine W L G). x.clock) same ∙ clock;
+  state = subst (λ (x : Engine W L G). ForgetsAnswer s.state x.state) (sym same) a.state;
 }

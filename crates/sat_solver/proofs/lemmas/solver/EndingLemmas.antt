@@ -18,11 +18,11 @@ use Rattle.sat_checker.specs.matching.Traces.{no_step, visible}
 use Rattle.sat_solver.specs.variables.Calls.{NamesInvariant, NamesAgree, NamesEffect}
 use Rattle.sat_checker.specs.matching.Expected.{Finish, SameSet, finish}
 use Rattle.sat_solver.proofs.lemmas.variables.Searched.{searches_preserve_names, searches_agree}
-use Rattle.sat_solver.specs.declared.solver.Solver.{Solver}
+use Rattle.sat_solver.specs.declared.solver.Engine.{Engine}
 use Rattle.sat_solver.specs.declared.state.SatState.{SatState}
 use Rattle.sat_solver.specs.declared.state.SatState.TheVariants as states
 use Rattle.sat_solver.specs.solver.Whole.{SolverInvariant, SolverPartsInvariant, HoldsInState, AskGoesOn, steps_in}
-use Rattle.sat_solver.specs.solver.Proving.{CloseReturnsTarget, ClosesProof}
+use Rattle.sat_solver.specs.solver.Proving.{EngineCloseReturnsTarget, EngineClosesProof}
 use Rattle.sat_solver.proofs.lemmas.session.CertificateLemmas.{is_certificate}
 use Rattle.sat_solver.proofs.lemmas.session.DratDerivations.{drat_is_right}
 use Rattle.sat_solver.proofs.lemmas.session.ProofLemmas.{since_closed}
@@ -77,9 +77,9 @@ whole_ended {W} {L} {G} c n asked assumed core scale state p whole e keeps takin
     )
     says states.Unsat h = ap (λ ss. (session_after ss).unsat) e ∙ h
 
-module _ {W L : Type 0} {G : Ghosts L} (seen : W → Writer) (s : Solver W L G) (whole : SolverInvariant s) (going : s.failed ≡ false) (p : Proof W L G) (keeps : HasAllowedSteps p) where
+module _ {W L : Type 0} {G : Ghosts L} (seen : W → Writer) (s : Engine W L G) (whole : SolverInvariant s) (going : s.failed ≡ false) (p : Proof W L G) (keeps : HasAllowedSteps p) where
   -- the target was returned
-  pub closed_one : (given : W) → ClosesOne seen given s.core.proof p → CloseReturnsTarget seen given s (record s { core = record s.core { proof = p } })
+  pub closed_one : (given : W) → ClosesOne seen given s.context.proof p → EngineCloseReturnsTarget seen given s (record s { context = record s.context { proof = p } })
   closed_one given c = record {
     going = going;
     whole = ended;
@@ -88,23 +88,23 @@ module _ {W L : Type 0} {G : Ghosts L} (seen : W → Writer) (s : Solver W L G) 
       kept = λ j live agree. record { live = live; agree = searches_agree s.names (steps_in s) End whole.valid may.1 tt j live agree; trace = visible finish no_step };
     });
     closes = c;
-    certificate = λ f from before none since. is_certificate f from (seen given) before (steps_of p) none keeps (since_closed seen f from before given s.core.proof p since c);
+    certificate = λ f from before none since. is_certificate f from (seen given) before (steps_of p) none keeps (since_closed seen f from before given s.context.proof p since c);
     derives = (drat_is_right (steps_of p) keeps).0;
-    refutes = λ e. (drat_is_right (steps_of p) keeps).1 (subst (λ st. HoldsInState st (record s.core { proof = p }) s.names s.asked s.assumed.items s.reported.failed_core.items) e ended.says);
+    refutes = λ e. (drat_is_right (steps_of p) keeps).1 (subst (λ st. HoldsInState st (record s.context { proof = p }) s.names s.asked s.assumed.items s.reported.failed_core.items) e ended.says);
     same = refl;
   }
     where
-      ended : SolverPartsInvariant (record s.core { proof = p }) s.names s.asked s.assumed.items s.reported.failed_core.items s.clock.restarts.scale s.state
-      ended = whole_ended s.core s.names s.asked s.assumed.items s.reported.failed_core.items s.clock.restarts.scale s.state p whole c.history keeps c.taking
+      ended : SolverPartsInvariant (record s.context { proof = p }) s.names s.asked s.assumed.items s.reported.failed_core.items s.clock.restarts.scale s.state
+      ended = whole_ended s.context s.names s.asked s.assumed.items s.reported.failed_core.items s.clock.restarts.scale s.state p whole c.history keeps c.taking
 
       may : AreAllowedSteps (End ∷ steps_in s)
       may = subst AreAllowedSteps c.history keeps
 
   -- the result of closing a proof
-  pub closed_by : (o : Option W) → ClosesTarget seen (Ok o) s.core.proof p → ClosesProof seen (Ok o) s (record s { core = record s.core { proof = p } })
+  pub closed_by : (o : Option W) → ClosesTarget seen (Ok o) s.context.proof p → EngineClosesProof seen (Ok o) s (record s { context = record s.context { proof = p } })
   closed_by None c = record { going = going; closes = c; same = refl }
   closed_by (Some given) c = closed_one given c
 
-  pub closed_whole : (o : Option W) → ClosesTarget seen (Ok o) s.core.proof p → SolverInvariant (record s { core = record s.core { proof = p } })
-  closed_whole None c = whole_over s.core s.names s.asked s.assumed.items s.reported.failed_core.items s.clock.restarts.scale s.state p whole c.history c.taking
-  closed_whole (Some given) c = whole_ended s.core s.names s.asked s.assumed.items s.reported.failed_core.items s.clock.restarts.scale s.state p whole c.history keeps c.taking
+  pub closed_whole : (o : Option W) → ClosesTarget seen (Ok o) s.context.proof p → SolverInvariant (record s { context = record s.context { proof = p } })
+  closed_whole None c = whole_over s.context s.names s.asked s.assumed.items s.reported.failed_core.items s.clock.restarts.scale s.state p whole c.history c.taking
+  closed_whole (Some given) c = whole_ended s.context s.names s.asked s.assumed.items s.reported.failed_core.items s.clock.restarts.scale s.state p whole c.history keeps c.taking

@@ -15,7 +15,7 @@ use Rattle.sat_solver.specs.schedule.Solving.{Ended, Restarted, ReducedAt, Round
 use Rattle.sat_solver.specs.declared.state.SatState.{SatState}
 use Rattle.sat_solver.specs.declared.state.SatState.TheVariants as states
 use Rattle.sat_solver.specs.solver.Joined.{NamesSearchInvariant}
-use Rattle.sat_solver.specs.solver.Answering.{BreaksOff}
+use Rattle.sat_solver.specs.solver.Answering.{EngineBreaksOff}
 use Rattle.sat_solver.specs.solver.Found.{OutcomeHolds, ReportEffect, ReportsOutcome, FindsAnswer, SearchedBy, state_found}
 use Rattle.sat_solver.specs.declared.solver.find.Schedule.{Schedule}
 use Rattle.sat_solver.proofs.lemmas.solver.AnsweredLemmas.{joined_by}
@@ -46,7 +46,7 @@ module _ {W L : Type 0} {G : Ghosts L} (seen : W → Writer) (n m : Variables) (
   finds_reported outcomes.Model (Some x) mid b core rounds e t = absurd t
 
   -- reporting the outcome failed
-  pub breaks_reported : {k : ℕ} → (outcome : RoundOutcome) (e : SolverError) (mid b : Context W L G) → Ended seen a n k outcome mid m → BreaksOff seen e mid b → BreaksOff seen e a b
+  pub breaks_reported : {k : ℕ} → (outcome : RoundOutcome) (e : SolverError) (mid b : Context W L G) → Ended seen a n k outcome mid m → EngineBreaksOff seen e mid b → EngineBreaksOff seen e a b
   breaks_reported outcome e mid b ended k = (record { fault = k.0.fault; steps = k.0.steps ++ ended.steps; went = went_after seen (Unit {0}) e ended.steps k.0.steps a.proof mid.proof b.proof (gains_adds seen ended.steps a.proof mid.proof ended.adds) k.0.went; loss = loss_later e a.proof mid.proof b.proof ended.adds.taking k.0.loss }, k.1)
 
   -- the result of reporting it
@@ -54,7 +54,7 @@ module _ {W L : Type 0} {G : Ghosts L} (seen : W → Writer) (n m : Variables) (
   finds_by outcome (Ok o) mid b core rounds e t = finds_reported outcome o mid b core rounds e t
   finds_by outcome (Err x) mid b core rounds e t = tt
 
-  pub breaks_by : {k : ℕ} → (outcome : RoundOutcome) (r : Result (Option SatState) SolverError) (mid b : Context W L G) (core : List ℕ) → Ended seen a n k outcome mid m → ReportsOutcome seen r outcome m mid b core → IfErr r (λ x. BreaksOff seen x a b)
+  pub breaks_by : {k : ℕ} → (outcome : RoundOutcome) (r : Result (Option SatState) SolverError) (mid b : Context W L G) (core : List ℕ) → Ended seen a n k outcome mid m → ReportsOutcome seen r outcome m mid b core → IfErr r (λ x. EngineBreaksOff seen x a b)
   breaks_by outcome (Ok o) mid b core e t = tt
   breaks_by outcome (Err x) mid b core e t = breaks_reported outcome x mid b e t
 

@@ -4,21 +4,21 @@ use Rattle.sat_store.specs.clause.Header.{index_of}
 use Rattle.sat_store.specs.declared.clause.tier.Tier.{Tier}
 use Rattle.sat_checker.specs.declared.processing.ProofProcessor.{Ghosts}
 use Rattle.sat_solver.specs.declared.variables.Variables.{Variables}
-use Rattle.sat_solver.specs.declared.solver.Solver.{Solver}
+use Rattle.sat_solver.specs.declared.solver.Engine.{Engine}
 use Rattle.sat_solver.specs.declared.state.SatState.{SatState}
 use Rattle.sat_solver.specs.declared.state.SatState.TheVariants as states
 use Rattle.sat_parts.specs.declared.parts.SearchState.{SearchState}
 use Rattle.sat_solver.specs.variables.Counting.{count_to}
 use Rattle.sat_solver.proofs.lemmas.variables.Counts.{count_suc}
 use Rattle.sat_parts.specs.parts.Whole.{SearchStateInvariant}
-use Rattle.sat_solver.specs.solver.Progressing.{is_unassigned_at, live_count_of_tier, IsOngoing}
+use Rattle.sat_solver.specs.solver.Progressing.{is_unassigned_at, live_count_of_tier, EngineIsOngoing}
 use Rattle.sat_solver.specs.solver.Whole.{HoldsInState}
 
 -- if the search continues, its parts satisfy their invariant
-pub parts_hold : {W L : Type 0} {G : Ghosts L} (s : Solver W L G) → IsOngoing s → SearchStateInvariant s.core.search.parts
+pub parts_hold : {W L : Type 0} {G : Ghosts L} (s : Engine W L G) → EngineIsOngoing s → SearchStateInvariant s.context.search.parts
 parts_hold s h = go s.state refl (h.solver h.going).says
   where
-    go : (st : SatState) → s.state ≡ st → HoldsInState st s.core s.names s.asked s.assumed.items s.reported.failed_core.items → SearchStateInvariant s.core.search.parts
+    go : (st : SatState) → s.state ≡ st → HoldsInState st s.context s.names s.asked s.assumed.items s.reported.failed_core.items → SearchStateInvariant s.context.search.parts
     go states.Unknown e x = x.joined.sound.search.valid.holds
     go states.Sat e x = x.0.joined.sound.search.valid.holds
     go states.UnsatUnderAssumptions e x = x.0.joined.sound.search.valid.holds

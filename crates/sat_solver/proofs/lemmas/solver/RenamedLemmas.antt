@@ -38,10 +38,10 @@ use Rattle.sat_solver.specs.variables.Refusing.{IsAssumed}
 use Rattle.sat_solver.specs.variables.Search.{IsAlike, KeepsUnits}
 use Rattle.sat_solver.specs.variables.Variables.{data_at, global_of, user_of, solver_of, says_unit}
 use Rattle.sat_solver.specs.declared.variables.Variables.{Variables}
-use Rattle.sat_solver.specs.declared.solver.Solver.{Solver}
+use Rattle.sat_solver.specs.declared.solver.Engine.{Engine}
 use Rattle.sat_solver.specs.declared.state.SatState.{SatState}
 use Rattle.sat_solver.specs.declared.state.SatState.TheVariants as states
-use Rattle.sat_solver.specs.solver.Naming.{IsAsked, IsKeptOrFalse, variable_value, name_value, IsNextName, NameCallEffect, Observed, ChangesMode, NewFails, NamesFail}
+use Rattle.sat_solver.specs.solver.Naming.{EngineIsAsked, IsKeptOrFalse, engine_variable_value, engine_name_value, EngineIsNextName, EngineNameCallEffect, EngineObserved, EngineChangesMode, NewFails, EngineNamesFail}
 use Rattle.sat_solver.specs.solver.Taking.{IsNameErrorOr, BreaksNames}
 use Rattle.sat_solver.specs.cdcl.StepEffects.{IsFault}
 use Rattle.sat_solver.specs.declared.context.Context.{Context}
@@ -79,7 +79,7 @@ some_same v w e = cc
 
 -- ASSUMPTIONS AND THEIR MARKS
 
-module _ {W L : Type 0} {G : Ghosts L} (s : Solver W L G) (whole : SolverInvariant s) where
+module _ {W L : Type 0} {G : Ghosts L} (s : Engine W L G) (whole : SolverInvariant s) where
   -- the variable of an assumption
   pub record Asked_as (l : ℕ) : Type 0 where
     pub variable_is : ℕ
@@ -99,7 +99,7 @@ module _ {W L : Type 0} {G : Ghosts L} (s : Solver W L G) (whole : SolverInvaria
       }
 
   -- a name whose variable is marked is assumed
-  pub marked_asked : (user : ℕ) → IsAssumed s.names user → IsAsked s user
+  pub marked_asked : (user : ℕ) → IsAssumed s.names user → EngineIsAsked s user
   marked_asked user m =
       let c = whole.spelt.count in
       let p = mention_place s.asked.globals.items m.variable_is (ap (λ ls. mentions ls m.variable_is) whole.globals ∙ whole.valid.said.marked m.variable_is ∙ m.marked) in
@@ -113,7 +113,7 @@ module _ {W L : Type 0} {G : Ghosts L} (s : Solver W L G) (whole : SolverInvaria
       )
 
   -- the variable of an assumed name is marked
-  pub asked_marked : (user : ℕ) → IsAsked s user → IsAssumed s.names user
+  pub asked_marked : (user : ℕ) → EngineIsAsked s user → IsAssumed s.names user
   asked_marked user a =
       let x = asked_as a.0 a.1 in
       record {
@@ -122,14 +122,14 @@ module _ {W L : Type 0} {G : Ghosts L} (s : Solver W L G) (whole : SolverInvaria
         marked = sym (whole.valid.said.marked x.variable_is) ∙ x.mentioned;
       }
 
-  pub not_marked : (user : ℕ) → (IsAssumed s.names user → ⊥) → IsAsked s user → ⊥
+  pub not_marked : (user : ℕ) → (IsAssumed s.names user → ⊥) → EngineIsAsked s user → ⊥
   not_marked user n a = n (asked_marked user a)
 
   -- NAMES THAT AREN'T ASSUMED
 
   module _ (n' : Variables) (p : Proof W L G) (valid : NamesInvariant n' (steps_of p)) (kept : (l v : ℕ) → Among l s.assumed.items → global_of s.names (variable l) ≡ Some v → global_of n' (variable l) ≡ Some v) (alike : IsAlike s.names n' (steps_in s) (steps_of p)) where
     abbrev new : Context W L G
-    new = record s.core { proof = p }
+    new = record s.context { proof = p }
 
     images : Images n' s.assumed.items s.asked.order.items
     images = record {
@@ -156,10 +156,10 @@ module _ {W L : Type 0} {G : Ghosts L} (s : Solver W L G) (whole : SolverInvaria
       assumed = alike.assumed;
     }
 
-    going : AskGoesOn s.core s.names s.asked → AskGoesOn new n' s.asked
+    going : AskGoesOn s.context s.names s.asked → AskGoesOn new n' s.asked
     going g = record {
       joined = record {
-        sound = record { keeps = valid.may; search = search_alike (session_in s) (session_of p) s.core.search g.joined.sound.search looks; locals = g.joined.sound.locals; mids = g.joined.sound.mids };
+        sound = record { keeps = valid.may; search = search_alike (session_in s) (session_of p) s.context.search g.joined.sound.search looks; locals = g.joined.sound.locals; mids = g.joined.sound.mids };
         valid = valid;
         shares = record {
           size = g.joined.shares.size;
@@ -213,7 +213,7 @@ module _ {W L : Type 0} {G : Ghosts L} (s : Solver W L G) (whole : SolverInvaria
         each_true (c ∷ cs) h o t = (true_at c o.0.0 o.0.1 (named_from core o.0.0 h o.0.2) t.0, each_true cs h o.1 t.1)
 
     -- a failed core is still one
-    core_kept : HasCore s.core s.assumed.items s.reported.failed_core.items → HasCore new s.assumed.items s.reported.failed_core.items
+    core_kept : HasCore s.context s.assumed.items s.reported.failed_core.items → HasCore new s.assumed.items s.reported.failed_core.items
     core_kept h =
         let core = s.reported.failed_core.items in
         record {
@@ -224,14 +224,14 @@ module _ {W L : Type 0} {G : Ghosts L} (s : Solver W L G) (whole : SolverInvaria
           among = h.among;
         }
 
-    says : (st : SatState) → HoldsInState st s.core s.names s.asked s.assumed.items s.reported.failed_core.items → HoldsInState st new n' s.asked s.assumed.items s.reported.failed_core.items
+    says : (st : SatState) → HoldsInState st s.context s.names s.asked s.assumed.items s.reported.failed_core.items → HoldsInState st new n' s.asked s.assumed.items s.reported.failed_core.items
     says states.Unknown h = going h
     says states.Sat h = (going h.0, h.1)
     says states.UnsatUnderAssumptions h = (going h.0, core_kept h.1)
     says states.Unsat h = alike.unsat ∙ h
 
     -- the invariant holds after the call
-    whole_renamed : HasScriptState n' (steps_of p) → has_missed_step p ≡ has_missed_step s.core.proof → SolverPartsInvariant new n' s.asked s.assumed.items s.reported.failed_core.items s.clock.restarts.scale s.state
+    whole_renamed : HasScriptState n' (steps_of p) → has_missed_step p ≡ has_missed_step s.context.proof → SolverPartsInvariant new n' s.asked s.assumed.items s.reported.failed_core.items s.clock.restarts.scale s.state
     whole_renamed judged taking = record {
       valid = valid;
       images = images;
@@ -246,12 +246,12 @@ module _ {W L : Type 0} {G : Ghosts L} (s : Solver W L G) (whole : SolverInvaria
     }
 
   -- if only a name that isn't assumed changes, assumptions keep their variables
-  pub others_kept : (n' : Variables) (user : ℕ) → (IsAsked s user → ⊥) → KeepsOthers s.names n' user → (l v : ℕ) → Among l s.assumed.items → global_of s.names (variable l) ≡ Some v → global_of n' (variable l) ≡ Some v
+  pub others_kept : (n' : Variables) (user : ℕ) → (EngineIsAsked s user → ⊥) → KeepsOthers s.names n' user → (l v : ℕ) → Among l s.assumed.items → global_of s.names (variable l) ≡ Some v → global_of n' (variable l) ≡ Some v
   others_kept n' user free others l v h e = others (variable l) v (λ q. free (l, h, q)) e
 
-module _ {W L : Type 0} {G : Ghosts L} (seen : W → Writer) (s : Solver W L G) (whole : SolverInvariant s) (going : s.failed ≡ false) (n' : Variables) (p : Proof W L G) where
+module _ {W L : Type 0} {G : Ghosts L} (seen : W → Writer) (s : Engine W L G) (whole : SolverInvariant s) (going : s.failed ≡ false) (n' : Variables) (p : Proof W L G) where
   abbrev values : List (Option Bool)
-  values = s.core.search.parts.assignment.current
+  values = s.context.search.parts.assignment.current
 
   module _ (alike : IsAlike s.names n' (steps_in s) (steps_of p)) (valid : NamesInvariant n' (steps_of p)) where
     says_true : (o : Option Bool) → says_unit o true ≡ has_true_value o
@@ -279,10 +279,10 @@ module _ {W L : Type 0} {G : Ghosts L} (seen : W → Writer) (s : Solver W L G) 
         none None e = e
         none (Some x) e = absurd (true≢false (sym gone ∙ whole.valid.tidy.indexed v x e))
 
-    values_kept : VariablesAreKeptOrNew s.names n' → KeepsUnits n' (steps_in s) (steps_of p) → (user : ℕ) → IsKeptOrFalse (name_value s user) (name_value (record s { core = record s.core { proof = p }; names = n'; used = true }) user)
+    values_kept : VariablesAreKeptOrNew s.names n' → KeepsUnits n' (steps_in s) (steps_of p) → (user : ℕ) → IsKeptOrFalse (engine_name_value s user) (engine_name_value (record s { context = record s.context { proof = p }; names = n'; used = true }) user)
     values_kept fresh units user = go (global_of s.names user) refl (global_of n' user) refl
       where
-        go : (o : Option ℕ) → global_of s.names user ≡ o → (t : Option ℕ) → global_of n' user ≡ t → IsKeptOrFalse (variable_value s o) (variable_value (record s { core = record s.core { proof = p }; names = n'; used = true }) t)
+        go : (o : Option ℕ) → global_of s.names user ≡ o → (t : Option ℕ) → global_of n' user ≡ t → IsKeptOrFalse (engine_variable_value s o) (engine_variable_value (record s { context = record s.context { proof = p }; names = n'; used = true }) t)
         go None e None f = tt
         go (Some v) e None f = tt
         go None e (Some w) f = value_same w (λ b. units user w b f) ∙ unused_false w (fresh.fresh user w e f)
@@ -290,10 +290,10 @@ module _ {W L : Type 0} {G : Ghosts L} (seen : W → Writer) (s : Solver W L G) 
 
   -- the call over names succeeded
   pub renamed : (judge : ScriptState → ScriptState) (due : ScriptState → List Expected) (IsAllowedStep : List Step → Step → Type 0) → OnlyAllowedSteps IsAllowedStep (steps_in s) (steps_of p) → NamesEffect s.names n' (steps_in s) (steps_of p) judge due → VariablesAreKeptOrNew s.names n' → KeepsUnits n' (steps_in s) (steps_of p) →
-      ((l v : ℕ) → Among l s.assumed.items → global_of s.names (variable l) ≡ Some v → global_of n' (variable l) ≡ Some v) → IsAlike s.names n' (steps_in s) (steps_of p) → ComesByCheckedSteps seen s.core.proof p →
-      NameCallEffect seen s (record s { core = record s.core { proof = p }; names = n'; used = true }) judge due IsAllowedStep
+      ((l v : ℕ) → Among l s.assumed.items → global_of s.names (variable l) ≡ Some v → global_of n' (variable l) ≡ Some v) → IsAlike s.names n' (steps_in s) (steps_of p) → ComesByCheckedSteps seen s.context.proof p →
+      EngineNameCallEffect seen s (record s { context = record s.context { proof = p }; names = n'; used = true }) judge due IsAllowedStep
   renamed judge due IsAllowedStep comes does fresh units kept alike took = record {
-    did = record { whole = whole_renamed s whole n' p does.valid kept alike (judged_by does whole.judged) took.1.taking; going = going; failed = going; used = refl; config = refl; does = does; took = (took.0, gains_adds seen took.0 s.core.proof p took.1); width = gained_width seen s.core.proof p took };
+    did = record { whole = whole_renamed s whole n' p does.valid kept alike (judged_by does whole.judged) took.1.taking; going = going; failed = going; used = refl; config = refl; does = does; took = (took.0, gains_adds seen took.0 s.context.proof p took.1); width = gained_width seen s.context.proof p took };
     comes = comes;
     asked = took.1.asked;
     assumed = refl;
@@ -304,7 +304,7 @@ module _ {W L : Type 0} {G : Ghosts L} (seen : W → Writer) (s : Solver W L G) 
   }
 
 -- a call that changes modes failed
-pub mode_ends : {W L : Type 0} {G : Ghosts L} (seen : W → Writer) (e : SolverError) (s new : Solver W L G) (user : ℕ) (judge : ScriptState → ScriptState) (due : ScriptState → List Expected) (IsAllowedStep : List Step → Step → Type 0) → s.failed ≡ false → (IsAsked s user → ⊥) → HasVariablesFor s.names (user ∷ []) → IsFault e → BreaksNames seen e s.core new.core → new.clock ≡ s.clock → new.failed ≡ true → ChangesMode seen (Err e) s new user judge due IsAllowedStep
+pub mode_ends : {W L : Type 0} {G : Ghosts L} (seen : W → Writer) (e : SolverError) (s new : Engine W L G) (user : ℕ) (judge : ScriptState → ScriptState) (due : ScriptState → List Expected) (IsAllowedStep : List Step → Step → Type 0) → s.failed ≡ false → (EngineIsAsked s user → ⊥) → HasVariablesFor s.names (user ∷ []) → IsFault e → BreaksNames seen e s.context new.context → new.clock ≡ s.clock → new.failed ≡ true → EngineChangesMode seen (Err e) s new user judge due IsAllowedStep
 mode_ends seen errors.OutOfMemory s new user judge due IsAllowedStep g n r x b k f = (n, r, record { going = g; failed = f; fault = x; breaks = b; clock = k })
 mode_ends seen (errors.ProofIoError cause) s new user judge due IsAllowedStep g n r x b k f = (n, r, record { going = g; failed = f; fault = x; breaks = b; clock = k })
 mode_ends seen (errors.ProofProcessorError cause) s new user judge due IsAllowedStep g n r x b k f = (n, r, record { going = g; failed = f; fault = x; breaks = b; clock = k })
@@ -312,7 +312,7 @@ mode_ends seen errors.CounterEnd s new user judge due IsAllowedStep g n r x b k 
 mode_ends seen e s new user judge due IsAllowedStep g n r x b k f = absurd x
 
 -- a call that introduces names failed
-pub new_ends : {W L : Type 0} {G : Ghosts L} (seen : W → Writer) (e : SolverError) (s new : Solver W L G) → s.failed ≡ false → IsFault e → BreaksNames seen e s.core new.core → new.clock ≡ s.clock → new.failed ≡ true → NamesFail seen e s new
+pub new_ends : {W L : Type 0} {G : Ghosts L} (seen : W → Writer) (e : SolverError) (s new : Engine W L G) → s.failed ≡ false → IsFault e → BreaksNames seen e s.context new.context → new.clock ≡ s.clock → new.failed ≡ true → EngineNamesFail seen e s new
 new_ends seen errors.OutOfMemory s new g x b k f = record { going = g; failed = f; fault = x; breaks = b; clock = k }
 new_ends seen (errors.ProofIoError cause) s new g x b k f = record { going = g; failed = f; fault = x; breaks = b; clock = k }
 new_ends seen (errors.ProofProcessorError cause) s new g x b k f = record { going = g; failed = f; fault = x; breaks = b; clock = k }
@@ -320,7 +320,7 @@ new_ends seen errors.CounterEnd s new g x b k f = record { going = g; failed = f
 new_ends seen e s new g x b k f = absurd x
 
 -- a call for a new name failed
-pub new_fails : {W L : Type 0} {G : Ghosts L} (seen : W → Writer) (e : SolverError) (s new : Solver W L G) → s.failed ≡ false → (NoVariableLeft s.names → ⊥) → IsFault e → BreaksNames seen e s.core new.core → new.clock ≡ s.clock → new.failed ≡ true → NewFails seen e s new
+pub new_fails : {W L : Type 0} {G : Ghosts L} (seen : W → Writer) (e : SolverError) (s new : Engine W L G) → s.failed ≡ false → (NoVariableLeft s.names → ⊥) → IsFault e → BreaksNames seen e s.context new.context → new.clock ≡ s.clock → new.failed ≡ true → NewFails seen e s new
 new_fails seen errors.OutOfMemory s new g n x b k f = (n, record { going = g; failed = f; fault = x; breaks = b; clock = k })
 new_fails seen (errors.ProofIoError cause) s new g n x b k f = (n, record { going = g; failed = f; fault = x; breaks = b; clock = k })
 new_fails seen (errors.ProofProcessorError cause) s new g n x b k f = (n, record { going = g; failed = f; fault = x; breaks = b; clock = k })
@@ -343,24 +343,24 @@ reported_limit (names.Check checks.OutOfMemory) h = cc
 reported_limit e h = cc
 
 -- a call that changed neither names nor steps leaves the solver unchanged
-pub same_solver : {W L : Type 0} {G : Ghosts L} (s : Solver W L G) (n' : Variables) (p : Proof W L G) → n' ≡ s.names → p ≡ s.core.proof → ◌≡◌ {A = Solver W L G} (record s { core = record s.core { proof = p }; names = n' }) s
+pub same_solver : {W L : Type 0} {G : Ghosts L} (s : Engine W L G) (n' : Variables) (p : Proof W L G) → n' ≡ s.names → p ≡ s.context.proof → ◌≡◌ {A = Engine W L G} (record s { context = record s.context { proof = p }; names = n' }) s
 same_solver {W} {L} {G} s n' p e f =
-    subst (λ (n : Variables). ◌≡◌ {A = Solver W L G} (record s { core = record s.core { proof = p }; names = n }) s) (sym e)
-    (subst (λ (q : Proof W L G). ◌≡◌ {A = Solver W L G} (record s { core = record s.core { proof = q } }) s) (sym f) refl)
+    subst (λ (n : Variables). ◌≡◌ {A = Engine W L G} (record s { context = record s.context { proof = p }; names = n }) s) (sym e)
+    (subst (λ (q : Proof W L G). ◌≡◌ {A = Engine W L G} (record s { context = record s.context { proof = q } }) s) (sym f) refl)
 
 -- the next name is the lowest one that isn't in use
-pub next_name : {W L : Type 0} {G : Ghosts L} (s : Solver W L G) → SolverInvariant s → (user : ℕ) → IsNextUser s.names user → IsNextName s (user + 1)
+pub next_name : {W L : Type 0} {G : Ghosts L} (s : Engine W L G) → SolverInvariant s → (user : ℕ) → IsNextUser s.names user → EngineIsNextName s (user + 1)
 next_name s whole user next j live agree = lowest_unused s.names (steps_in s) j live user whole.valid agree.judged next
 
 -- all hidden variables got names
-pub observed_all : {W L : Type 0} {G : Ghosts L} (seen : W → Writer) (s : Solver W L G) → SolverInvariant s → s.failed ≡ false → (n' : Variables) (p : Proof W L G) (users : List ℕ) (used : Bool) → used ≡ (s.used || not (eqb (length users) 0)) → NamesAllHidden s.names n' (steps_in s) (steps_of p) users → ComesByCheckedSteps seen s.core.proof p →
-    Observed seen s (record s { core = record s.core { proof = p }; names = n'; used = used }) users
+pub observed_all : {W L : Type 0} {G : Ghosts L} (seen : W → Writer) (s : Engine W L G) → SolverInvariant s → s.failed ≡ false → (n' : Variables) (p : Proof W L G) (users : List ℕ) (used : Bool) → used ≡ (s.used || not (eqb (length users) 0)) → NamesAllHidden s.names n' (steps_in s) (steps_of p) users → ComesByCheckedSteps seen s.context.proof p →
+    EngineObserved seen s (record s { context = record s.context { proof = p }; names = n'; used = used }) users
 observed_all seen s whole going n' p users used opened all took = record {
   steps = record {
     whole = whole_renamed s whole n' p all.valid (λ l v h e. all.names (variable l) v e) (alike_unseen s.names n' (steps_in s) (steps_of p) all.unseen)
         (let k = whole.judged in let kept = all.kept k.0 k.1 k.2 in (kept.0, k.1, kept.2)) took.1.taking;
-    took = (took.0, gains_adds seen took.0 s.core.proof p took.1);
-    width = gained_width seen s.core.proof p took;
+    took = (took.0, gains_adds seen took.0 s.context.proof p took.1);
+    width = gained_width seen s.context.proof p took;
   };
   going = going;
   failed = going;

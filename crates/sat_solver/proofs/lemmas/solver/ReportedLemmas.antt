@@ -16,11 +16,11 @@ use Rattle.sat_solver.specs.cdcl.StepEffects.{EmitsUpToFault, proof_fault}
 use Rattle.sat_solver.proofs.lemmas.cdcl.GoingLemmas.{complaint_kept}
 use Rattle.sat_solver.proofs.lemmas.session.ProofLemmas.{complains_now, gains_adds}
 use Rattle.sat_solver.specs.declared.context.Context.{Context}
-use Rattle.sat_solver.specs.declared.solver.Solver.{Solver}
-use Rattle.sat_solver.specs.solver.Answering.{FlushFails}
-use Rattle.sat_solver.specs.solver.Calls.{EndsInFailure, Solves}
+use Rattle.sat_solver.specs.declared.solver.Engine.{Engine}
+use Rattle.sat_solver.specs.solver.Answering.{EngineFlushFails}
+use Rattle.sat_solver.specs.solver.Calls.{EngineEndsInFailure, EngineSolves}
 use Rattle.sat_solver.specs.solver.Failing.{failed_with}
-use Rattle.sat_solver.specs.solver.Proving.{ClosesProof}
+use Rattle.sat_solver.specs.solver.Proving.{EngineClosesProof}
 use Rattle.sat_solver.specs.solver.Settling.{AnswersOrBreaks}
 use Rattle.sat_solver.specs.solver.Taking.{BreaksNamesOr}
 
@@ -45,7 +45,7 @@ module _ {W L : Type 0} {G : Ghosts L} (seen : W → Writer) (p q : Proof W L G)
   loss_reported errors.Interrupted h = h
   loss_reported e h = h
 
-  flush_reported : (e : SolverError) → FlushFails seen e p q → FlushFails seen e p (without_listener_error q)
+  flush_reported : (e : SolverError) → EngineFlushFails seen e p q → EngineFlushFails seen e p (without_listener_error q)
   flush_reported (errors.ProofIoError cause) h = fails_reported _ h
   flush_reported (errors.ProofProcessorError cause) h = check_reported _ _ h
   flush_reported errors.OutOfMemory h = check_reported _ _ h
@@ -54,21 +54,21 @@ module _ {W L : Type 0} {G : Ghosts L} (seen : W → Writer) (p q : Proof W L G)
 
 module _ {W L : Type 0} {G : Ghosts L} (seen : W → Writer) where
   -- a call over names failed
-  pub names_reported : {full : Type 0} (e : SolverError) (a : Context W L G) (s : Solver W L G) → BreaksNamesOr full seen e a s.core → BreaksNamesOr full seen e a (failed_with s).core
-  names_reported e a s h = record { fault = h.fault; steps = h.steps; went = went_reported seen a.proof s.core.proof e h.steps h.went; loss = loss_reported seen a.proof s.core.proof e h.loss }
+  pub names_reported : {full : Type 0} (e : SolverError) (a : Context W L G) (s : Engine W L G) → BreaksNamesOr full seen e a s.context → BreaksNamesOr full seen e a (failed_with s).context
+  names_reported e a s h = record { fault = h.fault; steps = h.steps; went = went_reported seen a.proof s.context.proof e h.steps h.went; loss = loss_reported seen a.proof s.context.proof e h.loss }
 
-  module _ (s mid : Solver W L G) (going : s.failed ≡ false) where
-    ended : (e : SolverError) → AnswersOrBreaks seen (Err e) (record s { used = true }) mid → EndsInFailure seen e s (failed_with mid)
+  module _ (s mid : Engine W L G) (going : s.failed ≡ false) where
+    ended : (e : SolverError) → AnswersOrBreaks seen (Err e) (record s { used = true }) mid → EngineEndsInFailure seen e s (failed_with mid)
     ended e h = record {
       going = going;
       failed = refl;
-      breaks = record { fault = h.0.0.fault; steps = h.0.0.steps; went = went_reported seen s.core.proof mid.core.proof e h.0.0.steps h.0.0.went; loss = loss_reported seen s.core.proof mid.core.proof e h.0.0.loss };
+      breaks = record { fault = h.0.0.fault; steps = h.0.0.steps; went = went_reported seen s.context.proof mid.context.proof e h.0.0.steps h.0.0.went; loss = loss_reported seen s.context.proof mid.context.proof e h.0.0.loss };
       counts = record { more = h.1.more; within = h.1.within; few = h.1.few };
-      known = λ k. flush_reported seen s.core.proof mid.core.proof e (h.2 k);
+      known = λ k. flush_reported seen s.context.proof mid.context.proof e (h.2 k);
     }
 
     -- an ask failed
-    pub solve_ends : (e : SolverError) → AnswersOrBreaks seen (Err e) (record s { used = true }) mid → Solves seen (Err e) s (failed_with mid)
+    pub solve_ends : (e : SolverError) → AnswersOrBreaks seen (Err e) (record s { used = true }) mid → EngineSolves seen (Err e) s (failed_with mid)
     solve_ends (errors.ProofIoError cause) h = ended _ h
     solve_ends (errors.ProofProcessorError cause) h = ended _ h
     solve_ends errors.OutOfMemory h = ended _ h
@@ -76,22 +76,22 @@ module _ {W L : Type 0} {G : Ghosts L} (seen : W → Writer) where
     solve_ends errors.CounterEnd h = ended _ h
     solve_ends e h = absurd h.0.0.fault
 
-  module _ (s : Solver W L G) (going : s.failed ≡ false) (taking : has_missed_step s.core.proof ≡ false) (p : Proof W L G) where
-    abbrev pub closing : Solver W L G
-    closing = record s { core = record s.core { proof = p } }
+  module _ (s : Engine W L G) (going : s.failed ≡ false) (taking : has_missed_step s.context.proof ≡ false) (p : Proof W L G) where
+    abbrev pub closing : Engine W L G
+    closing = record s { context = record s.context { proof = p } }
 
-    unchecked : (fault : CheckFault) → ClosesTarget {W = W} seen (Err (Check fault)) s.core.proof p → FailsCheck seen fault (End ∷ []) s.core.proof (without_listener_error p)
-    unchecked fault h = check_reported seen s.core.proof p fault (End ∷ []) (record { adds = h.0; why = (complains_now fault p (has_missed_step s.core.proof) taking h.1).0 })
+    unchecked : (fault : CheckFault) → ClosesTarget {W = W} seen (Err (Check fault)) s.context.proof p → FailsCheck seen fault (End ∷ []) s.context.proof (without_listener_error p)
+    unchecked fault h = check_reported seen s.context.proof p fault (End ∷ []) (record { adds = h.0; why = (complains_now fault p (has_missed_step s.context.proof) taking h.1).0 })
 
     -- closing a proof failed
-    pub close_ends : (e : ProofError) → ClosesTarget {W = W} seen (Err e) s.core.proof p → ClosesProof seen (Err (proof_fault e)) s (failed_with closing)
-    close_ends (Write cause) h = record { going = going; failed = refl; fails = fails_reported seen s.core.proof p _ h.0; clock = refl }
-    close_ends OutOfMemory h = record { going = going; failed = refl; adds = inl (adds_reported seen s.core.proof p [] (gains_adds seen [] s.core.proof p h)); loss = inl h.taking; clock = refl }
+    pub close_ends : (e : ProofError) → ClosesTarget {W = W} seen (Err e) s.context.proof p → EngineClosesProof seen (Err (proof_fault e)) s (failed_with closing)
+    close_ends (Write cause) h = record { going = going; failed = refl; fails = fails_reported seen s.context.proof p _ h.0; clock = refl }
+    close_ends OutOfMemory h = record { going = going; failed = refl; adds = inl (adds_reported seen s.context.proof p [] (gains_adds seen [] s.context.proof p h)); loss = inl h.taking; clock = refl }
     close_ends (Check checks.OutOfMemory) h = (let k = unchecked checks.OutOfMemory h in record { going = going; failed = refl; adds = inr k; loss = inr k.why; clock = refl })
     close_ends (Check checks.CounterEnd) h = record { going = going; failed = refl; fails = unchecked checks.CounterEnd h; clock = refl }
     close_ends (Check (checks.Processor cause)) h = record { going = going; failed = refl; fails = unchecked (checks.Processor cause) h; clock = refl }
 
-    pub close_kept : (e : ProofError) → ClosesTarget {W = W} seen (Err e) s.core.proof p → IsKept (proof_fault e) p
+    pub close_kept : (e : ProofError) → ClosesTarget {W = W} seen (Err e) s.context.proof p → IsKept (proof_fault e) p
     close_kept (Write cause) h = h.1
     close_kept OutOfMemory h = tt
-    close_kept (Check fault) h = complaint_kept fault p (complains_now fault p (has_missed_step s.core.proof) taking h.1).1
+    close_kept (Check fault) h = complaint_kept fault p (complains_now fault p (has_missed_step s.context.proof) taking h.1).1

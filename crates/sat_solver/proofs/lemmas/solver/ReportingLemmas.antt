@@ -31,7 +31,7 @@ use Rattle.sat_solver.specs.variables.Calls.{NamesInvariant}
 use Rattle.sat_solver.specs.declared.variables.Variables.{Variables}
 use Rattle.sat_solver.proofs.lemmas.variables.Searched.{searches_preserve_names}
 use Rattle.sat_solver.specs.solver.Joined.{NamesSearchInvariant, lit_over_names}
-use Rattle.sat_solver.specs.solver.Answering.{Shown, WritesFailedCore, BreaksOff, model_of}
+use Rattle.sat_solver.specs.solver.Answering.{Shown, WritesFailedCore, EngineBreaksOff, model_of}
 use Rattle.sat_solver.proofs.lemmas.solver.ShownLemmas.{model_only}
 
 -- a step that changes neither clauses, units, names nor assumptions preserves the invariant of the search
@@ -91,11 +91,11 @@ module _ {W L : Type 0} {G : Ghosts L} (seen : W → Writer) (n : Variables) (a 
         }
 
   -- memory ran out before anything was written
-  pub starved : BreaksOff seen errors.OutOfMemory a a
+  pub starved : EngineBreaksOff seen errors.OutOfMemory a a
   starved = (record { fault = tt; steps = []; went = adds_none seen a.proof; loss = inl refl }, tt)
 
   -- writing or checking a step failed
-  pub broken : (e : ProofError) (step : Step) (proof : Proof W L G) → EmitsAsAnswered {T = Unit {0}} seen (Err e) (step ∷ []) a.proof proof → BreaksOff seen (proof_fault e) a (record a { proof = proof })
+  pub broken : (e : ProofError) (step : Step) (proof : Proof W L G) → EmitsAsAnswered {T = Unit {0}} seen (Err e) (step ∷ []) a.proof proof → EngineBreaksOff seen (proof_fault e) a (record a { proof = proof })
   broken (Write cause) step proof fails = (record { fault = tt; steps = step ∷ []; went = fails.0; loss = tt }, fails.1)
   broken OutOfMemory step proof gains = (record { fault = tt; steps = []; went = gains_adds seen [] a.proof proof gains; loss = inl gains.taking }, tt)
   broken (Check fault) step proof fails = (record { fault = fault_checked _ fault; steps = step ∷ []; went = went_checked seen (Unit {0}) fault (step ∷ []) a.proof proof fails.0; loss = check_loss fault a.proof proof fails.0.why }, complaint_kept fault proof fails.1)

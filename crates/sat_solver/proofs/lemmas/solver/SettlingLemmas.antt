@@ -44,17 +44,17 @@ use Rattle.sat_checker.specs.matching.Bridge.{LiveVariables}
 use Rattle.sat_solver.specs.declared.variables.Variables.{Variables}
 use Rattle.sat_solver.specs.declared.load.literals.MappedLits.{MappedLits}
 use Rattle.sat_solver.proofs.lemmas.variables.Doing.{does_none, does_both, judged_by}
-use Rattle.sat_solver.specs.declared.solver.Solver.{Solver}
+use Rattle.sat_solver.specs.declared.solver.Engine.{Engine}
 use Rattle.sat_solver.specs.declared.state.SatState.{SatState}
 use Rattle.sat_solver.specs.declared.state.SatState.TheVariants as states
 use Rattle.sat_solver.specs.declared.solver.find.LastAnswers.{LastAnswers}
 use Rattle.sat_solver.specs.declared.solver.find.Schedule.{Schedule}
 use Rattle.sat_solver.specs.solver.Joined.{NamesSearchInvariant, lit_over_names}
-use Rattle.sat_solver.specs.solver.Answering.{BreaksOff, FlushFails, WritesFailedCore, line_of_names, model_of}
+use Rattle.sat_solver.specs.solver.Answering.{EngineBreaksOff, EngineFlushFails, WritesFailedCore, line_of_names, model_of}
 use Rattle.sat_solver.specs.solver.Found.{FoundModel, FoundCore, FoundNone, FoundSays}
-use Rattle.sat_solver.specs.solver.Calls.{Answered, Counts, CountsRounds, RoundsOn, IsFlushed, MakesRounds, NotesAsk, learned_of, due_between_states, due_for_answer}
+use Rattle.sat_solver.specs.solver.Calls.{EngineAnswered, EngineCounts, EngineCountsRounds, RoundsOn, IsFlushed, MakesRounds, NotesAsk, learned_of, due_between_states, engine_due_for_answer}
 use Rattle.sat_solver.specs.solver.Settling.{Settled}
-use Rattle.sat_solver.specs.solver.Whole.{SolverInvariant, SolverPartsInvariant, HoldsInState, AskGoesOn, HasCore, steps_in, session_in, line_in}
+use Rattle.sat_solver.specs.solver.Whole.{SolverInvariant, SolverPartsInvariant, HoldsInState, AskGoesOn, HasCore, steps_in, session_in, engine_line}
 use Rattle.sat_solver.proofs.lemmas.solver.AnsweredLemmas.{asked_shown, core_among, core_spelt, core_none, joined_by, does_shown, does_failed}
 use Rattle.sat_solver.proofs.lemmas.solver.KeptLemmas.{images_kept, globals_kept}
 use Rattle.sat_solver.specs.unit_simplify.Freed.{KeepsAsked}
@@ -86,14 +86,14 @@ no_rounds e n = omega arith
 then_still : (from mids to steps : List Step) (step : Step) (k : ℕ) → mids ≡ steps ++ from → to ≡ step ∷ mids → CountsEmpowering from steps k → IsNeverEmpoweringByForm (session_after (steps ++ from)) step → CountsEmpoweringIn from to k
 then_still from mids to steps step k e f times still = record { steps = step ∷ steps; following = f ∙ ap (λ ss. step ∷ ss) e; times = inl (times, still) }
 
-module _ {W L : Type 0} {G : Ghosts L} (seen : W → Writer) (s : Solver W L G) (whole : SolverInvariant s) where
+module _ {W L : Type 0} {G : Ghosts L} (seen : W → Writer) (s : Engine W L G) (whole : SolverInvariant s) where
   -- the answer was known before
   pub settled_known : (s.state ≡ states.Unknown → ⊥) → Settled seen s s
   settled_known n = record {
     whole = whole;
     does = none s.state n;
     comes = comes_none EndsAtUnsat (steps_in s);
-    took = ([], adds_none seen s.core.proof);
+    took = ([], adds_none seen s.context.proof);
     width = λ k. absurd (k refl);
     same = refl;
     users = refl;
@@ -105,32 +105,32 @@ module _ {W L : Type 0} {G : Ghosts L} (seen : W → Writer) (s : Solver W L G) 
       answered = λ j live a fits u. n u;
     };
     times = record { steps = []; following = refl; times = no_rounds s.state s.clock.rounds };
-    known = λ k. (adds_none seen s.core.proof, refl);
+    known = λ k. (adds_none seen s.context.proof, refl);
   }
     where
-      none : (st : SatState) → (st ≡ states.Unknown → ⊥) → NamesEffect s.names s.names (steps_in s) (steps_in s) (λ j. j) (λ j. due_between_states st st (line_in s) s.assumed.items s.reported.failed_core.items)
+      none : (st : SatState) → (st ≡ states.Unknown → ⊥) → NamesEffect s.names s.names (steps_in s) (steps_in s) (λ j. j) (λ j. due_between_states st st (engine_line s) s.assumed.items s.reported.failed_core.items)
       none states.Unknown n = absurd (n refl)
       none states.Sat n = does_none s.names (steps_in s) whole.valid
       none states.UnsatUnderAssumptions n = does_none s.names (steps_in s) whole.valid
       none states.Unsat n = does_none s.names (steps_in s) whole.valid
 
-  module _ (goes : AskGoesOn s.core s.names s.asked) (core : Context W L G) (m : Variables) (reported : LastAnswers) (clock : Schedule) (scale : clock.restarts.scale ≡ s.clock.restarts.scale) where
+  module _ (goes : AskGoesOn s.context s.names s.asked) (core : Context W L G) (m : Variables) (reported : LastAnswers) (clock : Schedule) (scale : clock.restarts.scale ≡ s.clock.restarts.scale) where
     positive : 0 < clock.restarts.scale
     positive = subst (λ (k : ℕ). 0 < k) (sym scale) whole.positive
 
-    scaled : (core : Context W L G) → core.config ≡ s.core.config → clock.restarts.scale ≡ core.config.luby_restart_interval_scale
+    scaled : (core : Context W L G) → core.config ≡ s.context.config → clock.restarts.scale ≡ core.config.luby_restart_interval_scale
     scaled core e = scale ∙ whole.scaled ∙ ap (λ (x : SolverConfig). x.luby_restart_interval_scale) (sym e)
 
     kept_images : {t : Session} → KeepsAsked s.names m (session_in s) t → Images m s.assumed.items s.asked.order.items
     kept_images {t} k =
-        images_kept s.names m (steps_in s) s.core.search (session_in s) t goes.joined.valid goes.joined.shares s.assumed.items s.asked.order.items
-        (goes.joined.sound.search.ready.asked ∙ ap (map (with_var (global_in s.core.search))) goes.lits) whole.images k
+        images_kept s.names m (steps_in s) s.context.search (session_in s) t goes.joined.valid goes.joined.shares s.assumed.items s.asked.order.items
+        (goes.joined.sound.search.ready.asked ∙ ap (map (with_var (global_in s.context.search))) goes.lits) whole.images k
 
     kept_spelt : {t : Session} → KeepsAsked s.names m (session_in s) t → GlobalImages m s.assumed.items s.asked.globals.items
     kept_spelt {t} k = globals_kept s.names m s.assumed.items s.asked.globals.items whole.spelt k.users
 
     -- no answer was found
-    pub settled_none : s.state ≡ states.Unknown → Counts s (record s { core = core; names = m; reported = reported; clock = clock }) → FoundNone seen (clock.rounds - s.clock.rounds) s.names m s.core core → Settled seen s (record s { core = core; names = m; reported = reported; clock = clock })
+    pub settled_none : s.state ≡ states.Unknown → EngineCounts s (record s { context = core; names = m; reported = reported; clock = clock }) → FoundNone seen (clock.rounds - s.clock.rounds) s.names m s.context core → Settled seen s (record s { context = core; names = m; reported = reported; clock = clock })
     settled_none unknown counts found = record {
       whole = record {
         valid = found.joined.valid;
@@ -146,8 +146,8 @@ module _ {W L : Type 0} {G : Ghosts L} (seen : W → Writer) (s : Solver W L G) 
       };
       does = subst (λ st. NamesEffect s.names m (steps_in s) (steps_of core.proof) (λ j. j) (λ j. due_between_states st st (line_of_names m core) s.assumed.items reported.failed_core.items)) (sym unknown) found.gone.does;
       comes = comes_open (steps_in s) (steps_of core.proof) found.gone.steps found.gone.adds.history found.joined.sound.search.valid.fits.consistent;
-      took = (found.gone.steps, gains_adds seen found.gone.steps s.core.proof core.proof found.gone.adds);
-      width = gained_width seen s.core.proof core.proof (found.gone.steps, found.gone.adds);
+      took = (found.gone.steps, gains_adds seen found.gone.steps s.context.proof core.proof found.gone.adds);
+      width = gained_width seen s.context.proof core.proof (found.gone.steps, found.gone.adds);
       same = refl;
       users = found.gone.asked.users;
       config = found.gone.config;
@@ -157,20 +157,20 @@ module _ {W L : Type 0} {G : Ghosts L} (seen : W → Writer) (s : Solver W L G) 
     }
 
     module _ (unknown : s.state ≡ states.Unknown) where
-      abbrev pub new : SatState → Solver W L G
-      new st = record s { core = core; names = m; reported = reported; clock = clock; state = st }
+      abbrev pub new : SatState → Engine W L G
+      new st = record s { context = core; names = m; reported = reported; clock = clock; state = st }
 
       from_unknown : (st : SatState) → NamesEffect s.names m (steps_in s) (steps_of core.proof) (λ j. j) (λ j. due_between_states states.Unknown st (line_of_names m core) s.assumed.items reported.failed_core.items) → NamesEffect s.names m (steps_in s) (steps_of core.proof) (λ j. j) (λ j. due_between_states s.state st (line_of_names m core) s.assumed.items reported.failed_core.items)
       from_unknown st d = subst (λ before. NamesEffect s.names m (steps_in s) (steps_of core.proof) (λ j. j) (λ j. due_between_states before st (line_of_names m core) s.assumed.items reported.failed_core.items)) (sym unknown) d
 
       -- a model was found
-      pub settled_model : Counts s (new states.Sat) → FoundModel seen (clock.rounds - s.clock.rounds) s.names m s.core core → Settled seen s (new states.Sat)
+      pub settled_model : EngineCounts s (new states.Sat) → FoundModel seen (clock.rounds - s.clock.rounds) s.names m s.context core → Settled seen s (new states.Sat)
       settled_model counts found = record {
         whole = record {
           valid = found.shown.joined.valid;
           images = images;
           spelt = kept_spelt found.ended.asked;
-          globals = whole.globals ∙ sym (assumed_moved (session_in s) (session_of core.proof) s.core.search core.search goes.joined.sound.search.ready.asked found.shown.joined.sound.search.ready.asked moved);
+          globals = whole.globals ∙ sym (assumed_moved (session_in s) (session_of core.proof) s.context.search core.search goes.joined.sound.search.ready.asked found.shown.joined.sound.search.ready.asked moved);
           positive = positive;
           scaled = scaled core (found.shown.config ∙ found.ended.config);
           decays = subst AreDecays (sym (found.shown.config ∙ found.ended.config)) whole.decays;
@@ -184,8 +184,8 @@ module _ {W L : Type 0} {G : Ghosts L} (seen : W → Writer) (s : Solver W L G) 
         does = from_unknown states.Sat does;
         comes = comes_both EndsAtUnsat (steps_in s) (steps_of found.mid.proof) (steps_of core.proof) found.ended.comes
             (comes_one EndsAtUnsat (steps_of found.mid.proof) (steps_of core.proof) _ found.shown.adds.history (λ u. absurd (true≢false (sym u ∙ found.ended.says.0.search.valid.fits.consistent))));
-        took = (_, gains_adds seen _ s.core.proof core.proof both);
-        width = gained_width seen s.core.proof core.proof (_, both);
+        took = (_, gains_adds seen _ s.context.proof core.proof both);
+        width = gained_width seen s.context.proof core.proof (_, both);
         same = refl;
         users = found.ended.asked.users;
         config = found.shown.config ∙ found.ended.config;
@@ -201,10 +201,10 @@ module _ {W L : Type 0} {G : Ghosts L} (seen : W → Writer) (s : Solver W L G) 
           images = kept_images found.ended.asked
 
           mid : NamesSearchInvariant m found.mid
-          mid = joined_by s.names m s.core found.mid goes.joined found.ended.config found.ended.keeps found.ended.does.valid found.ended.says.0.search found.ended.says.1
+          mid = joined_by s.names m s.context found.mid goes.joined found.ended.config found.ended.keeps found.ended.does.valid found.ended.says.0.search found.ended.says.1
 
-          moved : SameVarsAndAssumptions s.core.search core.search
-          moved = subst (SameVarsAndAssumptions s.core.search) (sym found.shown.search) found.ended.says.0.moved
+          moved : SameVarsAndAssumptions s.context.search core.search
+          moved = subst (SameVarsAndAssumptions s.context.search) (sym found.shown.search) found.ended.says.0.moved
 
           lits : core.search.assumptions.lits.items ≡ s.asked.order.items
           lits = ap (λ ls. ls.items) moved.lits ∙ goes.lits
@@ -216,8 +216,8 @@ module _ {W L : Type 0} {G : Ghosts L} (seen : W → Writer) (s : Solver W L G) 
           asked = asked_shown m core.search.parts.assignment.current s.assumed.items s.asked.order.items images
               (subst (λ ls. (k : ℕ) → k < length ls → IsTrueLit core.search.parts.assignment.current (get_or ls k 0)) lits complete.assumed)
 
-          both : EmitsChecked seen (Model (model_of m found.mid) ∷ found.ended.steps) s.core.proof core.proof
-          both = gains_more seen found.ended.steps (Model (model_of m found.mid) ∷ []) s.core.proof found.mid.proof core.proof found.ended.adds found.shown.adds
+          both : EmitsChecked seen (Model (model_of m found.mid) ∷ found.ended.steps) s.context.proof core.proof
+          both = gains_more seen found.ended.steps (Model (model_of m found.mid) ∷ []) s.context.proof found.mid.proof core.proof found.ended.adds found.shown.adds
 
           does : NamesEffect s.names m (steps_in s) (steps_of core.proof) (λ j. j) (λ j. due_between_states states.Unknown states.Sat (line_of_names m core) s.assumed.items reported.failed_core.items)
           does = does_both s.names m m (steps_in s) (steps_of found.mid.proof) (steps_of core.proof) (λ j. j) (λ j. j) (λ j. []) (λ j. due_between_states states.Unknown states.Sat (line_of_names m core) s.assumed.items reported.failed_core.items)
@@ -226,13 +226,13 @@ module _ {W L : Type 0} {G : Ghosts L} (seen : W → Writer) (s : Solver W L G) 
               (does_shown seen m found.mid mid core found.shown s.assumed.items (subst (λ c. AllByRecursion (λ l. Among l (line_by c)) s.assumed.items) found.shown.search asked)))
 
       -- a failed core was found
-      pub settled_core : Counts s (new states.UnsatUnderAssumptions) → FoundCore seen (clock.rounds - s.clock.rounds) s.names m s.core core reported.failed_core.items → Settled seen s (new states.UnsatUnderAssumptions)
+      pub settled_core : EngineCounts s (new states.UnsatUnderAssumptions) → FoundCore seen (clock.rounds - s.clock.rounds) s.names m s.context core reported.failed_core.items → Settled seen s (new states.UnsatUnderAssumptions)
       settled_core counts found = record {
         whole = record {
           valid = found.failed.joined.valid;
           images = images;
           spelt = kept_spelt found.ended.asked;
-          globals = whole.globals ∙ sym (assumed_moved (session_in s) (session_of core.proof) s.core.search core.search goes.joined.sound.search.ready.asked found.failed.joined.sound.search.ready.asked moved);
+          globals = whole.globals ∙ sym (assumed_moved (session_in s) (session_of core.proof) s.context.search core.search goes.joined.sound.search.ready.asked found.failed.joined.sound.search.ready.asked moved);
           positive = positive;
           scaled = scaled core (found.failed.config ∙ found.ended.config);
           decays = subst AreDecays (sym (found.failed.config ∙ found.ended.config)) whole.decays;
@@ -246,8 +246,8 @@ module _ {W L : Type 0} {G : Ghosts L} (seen : W → Writer) (s : Solver W L G) 
         does = from_unknown states.UnsatUnderAssumptions does;
         comes = comes_both EndsAtUnsat (steps_in s) (steps_of found.mid.proof) (steps_of core.proof) found.ended.comes
             (comes_one EndsAtUnsat (steps_of found.mid.proof) (steps_of core.proof) _ (found.failed.adds.history ∙ ap (λ ss. ss ++ steps_of found.mid.proof) found.failed.reported.is) (λ u. absurd (true≢false (sym u ∙ found.ended.says.0.search.valid.fits.consistent))));
-        took = (_, gains_adds seen _ s.core.proof core.proof both);
-        width = gained_width seen s.core.proof core.proof (_, both);
+        took = (_, gains_adds seen _ s.context.proof core.proof both);
+        width = gained_width seen s.context.proof core.proof (_, both);
         same = refl;
         users = found.ended.asked.users;
         config = found.failed.config ∙ found.ended.config;
@@ -260,9 +260,9 @@ module _ {W L : Type 0} {G : Ghosts L} (seen : W → Writer) (s : Solver W L G) 
           images = kept_images found.ended.asked
 
           mid : NamesSearchInvariant m found.mid
-          mid = joined_by s.names m s.core found.mid goes.joined found.ended.config found.ended.keeps found.ended.does.valid found.ended.says.0.search found.ended.says.1
+          mid = joined_by s.names m s.context found.mid goes.joined found.ended.config found.ended.keeps found.ended.does.valid found.ended.says.0.search found.ended.says.1
 
-          moved : SameVarsAndAssumptions s.core.search core.search
+          moved : SameVarsAndAssumptions s.context.search core.search
           moved = record {
             globals = found.failed.reported.moved.globals ∙ found.ended.says.0.moved.globals;
             lits = found.failed.reported.moved.lits ∙ found.ended.says.0.moved.lits;
@@ -272,8 +272,8 @@ module _ {W L : Type 0} {G : Ghosts L} (seen : W → Writer) (s : Solver W L G) 
           lits : found.mid.search.assumptions.lits.items ≡ s.asked.order.items
           lits = ap (λ ls. ls.items) found.ended.says.0.moved.lits ∙ goes.lits
 
-          both : EmitsChecked seen (found.failed.steps ++ found.ended.steps) s.core.proof core.proof
-          both = gains_more seen found.ended.steps found.failed.steps s.core.proof found.mid.proof core.proof found.ended.adds found.failed.adds
+          both : EmitsChecked seen (found.failed.steps ++ found.ended.steps) s.context.proof core.proof
+          both = gains_more seen found.ended.steps found.failed.steps s.context.proof found.mid.proof core.proof found.ended.adds found.failed.adds
 
           does : NamesEffect s.names m (steps_in s) (steps_of core.proof) (λ j. j) (λ j. due_between_states states.Unknown states.UnsatUnderAssumptions (line_of_names m core) s.assumed.items reported.failed_core.items)
           does = does_both s.names m m (steps_in s) (steps_of found.mid.proof) (steps_of core.proof) (λ j. j) (λ j. j) (λ j. []) (λ j. due_between_states states.Unknown states.UnsatUnderAssumptions (line_of_names m core) s.assumed.items reported.failed_core.items)
@@ -295,7 +295,7 @@ module _ {W L : Type 0} {G : Ghosts L} (seen : W → Writer) (s : Solver W L G) 
               }
 
       -- the clauses turned out to be unsatisfiable without assumptions
-      pub settled_unsat : Counts s (new states.Unsat) → Ended seen s.core s.names (clock.rounds - s.clock.rounds - 1) outcomes.Unsat core m → Settled seen s (new states.Unsat)
+      pub settled_unsat : EngineCounts s (new states.Unsat) → Ended seen s.context s.names (clock.rounds - s.clock.rounds - 1) outcomes.Unsat core m → Settled seen s (new states.Unsat)
       settled_unsat counts ended = record {
         whole = record {
           valid = ended.does.valid;
@@ -311,8 +311,8 @@ module _ {W L : Type 0} {G : Ghosts L} (seen : W → Writer) (s : Solver W L G) 
         };
         does = from_unknown states.Unsat ended.does;
         comes = ended.comes;
-        took = (ended.steps, gains_adds seen ended.steps s.core.proof core.proof ended.adds);
-        width = gained_width seen s.core.proof core.proof (ended.steps, ended.adds);
+        took = (ended.steps, gains_adds seen ended.steps s.context.proof core.proof ended.adds);
+        width = gained_width seen s.context.proof core.proof (ended.steps, ended.adds);
         same = refl;
         users = ended.asked.users;
         config = ended.config;
@@ -369,46 +369,46 @@ whole_over {W} {L} {G} c n asked assumed core scale state p whole e taking = rec
     )
     says states.Unsat h = subst (λ ss. (session_after ss).unsat ≡ true) (sym e) h
 
-module _ {W L : Type 0} {G : Ghosts L} (seen : W → Writer) (old mid : Solver W L G) (settled : Settled seen old mid) (p : Proof W L G) where
-  flush_adds : FlushesAndNotifies seen mid.core.proof p → EmitsExactly seen [] mid.core.proof p
-  flush_adds f = gains_adds seen [] mid.core.proof p (flush_records seen (Ok tt) mid.core.proof p settled.whole.taking f)
+module _ {W L : Type 0} {G : Ghosts L} (seen : W → Writer) (old mid : Engine W L G) (settled : Settled seen old mid) (p : Proof W L G) where
+  flush_adds : FlushesAndNotifies seen mid.context.proof p → EmitsExactly seen [] mid.context.proof p
+  flush_adds f = gains_adds seen [] mid.context.proof p (flush_records seen (Ok tt) mid.context.proof p settled.whole.taking f)
 
   -- the target was flushed after the answer
-  pub settled_flushed : FlushesAndNotifies seen mid.core.proof p → Settled seen old (record mid { core = record mid.core { proof = p } })
+  pub settled_flushed : FlushesAndNotifies seen mid.context.proof p → Settled seen old (record mid { context = record mid.context { proof = p } })
   settled_flushed f = record {
-    whole = whole_over mid.core mid.names mid.asked mid.assumed.items mid.reported.failed_core.items mid.clock.restarts.scale mid.state p settled.whole f.history f.taking;
-    does = subst (λ ss. NamesEffect old.names mid.names (steps_in old) ss (λ j. j) (λ j. due_for_answer old.state mid)) (sym f.history) settled.does;
+    whole = whole_over mid.context mid.names mid.asked mid.assumed.items mid.reported.failed_core.items mid.clock.restarts.scale mid.state p settled.whole f.history f.taking;
+    does = subst (λ ss. NamesEffect old.names mid.names (steps_in old) ss (λ j. j) (λ j. engine_due_for_answer old.state mid)) (sym f.history) settled.does;
     comes = subst (OnlyAllowedSteps EndsAtUnsat (steps_in old)) (sym f.history) settled.comes;
-    took = (_, adds_more seen settled.took.0 [] old.core.proof mid.core.proof p settled.took.1 (flush_adds f));
+    took = (_, adds_more seen settled.took.0 [] old.context.proof mid.context.proof p settled.took.1 (flush_adds f));
     width = λ n. f.width (settled.width (λ e. n (f.history ∙ e)));
-    same = ap (λ (m : Solver W L G). record m { core = record mid.core { proof = p } }) settled.same;
+    same = ap (λ (m : Engine W L G). record m { context = record mid.context { proof = p } }) settled.same;
     users = settled.users;
     config = settled.config;
     counts = record { on = settled.counts.on; round = settled.counts.round; spent = settled.counts.spent; answered = settled.counts.answered };
     times = record { steps = settled.times.steps; following = f.history ∙ settled.times.following; times = settled.times.times };
-    known = λ k. let h = settled.known k in (adds_more seen [] [] old.core.proof mid.core.proof p h.0 (flush_adds f), ap (λ (m : Solver W L G). record m { core = record m.core { proof = p } }) h.1);
+    known = λ k. let h = settled.known k in (adds_more seen [] [] old.context.proof mid.context.proof p h.0 (flush_adds f), ap (λ (m : Engine W L G). record m { context = record m.context { proof = p } }) h.1);
   }
 
   -- flushing the target failed
-  pub settled_broken : (e : ProofError) → FlushesOrFails seen (Err e) mid.core.proof p → BreaksOff seen (proof_fault e) old.core (record mid.core { proof = p }) × CountsRounds old mid × ((old.state ≡ states.Unknown → ⊥) → FlushFails seen (proof_fault e) old.core.proof p)
-  settled_broken (Write cause) f = ((record { fault = tt; steps = _; went = fails_later seen settled.took.0 [] old.core.proof mid.core.proof p settled.took.1 f.0; loss = tt }, f.1), settled.counts.on, λ k. fails_later seen [] [] old.core.proof mid.core.proof p (settled.known k).0 f.0)
+  pub settled_broken : (e : ProofError) → FlushesOrFails seen (Err e) mid.context.proof p → EngineBreaksOff seen (proof_fault e) old.context (record mid.context { proof = p }) × EngineCountsRounds old mid × ((old.state ≡ states.Unknown → ⊥) → EngineFlushFails seen (proof_fault e) old.context.proof p)
+  settled_broken (Write cause) f = ((record { fault = tt; steps = _; went = fails_later seen settled.took.0 [] old.context.proof mid.context.proof p settled.took.1 f.0; loss = tt }, f.1), settled.counts.on, λ k. fails_later seen [] [] old.context.proof mid.context.proof p (settled.known k).0 f.0)
   settled_broken OutOfMemory f = absurd f
   settled_broken (Check fault) f =
-      let k = flush_records seen (Err (Check fault)) mid.core.proof p settled.whole.taking f in
+      let k = flush_records seen (Err (Check fault)) mid.context.proof p settled.whole.taking f in
       let steps = settled.took.0 in
-      ((record { fault = fault_checked _ fault; steps = [] ++ steps; went = went_checked seen (Unit {0}) fault ([] ++ steps) old.core.proof p (check_later seen steps [] old.core.proof mid.core.proof p settled.took.1 k.0); loss = check_loss fault old.core.proof p k.0.why }, complaint_kept fault p k.1), settled.counts.on, λ n. flush_checked fault (check_later seen [] [] old.core.proof mid.core.proof p (settled.known n).0 k.0))
+      ((record { fault = fault_checked _ fault; steps = [] ++ steps; went = went_checked seen (Unit {0}) fault ([] ++ steps) old.context.proof p (check_later seen steps [] old.context.proof mid.context.proof p settled.took.1 k.0); loss = check_loss fault old.context.proof p k.0.why }, complaint_kept fault p k.1), settled.counts.on, λ n. flush_checked fault (check_later seen [] [] old.context.proof mid.context.proof p (settled.known n).0 k.0))
     where
-      flush_checked : (f : CheckFault) → FailsCheck seen f [] old.core.proof p → FlushFails seen (check_fault_of f) old.core.proof p
+      flush_checked : (f : CheckFault) → FailsCheck seen f [] old.context.proof p → EngineFlushFails seen (check_fault_of f) old.context.proof p
       flush_checked checks.OutOfMemory h = h
       flush_checked checks.CounterEnd h = h
       flush_checked (checks.Processor cause) h = h
 
-module _ {W L : Type 0} {G : Ghosts L} (seen : W → Writer) (s : Solver W L G) (whole : SolverInvariant s) (unknown : s.state ≡ states.Unknown) (core : Context W L G) (m : Variables) (reported : LastAnswers) (clock : Schedule) (scale : clock.restarts.scale ≡ s.clock.restarts.scale) (on : CountsOn (values_in s.core) s.core.config.max_steps s.clock.rounds clock.rounds) where
-  goes_on : AskGoesOn s.core s.names s.asked
-  goes_on = subst (λ st. HoldsInState st s.core s.names s.asked s.assumed.items s.reported.failed_core.items) unknown whole.says
+module _ {W L : Type 0} {G : Ghosts L} (seen : W → Writer) (s : Engine W L G) (whole : SolverInvariant s) (unknown : s.state ≡ states.Unknown) (core : Context W L G) (m : Variables) (reported : LastAnswers) (clock : Schedule) (scale : clock.restarts.scale ≡ s.clock.restarts.scale) (on : CountsOn (values_in s.context) s.context.config.max_steps s.clock.rounds clock.rounds) where
+  goes_on : AskGoesOn s.context s.names s.asked
+  goes_on = subst (λ st. HoldsInState st s.context s.names s.asked s.assumed.items s.reported.failed_core.items) unknown whole.says
 
   -- there are at most as many variables as identities
-  over_identities : (j : ScriptState) (live : LiveVariables) → NamesAgree s.names (steps_in s) j live → values_in s.core ≤ j.identity_count
+  over_identities : (j : ScriptState) (live : LiveVariables) → NamesAgree s.names (steps_in s) j live → values_in s.context ≤ j.identity_count
   over_identities j live agree =
       let shares = goes_on.joined.shares in
       let size = shares.size in
@@ -417,24 +417,24 @@ module _ {W L : Type 0} {G : Ghosts L} (seen : W → Writer) (s : Solver W L G) 
       let identities = agree.judged.identities in
       omega arith
 
-  pub rounds_on : RoundsOn s.names (steps_in s) s.core.config.max_steps s.clock.rounds clock.rounds
+  pub rounds_on : RoundsOn s.names (steps_in s) s.context.config.max_steps s.clock.rounds clock.rounds
   rounds_on = record {
     more = on.more;
     within = on.within;
-    few = λ j live agree. (let p = pow_mono (2 * values_in s.core + 3) (2 * j.identity_count + 3) (let le = over_identities j live agree in omega arith) in let f = on.few in omega arith);
+    few = λ j live agree. (let p = pow_mono (2 * values_in s.context + 3) (2 * j.identity_count + 3) (let le = over_identities j live agree in omega arith) in let f = on.few in omega arith);
   }
 
   -- an answer was found
-  pub settled_some : s.clock.rounds < clock.rounds → (st : SatState) → FoundSays seen st (clock.rounds - s.clock.rounds) s.names m s.core core reported.failed_core.items → Settled seen s (record s { core = core; names = m; reported = reported; clock = clock; state = st })
+  pub settled_some : s.clock.rounds < clock.rounds → (st : SatState) → FoundSays seen st (clock.rounds - s.clock.rounds) s.names m s.context core reported.failed_core.items → Settled seen s (record s { context = core; names = m; reported = reported; clock = clock; state = st })
   settled_some round states.Unknown found = absurd found
   settled_some round states.Sat found = settled_model seen s whole goes_on core m reported clock scale unknown (record { on = rounds_on; round = λ u k. round; spent = λ u. absurd (apart_sat u); answered = λ j live a fits u. apart_sat u }) found
   settled_some round states.UnsatUnderAssumptions found = settled_core seen s whole goes_on core m reported clock scale unknown (record { on = rounds_on; round = λ u k. round; spent = λ u. absurd (apart_core u); answered = λ j live a fits u. apart_core u }) found
   settled_some round states.Unsat found = settled_unsat seen s whole goes_on core m reported clock scale unknown (record { on = rounds_on; round = λ u k. round; spent = λ u. absurd (apart_unsat u); answered = λ j live a fits u. apart_unsat u }) found
 
   -- no answer was found, and the rounds are exhausted
-  pub settled_without : clock.rounds ≡ s.clock.rounds + round_allowance s.core.config.max_steps s.clock.rounds →
-      ((n : ℕ) → values_in s.core ≤ n → 2 ^ (2 * n + 3) ≤ round_allowance s.core.config.max_steps s.clock.rounds → ⊥) →
-      FoundNone seen (clock.rounds - s.clock.rounds) s.names m s.core core → Settled seen s (record s { core = core; names = m; reported = reported; clock = clock })
+  pub settled_without : clock.rounds ≡ s.clock.rounds + round_allowance s.context.config.max_steps s.clock.rounds →
+      ((n : ℕ) → values_in s.context ≤ n → 2 ^ (2 * n + 3) ≤ round_allowance s.context.config.max_steps s.clock.rounds → ⊥) →
+      FoundNone seen (clock.rounds - s.clock.rounds) s.names m s.context core → Settled seen s (record s { context = core; names = m; reported = reported; clock = clock })
   settled_without spent answered found = settled_none seen s whole goes_on core m reported clock scale unknown (record { on = rounds_on; round = λ u k. absurd (k unknown); spent = λ u. spent; answered = λ j live a fits u. answered j.identity_count (over_identities j live a) fits }) found
 
 -- the target was flushed
@@ -448,12 +448,12 @@ flushed_by seen p q f = go (target_of seen p) (target_of seen q) f.target
 
 -- CALLS
 
-module _ {W L : Type 0} {G : Ghosts L} (seen : W → Writer) (s new : Solver W L G) (settled : Settled seen (record s { used = true }) new) (going : s.failed ≡ false) (flushed : IsFlushed (target_of seen new.core.proof)) (reported : AllStepsReported new.core.proof) (asked : NotesAsk seen new.core.proof) (rounds : s.state ≡ states.Unknown → MakesRounds seen s new) where
+module _ {W L : Type 0} {G : Ghosts L} (seen : W → Writer) (s new : Engine W L G) (settled : Settled seen (record s { used = true }) new) (going : s.failed ≡ false) (flushed : IsFlushed (target_of seen new.context.proof)) (reported : AllStepsReported new.context.proof) (asked : NotesAsk seen new.context.proof) (rounds : s.state ≡ states.Unknown → MakesRounds seen s new) where
   -- the ask was answered
-  pub answered : Answered seen s new
+  pub answered : EngineAnswered seen s new
   answered = record {
-    did = record { whole = settled.whole; going = going; failed = ap (λ (x : Solver W L G). x.failed) settled.same ∙ going; used = ap (λ (x : Solver W L G). x.used) settled.same; config = settled.config; does = settled.does; took = settled.took; width = settled.width };
-    assumed = ap (λ (x : Solver W L G). x.assumed) settled.same;
+    did = record { whole = settled.whole; going = going; failed = ap (λ (x : Engine W L G). x.failed) settled.same ∙ going; used = ap (λ (x : Engine W L G). x.used) settled.same; config = settled.config; does = settled.does; took = settled.took; width = settled.width };
+    assumed = ap (λ (x : Engine W L G). x.assumed) settled.same;
     counts = record { on = settled.counts.on; round = settled.counts.round; spent = settled.counts.spent; answered = settled.counts.answered };
     flushed = flushed;
     reported = reported;

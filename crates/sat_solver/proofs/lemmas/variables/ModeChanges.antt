@@ -3,7 +3,7 @@ use Rattle.std.proofs.Common.{ℕ, ◌+◌, ◌<◌, ◌≡◌, ◌≢◌, Bool,
 use Rattle.std.proofs.Math.ListN.{length-set}
 use Rattle.std.proofs.lemmas.List.{get_or_past, get_or-set_same, get_or-set_other}
 use Rattle.std.proofs.lemmas.Bool.{eqb-true, eqb-false, true≢false, false_from_ne_true, cases_lt}
-use Rattle.sat_base.specs.script.ScriptState.{ScriptState, Sampled, Witnessed, identity_of, with_mode}
+use Rattle.sat_base.specs.script.ScriptState.{ScriptState, Sampled, identity_of, with_mode}
 use Rattle.sat_base.specs.script.ScriptState as judged
 use Rattle.sat_base.specs.steps.Steps.{Step, ChangeSamplingMode}
 use Rattle.sat_checker.specs.Fold.{Holds}

@@ -1,7 +1,7 @@
 -- Names of mode witness.
 use Rattle.std.proofs.Common.{ℕ, ◌+◌, ◌≡◌, ◌≢◌, false, not, List, get_or, Option, Some, None, is_some, refl, sym, ◌∙◌, ap}
 use Rattle.std.proofs.lemmas.Bool.{true≢false}
-use Rattle.sat_base.specs.script.ScriptState.{ScriptState, Sampled, Witnessed, Refusal, PastLimit, WitnessName, identity_of, is_witness, has_witness, refused_literal}
+use Rattle.sat_base.specs.script.ScriptState.{ScriptState, Sampled, identity_of, is_witness, has_witness, refused_literal}
 use Rattle.sat_base.specs.script.ScriptState as judged
 use Rattle.sat_store.specs.declared.data.SamplingMode.{SamplingMode}
 use Rattle.sat_store.specs.declared.data.SamplingMode.TheVariants as kept

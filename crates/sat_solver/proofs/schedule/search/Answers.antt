@@ -22,7 +22,7 @@ one_less A m n le h = subst A (let e : m - n ≡ m + 1 - n - 1 = omega arith in 
 
 pub loop-rounds-init : goal.loop-rounds-init
 loop-rounds-init g c =
-    let core = c.args.core.now in
+    let core = c.args.context.now in
     record {
       joined = c.requires.joined;
       scale = c.requires.scale;
@@ -37,7 +37,7 @@ loop-rounds-init g c =
 
 pub conflict_step-requires : goal.conflict_step-requires
 conflict_step-requires g c =
-    let b = c.restart_where_due.new.core in
+    let b = c.restart_where_due.new.context in
     let r : Context g.row.W.Denot g.row.P.Denot g.P.ProofProcessor = record b { proof = c.reduce.new.proof; search = c.reduce.new.search } in
     let restarted = c.restart_where_due.ensures.joined c.loop-rounds.names c.loop-rounds.invariant.joined in
     let reduced = reduced_sound g.W.CountedWrite.seen b r c.loop-rounds.names c.loop-rounds.rounds refl restarted tt c.in_ok-reduce.ensures in
@@ -47,8 +47,8 @@ pub loop-rounds-preserved : goal.loop-rounds-preserved
 loop-rounds-preserved g c =
     let seen = g.W.CountedWrite.seen in
     let i = c.loop-rounds.invariant in
-    let n : ℕ = values_in c.args.core.now in
-    let b = c.restart_where_due.new.core in
+    let n : ℕ = values_in c.args.context.now in
+    let b = c.restart_where_due.new.context in
     let r : Context g.row.W.Denot g.row.P.Denot g.P.ProofProcessor = record b { proof = c.reduce.new.proof; search = c.reduce.new.search } in
     let d : Context g.row.W.Denot g.row.P.Denot g.P.ProofProcessor = record b { proof = c.conflict_step.new.proof; search = c.conflict_step.new.search } in
     let learned = c.if-not-is_learned.ensures.0 refl in
@@ -72,10 +72,10 @@ loop-rounds-preserved g c =
           (reduced_words seen b r c.loop-rounds.names c.loop-rounds.rounds refl restarted tt c.in_ok-reduce.ensures)
           (c.restart_where_due.ensures.come n c.args.rounds.now (i.come few)));
       goes =
-          one_more (λ k. ComesByRounds seen c.args.core.now c.args.names.now k d names) c.loop-rounds.rounds c.args.rounds.now i.before
-          (round_goes seen r d c.loop-rounds.names names refl sound out rounded learned c.args.core.now c.args.names.now (c.loop-rounds.rounds - c.args.rounds.now)
-          (reduced_goes seen b r c.loop-rounds.names c.loop-rounds.rounds refl restarted tt c.in_ok-reduce.ensures c.args.core.now c.args.names.now (c.loop-rounds.rounds - c.args.rounds.now)
-          (c.restart_where_due.ensures.goes c.args.core.now c.args.names.now c.loop-rounds.names (c.loop-rounds.rounds - c.args.rounds.now) i.goes)));
+          one_more (λ k. ComesByRounds seen c.args.context.now c.args.names.now k d names) c.loop-rounds.rounds c.args.rounds.now i.before
+          (round_goes seen r d c.loop-rounds.names names refl sound out rounded learned c.args.context.now c.args.names.now (c.loop-rounds.rounds - c.args.rounds.now)
+          (reduced_goes seen b r c.loop-rounds.names c.loop-rounds.rounds refl restarted tt c.in_ok-reduce.ensures c.args.context.now c.args.names.now (c.loop-rounds.rounds - c.args.rounds.now)
+          (c.restart_where_due.ensures.goes c.args.context.now c.args.names.now c.loop-rounds.names (c.loop-rounds.rounds - c.args.rounds.now) i.goes)));
       rounds = one_more_round i.rounds (record {
         after_restart = b;
         due = c.restart_where_due.ensures.due;
@@ -89,7 +89,7 @@ pub returns-then-not-is_learned-clause-counts : goal.returns-then-not-is_learned
 returns-then-not-is_learned-clause-counts g c = record {
   more = omega (arith, c.loop-rounds.invariant.before);
   within = omega (arith, c.loop-rounds-test.true, c.saturating_add-end.ensures);
-  few = few_rounds words_in c.loop-rounds.core (values_in c.args.core.now) c.args.rounds.now c.loop-rounds.rounds c.loop-rounds.restarts.next c.loop-rounds.restarts.sequence
+  few = few_rounds words_in c.loop-rounds.context (values_in c.args.context.now) c.args.rounds.now c.loop-rounds.rounds c.loop-rounds.restarts.next c.loop-rounds.restarts.sequence
       (omega (arith, c.loop-rounds-test.true, c.saturating_add-end.ensures)) c.loop-rounds.invariant.come;
 }
 
@@ -98,21 +98,21 @@ returns-then-not-is_learned-clause-ends g c =
     let seen = g.W.CountedWrite.seen in
     let i = c.loop-rounds.invariant in
     let k : ℕ = c.loop-rounds.rounds - c.args.rounds.now in
-    let b = c.restart_where_due.new.core in
+    let b = c.restart_where_due.new.context in
     let r : Context g.row.W.Denot g.row.P.Denot g.P.ProofProcessor = record b { proof = c.reduce.new.proof; search = c.reduce.new.search } in
     let d : Context g.row.W.Denot g.row.P.Denot g.P.ProofProcessor = record b { proof = c.conflict_step.new.proof; search = c.conflict_step.new.search } in
     let restarted = c.restart_where_due.ensures.joined c.loop-rounds.names i.joined in
     let sound = reduced_sound seen b r c.loop-rounds.names c.loop-rounds.rounds refl restarted tt c.in_ok-reduce.ensures in
-    one_less (λ k. Ended seen c.args.core.now c.args.names.now k c.in_ok-outcome.outcome d c.conflict_step.new.names) c.loop-rounds.rounds c.args.rounds.now i.before
-    (round_ends seen r d c.loop-rounds.names c.conflict_step.new.names refl sound c.in_ok-outcome.outcome c.in_ok-outcome.ensures (λ e. true≢false (sym (c.if-not-is_learned.ensures.1 e))) c.args.core.now c.args.names.now k
-    (reduced_goes seen b r c.loop-rounds.names c.loop-rounds.rounds refl restarted tt c.in_ok-reduce.ensures c.args.core.now c.args.names.now k
-    (c.restart_where_due.ensures.goes c.args.core.now c.args.names.now c.loop-rounds.names k i.goes)))
+    one_less (λ k. Ended seen c.args.context.now c.args.names.now k c.in_ok-outcome.outcome d c.conflict_step.new.names) c.loop-rounds.rounds c.args.rounds.now i.before
+    (round_ends seen r d c.loop-rounds.names c.conflict_step.new.names refl sound c.in_ok-outcome.outcome c.in_ok-outcome.ensures (λ e. true≢false (sym (c.if-not-is_learned.ensures.1 e))) c.args.context.now c.args.names.now k
+    (reduced_goes seen b r c.loop-rounds.names c.loop-rounds.rounds refl restarted tt c.in_ok-reduce.ensures c.args.context.now c.args.names.now k
+    (c.restart_where_due.ensures.goes c.args.context.now c.args.names.now c.loop-rounds.names k i.goes)))
 
 pub returns-then-not-is_learned-clause-rounds : goal.returns-then-not-is_learned-clause-rounds
 returns-then-not-is_learned-clause-rounds g c =
-    let b = c.restart_where_due.new.core in
+    let b = c.restart_where_due.new.context in
     let r : Context g.row.W.Denot g.row.P.Denot g.P.ProofProcessor = record b { proof = c.reduce.new.proof; search = c.reduce.new.search } in (
-      c.loop-rounds.core,
+      c.loop-rounds.context,
       c.loop-rounds.names,
       c.loop-rounds.restarts,
       c.loop-rounds.rounds,
@@ -129,7 +129,7 @@ returns-then-not-is_learned-clause-rounds g c =
 
 pub returns : goal.returns
 returns g c =
-    let few = few_rounds words_in c.loop-rounds.core (values_in c.args.core.now) c.args.rounds.now c.loop-rounds.rounds c.loop-rounds.restarts.next c.loop-rounds.restarts.sequence
+    let few = few_rounds words_in c.loop-rounds.context (values_in c.args.context.now) c.args.rounds.now c.loop-rounds.rounds c.loop-rounds.restarts.next c.loop-rounds.restarts.sequence
     (omega (arith, c.loop-rounds.invariant.within, c.saturating_add-end.ensures)) c.loop-rounds.invariant.come in
     record {
       scale = c.loop-rounds.invariant.same;
@@ -140,7 +140,7 @@ returns g c =
       };
       round = λ k. absurd (k refl);
       interrupted = λ e. omega (arith, c.loop-rounds-test.false, c.saturating_add-end.ensures, c.loop-rounds.invariant.within);
-      answered = λ n le left e. none_left n (values_in c.args.core.now) c.args.rounds.now c.loop-rounds.rounds c.args.max_steps le (omega (arith, few)) c.loop-rounds.invariant.before left
+      answered = λ n le left e. none_left n (values_in c.args.context.now) c.args.rounds.now c.loop-rounds.rounds c.args.max_steps le (omega (arith, few)) c.loop-rounds.invariant.before left
           (omega (arith, c.loop-rounds-test.false, c.saturating_add-end.ensures));
       goes = λ e. record { joined = c.loop-rounds.invariant.joined; gone = c.loop-rounds.invariant.goes };
       ends = tt;
@@ -150,7 +150,7 @@ returns g c =
 
 pub returns-in_err-reduce-clause-counts : goal.returns-in_err-reduce-clause-counts
 returns-in_err-reduce-clause-counts g c =
-    let few = few_rounds words_in c.loop-rounds.core (values_in c.args.core.now) c.args.rounds.now c.loop-rounds.rounds c.loop-rounds.restarts.next c.loop-rounds.restarts.sequence
+    let few = few_rounds words_in c.loop-rounds.context (values_in c.args.context.now) c.args.rounds.now c.loop-rounds.rounds c.loop-rounds.restarts.next c.loop-rounds.restarts.sequence
     (omega (arith, c.loop-rounds-test.true, c.saturating_add-end.ensures)) c.loop-rounds.invariant.come in
     record {
       more = c.loop-rounds.invariant.before;
@@ -163,15 +163,15 @@ returns-in_err-reduce-clause-fails g c =
     let seen = g.W.CountedWrite.seen in
     let i = c.loop-rounds.invariant in
     let k : ℕ = c.loop-rounds.rounds - c.args.rounds.now in
-    let b = c.restart_where_due.new.core in
+    let b = c.restart_where_due.new.context in
     let r : Context g.row.W.Denot g.row.P.Denot g.P.ProofProcessor = record b { proof = c.reduce.new.proof; search = c.reduce.new.search } in
     let p = err_from_is_err_and c.from_residual.result c.from_residual.ensures.1 in
-    rw (p.1, p.2) (reduced_fails seen b r c.loop-rounds.names c.loop-rounds.rounds refl (c.restart_where_due.ensures.joined c.loop-rounds.names i.joined) _ c.in_err-reduce.ensures c.args.core.now c.args.names.now k
-    (c.restart_where_due.ensures.goes c.args.core.now c.args.names.now c.loop-rounds.names k i.goes))
+    rw (p.1, p.2) (reduced_fails seen b r c.loop-rounds.names c.loop-rounds.rounds refl (c.restart_where_due.ensures.joined c.loop-rounds.names i.joined) _ c.in_err-reduce.ensures c.args.context.now c.args.names.now k
+    (c.restart_where_due.ensures.goes c.args.context.now c.args.names.now c.loop-rounds.names k i.goes))
 
 pub returns-in_err-outcome-clause-counts : goal.returns-in_err-outcome-clause-counts
 returns-in_err-outcome-clause-counts g c =
-    let few = few_rounds words_in c.loop-rounds.core (values_in c.args.core.now) c.args.rounds.now c.loop-rounds.rounds c.loop-rounds.restarts.next c.loop-rounds.restarts.sequence
+    let few = few_rounds words_in c.loop-rounds.context (values_in c.args.context.now) c.args.rounds.now c.loop-rounds.rounds c.loop-rounds.restarts.next c.loop-rounds.restarts.sequence
     (omega (arith, c.loop-rounds-test.true, c.saturating_add-end.ensures)) c.loop-rounds.invariant.come in
     record {
       more = c.loop-rounds.invariant.before;
@@ -184,12 +184,12 @@ returns-in_err-outcome-clause-fails g c =
     let seen = g.W.CountedWrite.seen in
     let i = c.loop-rounds.invariant in
     let k : ℕ = c.loop-rounds.rounds - c.args.rounds.now in
-    let b = c.restart_where_due.new.core in
+    let b = c.restart_where_due.new.context in
     let r : Context g.row.W.Denot g.row.P.Denot g.P.ProofProcessor = record b { proof = c.reduce.new.proof; search = c.reduce.new.search } in
     let d : Context g.row.W.Denot g.row.P.Denot g.P.ProofProcessor = record b { proof = c.conflict_step.new.proof; search = c.conflict_step.new.search } in
     let restarted = c.restart_where_due.ensures.joined c.loop-rounds.names i.joined in
     let sound = reduced_sound seen b r c.loop-rounds.names c.loop-rounds.rounds refl restarted tt c.in_ok-reduce.ensures in
     let p = err_from_is_err_and c.from_residual-in_err-outcome.result c.from_residual-in_err-outcome.ensures.1 in
-    rw (p.1, p.2) (round_fails seen r d c.loop-rounds.names c.conflict_step.new.names refl sound _ c.in_err-outcome.ensures c.args.core.now c.args.names.now k
-    (reduced_goes seen b r c.loop-rounds.names c.loop-rounds.rounds refl restarted tt c.in_ok-reduce.ensures c.args.core.now c.args.names.now k
-    (c.restart_where_due.ensures.goes c.args.core.now c.args.names.now c.loop-rounds.names k i.goes)))
+    rw (p.1, p.2) (round_fails seen r d c.loop-rounds.names c.conflict_step.new.names refl sound _ c.in_err-outcome.ensures c.args.context.now c.args.names.now k
+    (reduced_goes seen b r c.loop-rounds.names c.loop-rounds.rounds refl restarted tt c.in_ok-reduce.ensures c.args.context.now c.args.names.now k
+    (c.restart_where_due.ensures.goes c.args.context.now c.args.names.now c.loop-rounds.names k i.goes)))

@@ -7,15 +7,15 @@ use Rattle.sat_solver.proofs.schedule.search.Given as goal
 
 abbrev pub invariant-loop-rounds : goal.invariant-loop-rounds
 invariant-loop-rounds g l = record {
-  joined : NamesSearchInvariant l.names l.core;
+  joined : NamesSearchInvariant l.names l.context;
   scale : 0 < l.restarts.scale;
   same : l.restarts.scale ≡ l.fn.restarts.scale;
-  most : values_in l.core ≡ values_in l.fn.core;
+  most : values_in l.context ≡ values_in l.fn.context;
   before : l.fn.rounds ≤ l.rounds;
   within : l.rounds ≤ l.end;
-  come : values_in l.fn.core < 63 → AskReachesRound words_in l.core (values_in l.fn.core) l.fn.rounds l.rounds l.restarts.next l.restarts.sequence;
-  goes : ComesByRounds g.W.CountedWrite.seen l.fn.core l.fn.names (l.rounds - l.fn.rounds) l.core l.names;
-  rounds : AreRounds Restarted (ReducedAt g.W.CountedWrite.seen) (RoundOf g.W.CountedWrite.seen) l.fn.core l.fn.names l.fn.restarts l.fn.rounds l.core l.names l.restarts l.rounds;
+  come : values_in l.fn.context < 63 → AskReachesRound words_in l.context (values_in l.fn.context) l.fn.rounds l.rounds l.restarts.next l.restarts.sequence;
+  goes : ComesByRounds g.W.CountedWrite.seen l.fn.context l.fn.names (l.rounds - l.fn.rounds) l.context l.names;
+  rounds : AreRounds Restarted (ReducedAt g.W.CountedWrite.seen) (RoundOf g.W.CountedWrite.seen) l.fn.context l.fn.names l.fn.restarts l.fn.rounds l.context l.names l.restarts l.rounds;
 }
 
 abbrev pub decreases-loop-rounds : goal.decreases-loop-rounds

@@ -15,6 +15,7 @@ pub lits_count : (w : List ℕ) (o : ℕ) → IsClause w o → length (lits_at w
 unfolding lits_at
 lits_count w o c = length-take-le (get_or w (o + 2) 0) (drop (o + 3) w) (omega (arith, length-drop (o + 3) w, c.whole))
 
+-- literal k of a clause is the word after its header and k literals
 pub lit_there : (w : List ℕ) (o k : ℕ) → k < get_or w (o + 2) 0 → get_or (lits_at w o) k 0 ≡ get_or w (o + 3 + k) 0
 unfolding lits_at
 lit_there w o k small = get_or-take (get_or w (o + 2) 0) (drop (o + 3) w) k 0 small ∙ get_or-drop (o + 3) w k 0
@@ -32,6 +33,7 @@ same_lits v w o p c d n e =
     ext_get_or 0 (lits_at w p) (lits_at v o) (lw ∙ n ∙ sym lv)
     (λ k h. lit_there w p k (omega arith) ∙ e k (omega arith) ∙ sym (lit_there v o k (omega arith)))
 
+-- a clause whose words are unchanged is unchanged
 pub kept : (v w : List ℕ) (p : ℕ) → IsClause v p → length v ≤ length w → ((i : ℕ) → p ≤ i → i < p + 3 + get_or v (p + 2) 0 → get_or w i 0 ≡ get_or v i 0) → SameClauseAt v w p
 unfolding header_at
 kept v w p c longer same =
@@ -57,6 +59,7 @@ still_apart : (v w : List ℕ) (p q : ℕ) → HaveNoCommonWord v p q → get_or
 unfolding HaveNoCommonWord
 still_apart v w p q apart a b = elim apart [ inl before ↦ inl (omega arith) | inr following ↦ inr (omega arith) ]
 
+-- writing only words of the clause at o changes no clause that shares no word with it
 pub others_kept : (v w : List ℕ) (o : ℕ) → length w ≡ length v → ((i : ℕ) → i < o → get_or w i 0 ≡ get_or v i 0) → ((i : ℕ) → o + 3 + get_or v (o + 2) 0 ≤ i → get_or w i 0 ≡ get_or v i 0) → (p : ℕ) → IsClause v p → HaveNoCommonWord v o p → SameClauseAt v w p
 unfolding HaveNoCommonWord
 others_kept v w o size below above p c apart = elim apart [
@@ -160,6 +163,7 @@ header_swapped w o i j x y = header_set_lit (set w (o + 3 + i) x) o j y ∙ head
 
 -- the words that a call reads, if its buffer and offset equal those of the clause
 
+-- literals of a clause are at valid positions of the buffer
 pub within_words : (v w : List ℕ) (p o k : ℕ) → v ≡ w → p ≡ o → IsClause w o → k < length (lits_at w o) → (k < get_or v (p + 2) 0) × (p + 3 + k < length v)
 within_words v w p o k e f c small =
     let n : length (lits_at w o) ≡ get_or w (o + 2) 0 = lits_count w o c in
@@ -419,11 +423,13 @@ pushed_clause v w x c a f l ls h e place is len small fit active head =
     let here : AppendsClause w (w ++ (h.activity ∷ f ∷ length ls ∷ ls)) (length w) h ls = added_clause w (w ++ (h.activity ∷ f ∷ length ls ∷ ls)) h.activity f ls h (wrote_clause w h.activity f ls) small fit head in
     rw (whole, place, e) here
 
+-- appending the next item of a list that is copied
 pub one_more : (v items ls : List ℕ) (i x y : ℕ) → i < length ls → x ≡ get_or ls i x → y ≡ x → items ≡ v ++ take i ls → items ++ y ∷ [] ≡ v ++ take (i + 1) ls
 one_more v items ls i x y within read is front =
     let value : x ≡ get_or ls i 0 = get_or_read ls i x within read 0 in
     rw (front, is, value, take_more ls i 0 within) (append_assoc v (take i ls) (get_or ls i 0 ∷ []))
 
+-- a property of all items copied so far holds with the next one
 pub one_more_fits : (ls : List ℕ) (i x : ℕ) (P : ℕ → Type 0) → i < length ls → x ≡ get_or ls i x → P x → All P (take i ls) → All P (take (i + 1) ls)
 one_more_fits ls i x P within read fits front = All-more P ls i 0 within front (subst P (get_or_read ls i x within read 0) fits)
 
@@ -458,6 +464,7 @@ part_lent w o m c is =
       lits = same_lits w part o 0 c clause e2 ls;
     }
 
+-- the slice of the words of a clause
 pub lent : (v w : List ℕ) (p o n end : ℕ) → v ≡ w → p ≡ o → IsClause w o → n ≡ get_or v (p + 2) n → end ≡ p + 3 + n → Lent (take (end - p) (drop p v)) w o
 lent v w p o n end e f c read is =
     let there : n ≡ get_or w (o + 2) 0 = (len_read v w p o n e f c read).0 ∙ lits_count w o c in
@@ -466,10 +473,12 @@ lent v w p o n end e f c read is =
 
 -- reading the words of a clause that was copied out
 
+-- the header of a clause at offset 0
 pub alone_header : (w : List ℕ) → header_of (get_or w 0 0) (get_or w 1 0) (get_or w 2 0) ≡ header_at w 0
 unfolding header_at
 alone_header w = refl
 
+-- the literals of a clause at offset 0
 pub alone_lits : (w : List ℕ) → IsClause w 0 → (3 + get_or w 2 0 ≤ length w) × (take (3 + get_or w 2 0 - 3) (drop 3 w) ≡ lits_at w 0)
 unfolding lits_at
 alone_lits w c =
@@ -511,7 +520,7 @@ copied_clause v w x u c o m e place is clause size fit =
     let whole : x ≡ w ++ take m (drop o u) = is ∙ ap (λ (ws : List ℕ). ws ++ take m (drop o u)) e in
     rw (whole, place, e) here
 
--- the same, if the call's buffers and offset equal those of the clause
+-- a copied clause was appended, if the call's buffers and offset equal those of the clause
 pub copied_by : (v w x u t : List ℕ) (c o p n : ℕ) → v ≡ w → t ≡ u → p ≡ o → c ≡ length v → n ≡ get_or t (p + 2) n → x ≡ v ++ take (p + 3 + n - p) (drop p t) → IsClause u o → All (λ l. l < 2 * var_limit) (lits_at u o) → AppendsClause w x c (header_at u o) (lits_at u o)
 copied_by v w x u t c o p n e same f place read is clause fit =
     let there : n ≡ get_or u (o + 2) 0 = (len_read t u p o n same f clause read).0 ∙ lits_count u o clause in

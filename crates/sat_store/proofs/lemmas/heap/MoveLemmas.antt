@@ -38,7 +38,7 @@ other_twice i j k = elim (cases_eq k i) [
   ]
 ]
 
--- that the entries at i and j, and the positions of their variables, were swapped
+-- `Swapped h p h' p' i j` holds if the entries at `i` and `j`, and the positions of their variables, were swapped.
 pub record Swapped (h : List Entry) (p : List ℕ) (h' : List Entry) (p' : List ℕ) (i j : ℕ) : Type 0 where
   pub count : length h' ≡ length h
   pub counts : length p' ≡ length p
@@ -87,6 +87,7 @@ swapped_keys h h' p p' i j placed s =
     ∙ ap (key_at h) (other_twice i j (get_or p v 0))
     ∙ sym (key_of h p v within))
 
+-- entries that are swapped with their positions satisfy `Exchanged`
 pub exchanged : (h h' : List Entry) (p p' : List ℕ) (i j : ℕ) → Placed h p → i < length h → j < length h → Swapped h p h' p' i j → Exchanged h p h' p' i j
 exchanged h h' p p' i j placed within_i within_j s =
     let rank_of : (k : ℕ) → rank_at h' k ≡ rank_at h (other i j k) = λ k. ap rank (s.entry k) in
@@ -201,6 +202,7 @@ exchanged_by_moving h p e b i j placed within_i within_j differ is =
 
 -- reordered heaps
 
+-- an unchanged heap satisfies `Rearranged`
 pub as_it_is : (m : ℕ) (h : List Entry) (p : List ℕ) → Placed h p → Rearranged m h p h p
 as_it_is m h p placed = record { placed = placed; count = refl; flags = refl; keys = refl }
 
@@ -214,9 +216,11 @@ one_more_exchanged m i j h h' h'' p p' p'' small_i small_j ex before = record {
 
 -- an entry that is written back where it was read
 
+-- writing an entry to its own position changes nothing
 pub full_again : (h : List Entry) (at : ℕ) (e : Entry) → e ≡ get_or h at no_entry → set h at e ≡ h
 full_again h at e is = ap (set h at) is ∙ set-get_or h at no_entry
 
+-- putting an entry back to its own position moves nothing
 pub not_moved : (m at : ℕ) (h : List Entry) (p : List ℕ) (e : Entry) → at < length h → e ≡ get_or h at no_entry → Placed h p → Rearranged m h p (set h at e) (set p e.var at)
 not_moved m at h p e within is placed =
     let var : e.var ≡ var_at h at = ap (λ (x : Entry). x.var) is in

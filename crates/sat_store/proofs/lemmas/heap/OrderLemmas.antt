@@ -5,6 +5,7 @@ use Rattle.sat_store.specs.heap.Heap.{parent, Ordered, UpFrom, DownFrom, Exchang
 
 -- one step up
 
+-- one iteration of sifting up: an entry that ranks above its parent was swapped with it
 pub up_step : (r s : ℕ → ℕ) (m hole : ℕ) → 0 < hole → hole < m → Exchanges r s hole (parent hole) → r (parent hole) < r hole → UpFrom r m hole → UpFrom s m (parent hole)
 up_step r s m hole some within ex above up =
     let p : ℕ = parent hole in
@@ -42,6 +43,7 @@ up_step r s m hole some within ex above up =
 
 -- one step down
 
+-- one iteration of sifting down: an entry was swapped with its highest child
 pub down_step : (r s : ℕ → ℕ) (m low hole big : ℕ) → parent big ≡ hole → 0 < big → big < m → Exchanges r s hole big → r hole < r big → ((k : ℕ) → 0 < k → k < m → parent k ≡ hole → r k ≤ r big) → low ≤ hole → DownFrom r m low hole → DownFrom s m low big
 down_step r s m low hole big child some within ex below largest_child from down =
     let s_hole : s hole ≡ r big = ex.first in
@@ -76,6 +78,7 @@ down_step r s m low hole big child some within ex below largest_child from down 
 
 -- the entry at the hole is in order
 
+-- sifting up ends where the entry does not rank above its parent
 pub up_done : (r : ℕ → ℕ) (m hole : ℕ) → (0 < hole → r hole ≤ r (parent hole)) → UpFrom r m hole → Ordered r m 0
 up_done r m hole fits up k pos small low = elim (cases_eq k hole) [
   | inl same ↦ subst (λ (x : ℕ). r x ≤ r (parent x)) (sym same) (fits (omega arith))

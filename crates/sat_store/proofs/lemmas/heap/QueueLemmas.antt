@@ -119,6 +119,7 @@ grown_flags p m n past =
 below_test : (a b : ℕ) → a < b → nat_lt a b ≡ true
 below_test a b e = grind (arith, nat_tests)
 
+-- a bound on all items of a list holds after a smaller one is written
 pub below_limit : (a : List ℕ) (v x u limit : ℕ) → ((w : ℕ) → get_or a w 0 < limit) → x < limit → get_or (set a v x) u 0 < limit
 below_limit a v x u limit small fits = elim (cases_eq u v) [
   | inl same ↦ elim (cases_lt v (length a)) [
@@ -198,7 +199,7 @@ keyed_heap h p m v at x heap within is following fits = record {
   ordered = keyed_after h m at x following heap.ordered;
 }
 
--- the same for an entry that was read before
+-- writing a key into an entry that was read before changes only the key of its position
 pub written_key : (h : List Entry) (at x : ℕ) (e : Entry) → at < length h → e ≡ get_or h at e → set h at (record { key = x; var = e.var }) ≡ keyed h at x
 written_key h at x e within is = ap (λ (r : Entry). set h at (with_key x r)) (get_or_read h at e within is no_entry)
 
@@ -209,6 +210,7 @@ place_read p i v at within same is = sym (get_or_read p i at within is 0 ∙ ap 
 pub key_there : (h : List Entry) (p : List ℕ) (m v at : ℕ) → IsHeap h p m → v < length h → get_or p v 0 ≡ at → key_at h at ≡ get_or (keys h p) v 0
 key_there h p m v at heap within is = sym (key_of h p v (omega (arith, heap.placed.count)) ∙ ap (key_at h) is)
 
+-- a variable that may not be picked is at position m or later
 pub after_those : (p : List ℕ) (m v : ℕ) → v < length p → get_or (flags m p) v false ≡ false → m ≤ get_or p v 0
 after_those p m v within flag = elim (cases_lt (get_or p v 0) m) [
   | inl less ↦ absurd (false≢true (sym flag ∙ flag_at m p v within ∙ below_test (get_or p v 0) m less))
@@ -269,6 +271,7 @@ one_more_added h h' p p' i some count placed adds =
 
 -- after rescaling and reordering
 
+-- rearranged entries in heap order are a heap
 pub heap_again : (h mid h' : List Entry) (p p' : List ℕ) (m : ℕ) → IsHeap h p m → length mid ≡ length h → Rearranged m mid p h' p' → ((v : ℕ) → get_or (keys mid p) v 0 < 2 ^ 60) → Ordered (rank_at h') m 0 → IsHeap h' p' m
 heap_again h mid h' p p' m heap count same small ordered = record {
   placed = same.placed;
@@ -280,6 +283,7 @@ heap_again h mid h' p p' m heap count same small ordered = record {
 
 -- a quotient of 1000 times a number, computed without overflow
 
+-- b * 1000 / d, rounded up, without computing b * 1000
 pub thousandfold : (b d : ℕ) → 0 < d → b / d * 1000 + (b % d * 1000 + d - 1) / d ≡ (b * 1000 + d - 1) / d
 thousandfold b d some =
     let whole : b / d * d + b % d ≡ b = div-add-mod' b d in
@@ -317,6 +321,7 @@ bumped_large q v x n f a is large same raised bump =
 
 -- a variable leaves the first entries; the last of them takes its position, and may have to move up or down
 
+-- the last entry, put at the position of one that was taken, may rank above its parent
 pub taken_up : (r s : ℕ → ℕ) (last i : ℕ) → 0 < i → i < last → Exchanges r s i last → s (parent i) < s i → Ordered r (last + 1) 0 → UpFrom s last i
 taken_up r s last i some within ex above ordered =
     let s_top : s (parent i) ≡ r (parent i) = ex.others (parent i) (omega arith) (omega arith) in
@@ -335,6 +340,7 @@ taken_up r s last i some within ex above ordered =
           omega (arith, ex.others k (omega arith) (omega arith), ordered k pos (omega arith) (omega arith));
     }
 
+-- the last entry, put at the position of one that was taken, may rank below its children
 pub taken_down : (r s : ℕ → ℕ) (last i : ℕ) → i < last → Exchanges r s i last → (0 < i → s i ≤ s (parent i)) → Ordered r (last + 1) 0 → DownFrom s last 0 i
 taken_down r s last i within ex fits ordered = record {
   others = λ k pos small low far. elim (cases_eq k i) [
@@ -348,6 +354,7 @@ taken_down r s last i within ex fits ordered = record {
 
 -- after a swap of two entries and a reordering, which put one variable more or fewer among the first
 
+-- entries that were swapped, and then put in heap order, are a heap
 pub heap_of : (h h' h'' : List Entry) (p p' p'' : List ℕ) (m n i j : ℕ) → IsHeap h p m → Exchanged h p h' p' i j → Rearranged n h' p' h'' p'' → n ≤ length h → Ordered (rank_at h'') n 0 → IsHeap h'' p'' n
 heap_of h h' h'' p p' p'' m n i j heap ex same within ordered = record {
   placed = same.placed;
@@ -374,6 +381,7 @@ rank_says a b small_a small_b order = elim (cases_lt a.key b.key) [
   | inr more ↦ inr (omega arith, omega arith)
 ]
 
+-- the first entry of a heap is the variable to pick
 pub front_first : (h : List Entry) (p : List ℕ) (m b d : ℕ) → IsHeap h p m → 0 < m → IsFirst (record { available = flags m p; activities = keys h p; bump = b; decay = d }) (var_at h 0)
 front_first h p m b d heap some =
     let within : 0 < length h = omega (arith, heap.within) in
@@ -405,6 +413,7 @@ set_again xs v b is = ap (λ (x : Bool). set xs v x) (sym is) ∙ set-get_or xs 
 
 -- the flags after a variable left the first entries or joined them
 
+-- swapping a variable with the last of the first m makes it unavailable
 pub taken_flags : (h : List Entry) (p p' : List ℕ) (m i : ℕ) → Placed h p → i < m → m ≤ length h → Transposes p p' i (m - 1) → flags (m - 1) p' ≡ set (flags m p) (var_at h i) false
 taken_flags h p p' zero i placed within few t = absurd (omega arith)
 taken_flags h p p' (suc n) i placed within few t =
@@ -413,6 +422,7 @@ taken_flags h p p' (suc n) i placed within few t =
     let listed : var_at h i < length p = omega (arith, placed.listed i (omega arith), placed.count) in
     ap (λ (x : ℕ). flags x p') e ∙ flags_taken n i (var_at h i) p p' within listed (placed.position i (omega arith)) (placed_once h p placed) moved
 
+-- swapping a variable with the first after the first m makes it available
 pub given_flags : (h : List Entry) (p p' : List ℕ) (m i : ℕ) → Placed h p → m ≤ i → i < length h → Transposes p p' i m → flags (m + 1) p' ≡ set (flags m p) (var_at h i) true
 given_flags h p p' m i placed following within t =
     let e : m + 1 ≡ suc m = omega arith in

@@ -13,6 +13,7 @@ same_test a b e = grind (arith, nat_tests)
 other_test : (a b : ℕ) → a ≢ b → (a == b) ≡ false
 other_test a b d = grind (arith, nat_tests)
 
+-- adding a level lets pass exactly the levels with its remainder, besides those before
 pub added : (n level other : ℕ) → level_passes (bit_or n (1 * 2 ^ (level % 64) % 2 ^ 64)) other ≡ (if other % 64 == level % 64 then true else level_passes n other)
 unfolding level_passes
 added n level other =
@@ -24,6 +25,7 @@ added n level other =
       | inr differ ↦ rw (other_test (other % 64) (level % 64) differ) (rw (bit_at_set_other w64 n (level % 64) small (other % 64) differ) refl)
     ]
 
+-- testing the bit of a level says whether it passes
 pub tested : (n level : ℕ) → (bit_and (n / 2 ^ (level % 64)) 1 == 1) ≡ level_passes n level
 unfolding level_passes
 tested n level = ap (λ (b : ℕ). b == 1) (shr_and_one n (level % 64))

@@ -77,7 +77,7 @@ luby_rest k t from less =
     ∙ below_rest k t (omega (arith, pow_double k, pow_pos k)) from
     ∙ luby_by_bound k (t - 2 ^ k + 1) (omega (arith, pow_double k, pow_pos k))
 
--- the same for `luby_below` with bound b, where h is 2 ^ (b - 1)
+-- the terms of `luby_below` with bound b, where h is 2 ^ (b - 1)
 
 pub step_last : (b t h : ℕ) → 0 < b → h ≡ 2 ^ (b - 1) → t ≡ h - 1 + h → luby_below b t ≡ h
 step_last zero t h some is last = absurd (omega arith)

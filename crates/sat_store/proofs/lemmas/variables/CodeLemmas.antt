@@ -33,6 +33,6 @@ code_put xs ys from code into valid kept within v = target_decoded (set ys from 
 pub code_cut : (xs : List ℕ) (count v : ℕ) → v < count → target (targets_of (take count xs)) v ≡ target (targets_of xs) v
 code_cut xs count v below = target_decoded (take count xs) v ∙ ap decoded (get_or-take count xs v 0 below) ∙ sym (target_decoded xs v)
 
--- the same, and one of them was removed
+-- the targets below the cut stay, except for one that was removed
 pub code_cut_out : (xs : List ℕ) (new : List (Option ℕ)) (count from : ℕ) → PutsTarget (targets_of (take count xs)) new from None → (v : ℕ) → v < count → target new v ≡ (if v == from then None else target (targets_of xs) v)
 code_cut_out xs new count from puts v below = puts v ∙ ap (λ (o : Option ℕ). if v == from then None else o) (code_cut xs count v below)

@@ -10,4 +10,4 @@ returns-clause-names g c = λ j d s l. c.in_ok-accept.ensures j d (subst (λ (n 
 
 pub returns-in_err-accept-clause-stops : goal.returns-in_err-accept-clause-stops
 returns-in_err-accept-clause-stops g c left =
-    on_err _ _ (carried_stops g.C.CountedWrite.seen c.args.session.now c.carry_out.new.session (represented_by c.args.command) (g.A.CountedWrite.seen c.args.answers.now) (g.A.CountedWrite.seen c.carry_out.new.answers) left c.in_ok-carry_out.ensures.carried)
+    on_err _ _ (carried_stops c.args.session.now c.carry_out.new.session (represented_by c.args.command) (g.A.CountedWrite.seen c.args.answers.now) (g.A.CountedWrite.seen c.carry_out.new.answers) left c.in_ok-carry_out.ensures.carried)

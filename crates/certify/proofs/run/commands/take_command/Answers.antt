@@ -6,19 +6,19 @@ use Rattle.certify.proofs.run.commands.take_command.Goals as goal
 
 pub returns-in-Some-clause-served : goal.returns-in-Some-clause-served
 returns-in-Some-clause-served g c =
-    refused_served g.C.CountedWrite.seen c.args.session.now c.refuse.new.session c.args.command (g.A.CountedWrite.seen c.args.answers.now) (g.A.CountedWrite.seen c.refuse.new.answers) c.requires.goes_on c.refuse.result c.in-Some.refusal c.in-Some.ensures.judges c.refuse.ensures.refused
+    refused_served c.args.session.now c.refuse.new.session c.args.command (g.A.CountedWrite.seen c.args.answers.now) (g.A.CountedWrite.seen c.refuse.new.answers) c.requires.goes_on c.refuse.result c.in-Some.refusal c.in-Some.ensures.judges c.refuse.ensures.refused
 
 pub returns-in-None-clause-served : goal.returns-in-None-clause-served
 returns-in-None-clause-served g c =
-    taken_served g.C.CountedWrite.seen c.args.session.now c.take_allowed.new.session c.args.command (g.A.CountedWrite.seen c.args.answers.now) (g.A.CountedWrite.seen c.take_allowed.new.answers) c.requires.goes_on c.take_allowed.result (c.in-None.ensures.within refl) c.in-None.ensures.judges c.take_allowed.ensures.carried c.take_allowed.ensures.names
+    taken_served c.args.session.now c.take_allowed.new.session c.args.command (g.A.CountedWrite.seen c.args.answers.now) (g.A.CountedWrite.seen c.take_allowed.new.answers) c.requires.goes_on c.take_allowed.result (c.in-None.ensures.within refl) c.in-None.ensures.judges c.take_allowed.ensures.carried c.take_allowed.ensures.names
 
 pub returns-in-Some-clause-stops : goal.returns-in-Some-clause-stops
 returns-in-Some-clause-stops g c =
-    refused_stops g.C.CountedWrite.seen c.args.session.now c.refuse.new.session c.args.command (g.A.CountedWrite.seen c.args.answers.now) (g.A.CountedWrite.seen c.refuse.new.answers) c.requires.goes_on c.refuse.result c.in-Some.refusal c.in-Some.ensures.judges c.refuse.ensures.stops
+    refused_stops c.args.session.now c.refuse.new.session c.args.command (g.A.CountedWrite.seen c.args.answers.now) (g.A.CountedWrite.seen c.refuse.new.answers) c.requires.goes_on c.refuse.result c.in-Some.refusal c.in-Some.ensures.judges c.refuse.ensures.stops
 
 pub returns-in-None-clause-stops : goal.returns-in-None-clause-stops
 returns-in-None-clause-stops g c =
-    taken_stops g.C.CountedWrite.seen c.args.session.now c.take_allowed.new.session c.args.command (g.A.CountedWrite.seen c.args.answers.now) (g.A.CountedWrite.seen c.take_allowed.new.answers) c.requires.goes_on c.take_allowed.result (c.in-None.ensures.within refl) c.in-None.ensures.judges c.take_allowed.ensures.stops
+    taken_stops c.args.session.now c.take_allowed.new.session c.args.command (g.A.CountedWrite.seen c.args.answers.now) (g.A.CountedWrite.seen c.take_allowed.new.answers) c.requires.goes_on c.take_allowed.result (c.in-None.ensures.within refl) c.in-None.ensures.judges c.take_allowed.ensures.stops
 
 pub returns-in-None-clause-cause : goal.returns-in-None-clause-cause
 returns-in-None-clause-cause g c =

@@ -4,4 +4,4 @@ use Rattle.certify.specs.run.Obeying.{Obeyed, command_to}
 use Rattle.certify.proofs.run.names.set_names.Given as goal
 
 abbrev pub invariant-loop-lit : goal.invariant-loop-lit
-invariant-loop-lit g l = Obeyed g.C.CountedWrite.seen (command_to l.state (names_in (take l.lit-index l.literals))) l.fn.solver l.solver
+invariant-loop-lit g l = Obeyed (command_to l.state (names_in (take l.lit-index l.literals))) l.fn.solver l.solver

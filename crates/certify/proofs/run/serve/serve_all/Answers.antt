@@ -14,13 +14,13 @@ loop-next-init g c =
     let a = source_in g.S.CountedRead.seen c.args.script.now c.args.stream.now.ahead in
     record {
       script_open = c.requires.open_yet;
-      through = through_none g.C.CountedWrite.seen initial_state reading plain_reading a c.args.stream.now.reader c.args.session.now (g.A.CountedWrite.seen c.args.answers.now) c.requires.means c.requires.counts c.requires.goes_on c.requires.at;
+      through = through_none initial_state reading plain_reading a c.args.stream.now.reader c.args.session.now (g.A.CountedWrite.seen c.args.answers.now) c.requires.means c.requires.counts c.requires.goes_on c.requires.at;
       stops = λ start h. h;
     }
 
 pub returns-in-Err-clause-serves : goal.returns-in-Err-clause-serves
 returns-in-Err-clause-serves g c =
-    rw c.unread_script.ensures (unread _ _ _ _ _ _ _ c.next.new.self.reader _ _ _ _ c.loop-next.invariant.through c.requires.open_yet c.in-Err.error (source_in g.S.CountedRead.seen c.next.new.script c.next.new.self.ahead) c.in-Err.ensures.arrives)
+    rw c.unread_script.ensures (unread _ _ _ _ _ _ c.next.new.self.reader _ _ _ _ c.loop-next.invariant.through c.requires.open_yet c.in-Err.error (source_in g.S.CountedRead.seen c.next.new.script c.next.new.self.ahead) c.in-Err.ensures.arrives)
 
 pub serve_next-requires-clause-whole : goal.serve_next-requires-clause-whole
 serve_next-requires-clause-whole g c =
@@ -30,7 +30,7 @@ serve_next-requires-clause-whole g c =
 pub returns-in_err-serve_next-in-Command-clause-serves : goal.returns-in_err-serve_next-in-Command-clause-serves
 returns-in_err-serve_next-in-Command-clause-serves g c =
     let p = err_from_is_err_and c.from_residual.result c.from_residual.ensures.1 in
-    rw (p.1, p.2) (stops _ _ _ _ _ _ _ c.next.new.self.reader _ _ _ _ c.loop-next.invariant.through c.requires.open_yet
+    rw (p.1, p.2) (stops _ _ _ _ _ _ c.next.new.self.reader _ _ _ _ c.loop-next.invariant.through c.requires.open_yet
     (source_in g.S.CountedRead.seen c.next.new.script c.next.new.self.ahead) c.serve_next.new.session (g.A.CountedWrite.seen c.serve_next.new.answers) (rw c.in-Command.is at c.in-Ok.ensures.arrives) c.in_err-serve_next-in-Command.field-0.0
     c.in_err-serve_next-in-Command.ensures.written (λ x is. c.in_err-serve_next-in-Command.ensures.stops x (c.command.ensures x is)) (λ x is. c.in_err-serve_next-in-Command.ensures.cause x (c.command.ensures x is)))
 
@@ -41,7 +41,7 @@ loop-next-preserved g c =
     let came = rw c.in-Command.is at c.in-Ok.ensures.arrives in
     record {
       script_open = took_open (source_in g.S.CountedRead.seen l.script l.stream.ahead) d l.invariant.script_open (came.0, came.1);
-      through = one_more _ _ _ _ _ _ _ c.next.new.self.reader _ _ _ _ l.invariant.through c.requires.open_yet d c.serve_next.new.session (g.A.CountedWrite.seen c.serve_next.new.answers) came (λ x is. c.in_ok-serve_next-in-Command.ensures.served x (c.command.ensures x is));
+      through = one_more _ _ _ _ _ _ c.next.new.self.reader _ _ _ _ l.invariant.through c.requires.open_yet d c.serve_next.new.session (g.A.CountedWrite.seen c.serve_next.new.answers) came (λ x is. c.in_ok-serve_next-in-Command.ensures.served x (c.command.ensures x is));
       stops = λ start h. (rw c.in-Command.is at c.in-Ok.ensures.stops) start (l.invariant.stops start h);
     }
 
@@ -58,13 +58,13 @@ serve_last-requires-clause-whole g c =
 
 pub returns-in-Last-clause-serves : goal.returns-in-Last-clause-serves
 returns-in-Last-clause-serves g c =
-    ends_last _ _ _ _ _ _ _ c.next.new.self.reader _ _ _ _ c.loop-next.invariant.through c.requires.open_yet (source_in g.S.CountedRead.seen c.next.new.script c.next.new.self.ahead) c.serve_last.new.session (g.A.CountedWrite.seen c.serve_last.new.answers)
+    ends_last _ _ _ _ _ _ c.next.new.self.reader _ _ _ _ c.loop-next.invariant.through c.requires.open_yet (source_in g.S.CountedRead.seen c.next.new.script c.next.new.self.ahead) c.serve_last.new.session (g.A.CountedWrite.seen c.serve_last.new.answers)
     c.in-Last.end c.serve_last.result (rw c.in-Last.is at c.in-Ok.ensures.arrives) c.serve_last.ensures.ready (λ x is. c.serve_last.ensures.serves x (c.command-in-Last.ensures x is)) c.serve_last.ensures.written
     (λ x is. c.serve_last.ensures.stops x (c.command-in-Last.ensures x is)) (λ x is. c.serve_last.ensures.cause x (c.command-in-Last.ensures x is))
 
 pub returns-in-End-clause-serves : goal.returns-in-End-clause-serves
 returns-in-End-clause-serves g c =
-    ends_so _ _ _ _ _ _ _ c.next.new.self.reader _ _ _ _ c.loop-next.invariant.through c.requires.open_yet (source_in g.S.CountedRead.seen c.next.new.script c.next.new.self.ahead) c.serve_end.new.session (g.A.CountedWrite.seen c.serve_end.new.answers)
+    ends_so _ _ _ _ _ _ c.next.new.self.reader _ _ _ _ c.loop-next.invariant.through c.requires.open_yet (source_in g.S.CountedRead.seen c.next.new.script c.next.new.self.ahead) c.serve_end.new.session (g.A.CountedWrite.seen c.serve_end.new.answers)
     c.in-End.end c.serve_end.result (rw c.in-End.is at c.in-Ok.ensures.arrives) c.serve_end.ensures.ready c.serve_end.ensures.serves c.serve_end.ensures.written c.serve_end.ensures.stops c.serve_end.ensures.cause
 
 pub returns-in-Err-clause-stops : goal.returns-in-Err-clause-stops

@@ -10,7 +10,7 @@ use Rattle.certify.proofs.run.serve.serve_all.Given as goal
 abbrev pub invariant-loop-next : goal.invariant-loop-next
 invariant-loop-next g l = record {
   script_open : IsNotAtEnd (source_in g.S.CountedRead.seen l.script l.stream.ahead);
-  through : ServesThrough g.C.CountedWrite.seen initial_state reading plain_reading (source_in g.S.CountedRead.seen l.fn.script l.fn.stream.ahead) (source_in g.S.CountedRead.seen l.script l.stream.ahead) l.stream.reader
+  through : ServesThrough initial_state reading plain_reading (source_in g.S.CountedRead.seen l.fn.script l.fn.stream.ahead) (source_in g.S.CountedRead.seen l.script l.stream.ahead) l.stream.reader
       l.fn.session l.session (g.A.CountedWrite.seen l.fn.answers) (g.A.CountedWrite.seen l.answers);
   stops : (start : Reader) → ReadsOn start (source_in g.S.CountedRead.seen l.fn.script l.fn.stream.ahead) l.fn.stream.reader → ReadsOn start (source_in g.S.CountedRead.seen l.script l.stream.ahead) l.stream.reader;
 }

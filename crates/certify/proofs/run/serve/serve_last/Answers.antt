@@ -11,12 +11,12 @@ serve_end-requires g c = (c.in_ok-serve_next.ensures.served c.requires.whole.0 c
 pub returns-clause-serves : goal.returns-clause-serves
 returns-clause-serves g c x is j at =
     let A = g.A.CountedWrite.seen in
-    served_last_if g.C.CountedWrite.seen j x (end_reading c.args.end) c.serve_end.result c.args.session.now c.serve_next.new.session c.serve_end.new.session (A c.args.answers.now) (A c.serve_next.new.answers) (A c.serve_end.new.answers) at (c.in_ok-serve_next.ensures.served x is) c.serve_end.ensures.serves
+    served_last_if j x (end_reading c.args.end) c.serve_end.result c.args.session.now c.serve_next.new.session c.serve_end.new.session (A c.args.answers.now) (A c.serve_next.new.answers) (A c.serve_end.new.answers) at (c.in_ok-serve_next.ensures.served x is) c.serve_end.ensures.serves
 
 pub returns-clause-stops : goal.returns-clause-stops
 returns-clause-stops g c x is =
     let A = g.A.CountedWrite.seen in
-    stops_following g.C.CountedWrite.seen c.serve_end.result x (end_reading c.args.end) c.args.session.now c.serve_next.new.session c.serve_end.new.session (A c.args.answers.now) (A c.serve_next.new.answers) (A c.serve_end.new.answers) (c.in_ok-serve_next.ensures.served x is) c.serve_end.ensures.stops
+    stops_following c.serve_end.result x (end_reading c.args.end) c.args.session.now c.serve_next.new.session c.serve_end.new.session (A c.args.answers.now) (A c.serve_next.new.answers) (A c.serve_end.new.answers) (c.in_ok-serve_next.ensures.served x is) c.serve_end.ensures.stops
 
 pub returns-clause-written : goal.returns-clause-written
 returns-clause-written g c = grind (arith, common_steps, both_then)
@@ -24,4 +24,4 @@ returns-clause-written g c = grind (arith, common_steps, both_then)
 pub returns-clause-cause : goal.returns-clause-cause
 returns-clause-cause g c x is =
     let A = g.A.CountedWrite.seen in
-    caused_after g.C.CountedWrite.seen c.serve_end.result x (end_reading c.args.end) c.args.session.now c.serve_next.new.session c.serve_end.new.session (A c.args.answers.now) (A c.serve_next.new.answers) (c.in_ok-serve_next.ensures.served x is) c.serve_end.ensures.cause
+    caused_after c.serve_end.result x (end_reading c.args.end) c.args.session.now c.serve_next.new.session c.serve_end.new.session (A c.args.answers.now) (A c.serve_next.new.answers) (c.in_ok-serve_next.ensures.served x is) c.serve_end.ensures.cause

@@ -1,16 +1,47 @@
-use Rattle.std.proofs.Common.{◌∙◌, ap, is_some}
-use Rattle.sat_solver.specs.proof.ProofView.{is_checked, is_drat}
-use Rattle.sat_solver.specs.solver.View.{proof_in}
-use Rattle.certify.proofs.lemmas.run.NoLines.{none_yet}
+use Rattle.std.proofs.Common.{◌∙◌, [], ap, sym, subst}
+use Rattle.sat_base.specs.script.ScriptState.{initial_state}
+use Rattle.sat_solver.specs.facade.View.{IsInState}
+use Rattle.sat_solver.specs.proof.ProofView.{is_drat}
 use Rattle.certify.proofs.run.session.solver_into.Goals as goal
+use Rattle.certify.specs.run.Quiet.{Solver}
 
 pub returns-clause-ready : goal.returns-clause-ready
 returns-clause-ready g c =
-    let opened = rw c.unwrap-2.ensures at c.write_proof.ensures.opens in
-    let k = rw c.unwrap.ensures at c.config.ensures.configures in
+    let opened = rw c.unwrap-2.ensures at c.write_proof.ensures in
+    let k = rw c.unwrap.ensures at c.config.ensures in
+    let going = ap (λ (s : Solver). s.failed) opened.same ∙ opened.going in
     record {
-      solver = c.write_proof.ensures.solver;
-      going = ap (λ s. s.failed) opened.same ∙ opened.going;
-      no_lines = none_yet g.C.CountedWrite.seen (proof_in c.write_proof.new.self) (ap is_drat opened.target_is);
-      unchecked = ap is_some opened.checker.listening ∙ ap is_checked k.same.proof ∙ ap (λ v. is_some v.listeners) c.new-solver.ensures.view;
+      going = going;
+      no_lines = ap (λ (s : Solver). is_drat s.target) opened.same;
+      unchecked = ap (λ (s : Solver). s.listeners) opened.same ∙ ap (λ (s : Solver). s.listeners) k.same ∙ c.new-solver.ensures.listeners;
+      records = c.steps_record_answers.ensures.records going;
     }
+
+pub returns-clause-agree : goal.returns-clause-agree
+returns-clause-agree g c =
+    let opened = rw c.unwrap-2.ensures at c.write_proof.ensures in
+    let k = rw c.unwrap.ensures at c.config.ensures in
+    subst (λ (s : Solver). IsInState s initial_state []) (sym opened.same) (subst (λ (s : Solver). IsInState s initial_state []) (sym k.same) c.new-solver.ensures.state)
+
+pub returns-clause-steps : goal.returns-clause-steps
+returns-clause-steps g c =
+    let opened = rw c.unwrap-2.ensures at c.write_proof.ensures in
+    let k = rw c.unwrap.ensures at c.config.ensures in
+    ap (λ (s : Solver). s.steps) opened.same ∙ ap (λ (s : Solver). s.steps) k.same ∙ c.new-solver.ensures.steps
+
+pub returns-clause-target : goal.returns-clause-target
+returns-clause-target g c =
+    let opened = rw c.unwrap-2.ensures at c.write_proof.ensures in
+    ap (λ (s : Solver). s.target) opened.same
+
+pub returns-clause-rounds : goal.returns-clause-rounds
+returns-clause-rounds g c =
+    let opened = rw c.unwrap-2.ensures at c.write_proof.ensures in
+    let k = rw c.unwrap.ensures at c.config.ensures in
+    ap (λ (s : Solver). s.clock.rounds) opened.same ∙ ap (λ (s : Solver). s.clock.rounds) k.same ∙ c.new-solver.ensures.rounds
+
+pub returns-clause-free : goal.returns-clause-free
+returns-clause-free g c =
+    let opened = rw c.unwrap-2.ensures at c.write_proof.ensures in
+    let k = rw c.unwrap.ensures at c.config.ensures in
+    ap (λ (s : Solver). s.assumptions) opened.same ∙ ap (λ (s : Solver). s.assumptions) k.same ∙ c.new-solver.ensures.assumptions

@@ -1,7 +1,6 @@
-use Rattle.std.proofs.lemmas.Grind.{common_steps}
-use Rattle.std.proofs.Common.{arith}
 use Rattle.sat_parts.proofs.lemmas.parts.WordSteps.{gone_undone}
 use Rattle.sat_parts.proofs.lemmas.parts.UndoLemmas.{sound_undone, units_undone, based_undone, pending_undone}
+use Rattle.sat_parts.proofs.lemmas.parts.FrameLemmas.{carries_undone}
 use Rattle.sat_parts.proofs.lemmas.parts.KeepLemmas.{keeps_undone}
 use Rattle.sat_parts.proofs.parts.steps.undo.Goals as goal
 
@@ -30,4 +29,13 @@ returns-clause-stay g c =
     (λ am. gone_undone am c.args.level p.assignment p.graph p.trail p.vsids c.requires.0.asks.agrees lt)
 
 pub returns-clause-keeps : goal.returns-clause-keeps
-returns-clause-keeps g c = grind (arith, common_steps, keeps_undone)
+returns-clause-keeps g c =
+    let p = c.args.parts.now in
+    let lt = c.requires.1.1.1.0 in
+    rw (c.backtrack.ensures.values lt, c.backtrack.ensures.trail lt) (keeps_undone c.args.level p.assignment p.graph p.trail c.requires.0.asks.agrees c.requires.0.levelled lt)
+
+pub returns-clause-carries : goal.returns-clause-carries
+returns-clause-carries g c =
+    let p = c.args.parts.now in
+    let lt = c.requires.1.1.1.0 in
+    rw (c.backtrack.ensures.values lt, c.backtrack.ensures.trail lt) (carries_undone c.args.level p.assignment p.graph p.trail c.requires.0.asks.agrees lt)

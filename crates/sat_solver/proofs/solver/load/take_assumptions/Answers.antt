@@ -13,25 +13,25 @@ returns-in_err-assume-clause-takes g c = grind (arith, common_steps, err_from_is
 
 pub new_indices-requires-clause-vacant : goal.new_indices-requires-clause-vacant
 new_indices-requires-clause-vacant g c = rw (c.deref.ensures.value, c.deref-2.ensures.value)
-    (vacant_restarted c.args.core.now.search c.full_restart.new.search _ _ c.full_restart.ensures (asked_vacant g.W.CountedWrite.seen c.args.names.now c.assume.new.variables c.args.core.now c.requires.joined c.args.lits.now c.assume.new.asked c.assume.new.writer c.in_ok-assume.ensures.assumes (c.in_ok-assume.ensures.emits c.args.core.now.proof (none_took g.W.CountedWrite.seen c.args.core.now.proof)) c.in_ok-assume.ensures.keeps))
+    (vacant_restarted c.args.context.now.search c.full_restart.new.search _ _ c.full_restart.ensures (asked_vacant g.W.CountedWrite.seen c.args.names.now c.assume.new.variables c.args.context.now c.requires.joined c.args.lits.now c.assume.new.asked c.assume.new.writer c.in_ok-assume.ensures.assumes (c.in_ok-assume.ensures.emits c.args.context.now.proof (none_took g.W.CountedWrite.seen c.args.context.now.proof)) c.in_ok-assume.ensures.keeps))
 
 pub returns-in_err-new_indices-clause-takes : goal.returns-in_err-new_indices-clause-takes
 returns-in_err-new_indices-clause-takes g c =
     let p = err_from_is_err_and c.from_residual-in_err-new_indices.result c.from_residual-in_err-new_indices.ensures.1 in
-    rw (p.1, p.2) (names_starved g.W.CountedWrite.seen c.args.core.now (record c.args.core.now { proof = c.assume.new.writer; search = c.new_indices.new.search }) (c.in_ok-assume.ensures.emits c.args.core.now.proof (none_took g.W.CountedWrite.seen c.args.core.now.proof)))
+    rw (p.1, p.2) (names_starved g.W.CountedWrite.seen c.args.context.now (record c.args.context.now { proof = c.assume.new.writer; search = c.new_indices.new.search }) (c.in_ok-assume.ensures.emits c.args.context.now.proof (none_took g.W.CountedWrite.seen c.args.context.now.proof)))
 
 pub set_assumptions-requires-clause-there : goal.set_assumptions-requires-clause-there
-set_assumptions-requires-clause-there g c = rw c.deref-3.ensures.value (asked_there g.W.CountedWrite.seen c.args.names.now c.assume.new.variables c.args.core.now c.requires.joined c.args.lits.now c.assume.new.asked c.assume.new.writer c.in_ok-assume.ensures.assumes (c.in_ok-assume.ensures.emits c.args.core.now.proof (none_took g.W.CountedWrite.seen c.args.core.now.proof)) c.in_ok-assume.ensures.keeps c.new_indices.new.search
-    (restarted_indexed _ _ _ _ c.args.core.now.search c.full_restart.new.search c.new_indices.new.search c.deref.ensures.value c.deref-2.ensures.value c.full_restart.ensures c.in_ok-new_indices.ensures))
+set_assumptions-requires-clause-there g c = rw c.deref-3.ensures.value (asked_there g.W.CountedWrite.seen c.args.names.now c.assume.new.variables c.args.context.now c.requires.joined c.args.lits.now c.assume.new.asked c.assume.new.writer c.in_ok-assume.ensures.assumes (c.in_ok-assume.ensures.emits c.args.context.now.proof (none_took g.W.CountedWrite.seen c.args.context.now.proof)) c.in_ok-assume.ensures.keeps c.new_indices.new.search
+    (restarted_indexed _ _ _ _ c.args.context.now.search c.full_restart.new.search c.new_indices.new.search c.deref.ensures.value c.deref-2.ensures.value c.full_restart.ensures c.in_ok-new_indices.ensures))
 
 pub returns-in_err-set_assumptions-clause-takes : goal.returns-in_err-set_assumptions-clause-takes
 returns-in_err-set_assumptions-clause-takes g c =
     let p = err_from_is_err_and c.from_residual-in_err-set_assumptions.result c.from_residual-in_err-set_assumptions.ensures.1 in
-    rw (p.1, p.2) (names_starved g.W.CountedWrite.seen c.args.core.now (record c.args.core.now { proof = c.assume.new.writer; search = c.set_assumptions.new.search }) (c.in_ok-assume.ensures.emits c.args.core.now.proof (none_took g.W.CountedWrite.seen c.args.core.now.proof)))
+    rw (p.1, p.2) (names_starved g.W.CountedWrite.seen c.args.context.now (record c.args.context.now { proof = c.assume.new.writer; search = c.set_assumptions.new.search }) (c.in_ok-assume.ensures.emits c.args.context.now.proof (none_took g.W.CountedWrite.seen c.args.context.now.proof)))
 
 pub returns-clause-takes : goal.returns-clause-takes
-returns-clause-takes g c = asked_taken g.W.CountedWrite.seen c.args.names.now c.assume.new.variables c.args.core.now c.requires.joined c.args.lits.now c.assume.new.asked c.assume.new.writer c.in_ok-assume.ensures.assumes (c.in_ok-assume.ensures.emits c.args.core.now.proof (none_took g.W.CountedWrite.seen c.args.core.now.proof)) c.in_ok-assume.ensures.keeps c.new_indices.new.search
-    (restarted_indexed _ _ _ _ c.args.core.now.search c.full_restart.new.search c.new_indices.new.search c.deref.ensures.value c.deref-2.ensures.value c.full_restart.ensures c.in_ok-new_indices.ensures)
+returns-clause-takes g c = asked_taken g.W.CountedWrite.seen c.args.names.now c.assume.new.variables c.args.context.now c.requires.joined c.args.lits.now c.assume.new.asked c.assume.new.writer c.in_ok-assume.ensures.assumes (c.in_ok-assume.ensures.emits c.args.context.now.proof (none_took g.W.CountedWrite.seen c.args.context.now.proof)) c.in_ok-assume.ensures.keeps c.new_indices.new.search
+    (restarted_indexed _ _ _ _ c.args.context.now.search c.full_restart.new.search c.new_indices.new.search c.deref.ensures.value c.deref-2.ensures.value c.full_restart.ensures c.in_ok-new_indices.ensures)
     c.set_assumptions.new.search (subst (λ (ls : List ℕ). ReplacesAssumed ls c.new_indices.new.search c.set_assumptions.new.search) c.deref-3.ensures.value c.in_ok-set_assumptions.ensures)
 
 pub returns-in_err-new_indices-clause-room : goal.returns-in_err-new_indices-clause-room

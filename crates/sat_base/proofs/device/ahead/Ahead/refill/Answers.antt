@@ -1,13 +1,7 @@
-use Rattle.std.proofs.Common.{arith}
 use Rattle.sat_base.specs.device.Reading.{source, with_borrows}
-use Rattle.sat_base.proofs.lemmas.device.ReadLemmas.{faults_now, faults_spent, none_waits}
+use Rattle.sat_base.proofs.lemmas.device.ReadLemmas.{faults_spent, none_waits}
 use Rattle.sat_base.proofs.device.ahead.Ahead.refill.Goals as goal
 
 pub returns-then-self-ge-MAX_READS-clause-bytes : goal.returns-then-self-ge-MAX_READS-clause-bytes
 returns-then-self-ge-MAX_READS-clause-bytes g c names =
-    let a = c.args.self.now in faults_spent (with_borrows names (source g.R.CountedRead.seen c.args.reader.now a)) (none_waits a.at a.end a.piece c.requires) c.if-self-ge-MAX_READS.true
-
-pub returns-in-Err-clause-bytes : goal.returns-in-Err-clause-bytes
-returns-in-Err-clause-bytes g c names =
-    let a = c.args.self.now in
-    faults_now _ (g.R.CountedRead.seen c.args.reader.now) (g.R.CountedRead.seen c.read_counted.new.self) _ _ c.read_counted.new.buf names a.reads c.in-Err.ensures.once (none_waits a.at a.end a.piece c.requires) (none_waits 0 0 c.read_counted.new.buf (omega arith))
+    let a = c.args.self.now in faults_spent (with_borrows names (source g.R.CountedRead.seen c.args.reader.now a)) (none_waits a.at a.end a.piece c.requires.over) c.if-self-ge-MAX_READS.true

@@ -8,11 +8,12 @@ use Rattle.sat_base.proofs.device.ahead.Ahead.take_literals.Given as goal
 abbrev pub invariant-loop-taken : goal.invariant-loop-taken
 invariant-loop-taken l = record {
   items : Taken IsLiteral l.taken l.fn.lits.items l.lits.items (buffered_from l.fn.self.at l.fn.self) (buffered_from l.at l.fn.self);
-  some : l.taken ≤ l.count;
-  most : l.count ≤ l.most;
-  room : vec_len l.lits + (l.count - l.taken) ≤ vec_capacity l.lits;
+  some : l.taken ≤ l.most;
+  room : vec_len l.lits + (l.fn.self.end - l.at) ≤ vec_capacity l.lits;
+  capacity : vec_capacity l.lits ≡ vec_capacity l.fn.lits;
+  left : l.fn.self.end - l.at ≤ l.fn.self.end - l.fn.self.at;
   same : l.self ≡ l.fn.self;
 }
 
 abbrev pub decreases-loop-taken : goal.decreases-loop-taken
-decreases-loop-taken l = l.count - l.taken
+decreases-loop-taken l = l.most - l.taken

@@ -9,17 +9,17 @@ use Rattle.sat_base.proofs.lemmas.steps.FormatReads.{first_fails, second_gives, 
 use Rattle.sat_base.proofs.lemmas.steps.StepReads.{one_literals, some_list}
 use Rattle.sat_base.proofs.device.input.Input.both_lists.Goals as goal
 
-pub returns-in_err-literals : goal.returns-in_err-literals
-returns-in_err-literals g c =
+pub returns-in_err-literals-clause-reads : goal.returns-in_err-literals-clause-reads
+returns-in_err-literals-clause-reads g c =
     let S = source_of g.R.CountedRead.seen in
     let p = err_from_is_err_and c.from_residual.result c.from_residual.ensures.1 in
-    rw (p.1, p.2) (first_fails AreLiterals (λ _. AreHashes) one_literals (λ _. some_list (IsBelow (2 ^ 64))) c.in_err-literals.field-0.0 (S c.args.self.now) (S c.literals.new.self) c.in_err-literals.ensures)
+    rw (p.1, p.2) (first_fails AreLiterals (λ _. AreHashes) one_literals (λ _. some_list (IsBelow (2 ^ 64))) c.in_err-literals.field-0.0 (S c.args.self.now) (S c.literals.new.self) c.in_err-literals.ensures.reads)
 
-pub returns : goal.returns
-returns g c =
+pub returns-clause-reads : goal.returns-clause-reads
+returns-clause-reads g c =
     let S = source_of g.R.CountedRead.seen in
     let lits = c.literals.new.lits.items in
     let hs = c.hashes.new.hashes.items in
-    let k = c.in_ok-literals.ensures in
+    let k = c.in_ok-literals.ensures.reads in
     subst (λ (z : Result (List ℕ × List ℕ) StepError). ReadsValue (Both AreLiterals AreHashes) z (S c.args.self.now) (S c.hashes.new.self)) (pair_giving lits hs c.hashes.result)
-    (second_gives AreLiterals (λ _. AreHashes) one_literals lits k.0 (S c.args.self.now) (S c.literals.new.self) (S c.hashes.new.self) k.2 k.1 (giving hs c.hashes.result) c.hashes.ensures)
+    (second_gives AreLiterals (λ _. AreHashes) one_literals lits k.0 (S c.args.self.now) (S c.literals.new.self) (S c.hashes.new.self) k.2 k.1 (giving hs c.hashes.result) c.hashes.ensures.reads)

@@ -10,16 +10,16 @@ use Rattle.sat_base.proofs.lemmas.steps.FormatReads.{first_fails, second_gives, 
 use Rattle.sat_base.proofs.lemmas.steps.StepReads.{one_literals, some_deletion}
 use Rattle.sat_base.proofs.device.input.Input.clause_and_deletion.Goals as goal
 
-pub returns-in_err-literals : goal.returns-in_err-literals
-returns-in_err-literals g c =
+pub returns-in_err-literals-clause-reads : goal.returns-in_err-literals-clause-reads
+returns-in_err-literals-clause-reads g c =
     let S = source_of g.R.CountedRead.seen in
     let p = err_from_is_err_and c.from_residual.result c.from_residual.ensures.1 in
-    rw (p.1, p.2) (first_fails AreLiterals (λ _. IsDeletion) one_literals (λ _. some_deletion) c.in_err-literals.field-0.0 (S c.args.self.now) (S c.literals.new.self) c.in_err-literals.ensures)
+    rw (p.1, p.2) (first_fails AreLiterals (λ _. IsDeletion) one_literals (λ _. some_deletion) c.in_err-literals.field-0.0 (S c.args.self.now) (S c.literals.new.self) c.in_err-literals.ensures.reads)
 
-pub returns : goal.returns
-returns g c =
+pub returns-clause-reads : goal.returns-clause-reads
+returns-clause-reads g c =
     let S = source_of g.R.CountedRead.seen in
     let lits = c.literals.new.lits.items in
-    let k = c.in_ok-literals.ensures in
+    let k = c.in_ok-literals.ensures.reads in
     subst (λ (z : Result (List ℕ × Deletion) StepError). ReadsValue (Both AreLiterals IsDeletion) z (S c.args.self.now) (S c.deletion.new.self)) (pair_valued lits deletion_of c.deletion.result)
-    (second_gives AreLiterals (λ _. IsDeletion) one_literals lits k.0 (S c.args.self.now) (S c.literals.new.self) (S c.deletion.new.self) k.2 k.1 (valued deletion_of c.deletion.result) c.deletion.ensures)
+    (second_gives AreLiterals (λ _. IsDeletion) one_literals lits k.0 (S c.args.self.now) (S c.literals.new.self) (S c.deletion.new.self) k.2 k.1 (valued deletion_of c.deletion.result) c.deletion.ensures.reads)

@@ -9,19 +9,19 @@ use Rattle.sat_base.proofs.lemmas.steps.FormatReads.{first_fails, second_gives}
 use Rattle.sat_base.proofs.lemmas.steps.StepReads.{one_flag, some_lists}
 use Rattle.sat_base.proofs.device.input.Input.flag_and_lists.Goals as goal
 
-pub returns-in_err-flag : goal.returns-in_err-flag
-returns-in_err-flag g c = grind (arith, common_steps, err_from_is_err_and, first_fails, one_flag, some_lists)
+pub returns-in_err-flag-clause-reads : goal.returns-in_err-flag-clause-reads
+returns-in_err-flag-clause-reads g c = grind (arith, common_steps, err_from_is_err_and, first_fails, one_flag, some_lists)
 
-pub returns-in_err-both_lists : goal.returns-in_err-both_lists
-returns-in_err-both_lists g c =
+pub returns-in_err-both_lists-clause-reads : goal.returns-in_err-both_lists-clause-reads
+returns-in_err-both_lists-clause-reads g c =
     let S = source_of g.R.CountedRead.seen in
     let p = err_from_is_err_and c.from_residual-in_err-both_lists.result c.from_residual-in_err-both_lists.ensures.1 in
-    let k = c.in_ok-flag.ensures in
-    rw (p.1, p.2) (second_gives IsFlag (λ _. Both AreLiterals AreHashes) one_flag c.in_ok-flag.flag k.0 (S c.args.self.now) (S c.flag.new.self) (S c.both_lists.new.self) k.2 k.1 (Err c.in_err-both_lists.field-0.0) c.in_err-both_lists.ensures)
+    let k = c.in_ok-flag.ensures.reads in
+    rw (p.1, p.2) (second_gives IsFlag (λ _. Both AreLiterals AreHashes) one_flag c.in_ok-flag.flag k.0 (S c.args.self.now) (S c.flag.new.self) (S c.both_lists.new.self) k.2 k.1 (Err c.in_err-both_lists.field-0.0) c.in_err-both_lists.ensures.reads)
 
-pub returns : goal.returns
-returns g c =
+pub returns-clause-reads : goal.returns-clause-reads
+returns-clause-reads g c =
     let S = source_of g.R.CountedRead.seen in
-    let k = c.in_ok-flag.ensures in
+    let k = c.in_ok-flag.ensures.reads in
     let lists = c.both_lists.new.lists in
-    second_gives IsFlag (λ _. Both AreLiterals AreHashes) one_flag c.in_ok-flag.flag k.0 (S c.args.self.now) (S c.flag.new.self) (S c.both_lists.new.self) k.2 k.1 (Ok (lists.literals.items, lists.hashes.items)) c.in_ok-both_lists.ensures
+    second_gives IsFlag (λ _. Both AreLiterals AreHashes) one_flag c.in_ok-flag.flag k.0 (S c.args.self.now) (S c.flag.new.self) (S c.both_lists.new.self) k.2 k.1 (Ok (lists.literals.items, lists.hashes.items)) c.in_ok-both_lists.ensures.reads

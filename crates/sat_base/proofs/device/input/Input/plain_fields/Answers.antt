@@ -32,51 +32,51 @@ variable_stops tag false true t f other g r d e old new p q h =
 variable_stops tag false false t f other g r d e old new p q h =
     names_stop tag _ refl (other t f) g r d e old new p q (first_fails IsVariable (λ _. IsOptionalVariable) (one_below var_limit) (λ _. some_optional) e old new h)
 
-pub returns-in_err-var : goal.returns-in_err-var
-returns-in_err-var g c = grind (arith, common_steps, err_from_is_err_and, variable_stops)
+pub returns-in_err-var-clause-reads : goal.returns-in_err-var-clause-reads
+returns-in_err-var-clause-reads g c = grind (arith, common_steps, err_from_is_err_and, variable_stops)
 
-pub returns-in_err-sample : goal.returns-in_err-sample
-returns-in_err-sample g c =
+pub returns-in_err-sample-clause-reads : goal.returns-in_err-sample-clause-reads
+returns-in_err-sample-clause-reads g c =
     let S = source_of g.R.CountedRead.seen in
-    let k = c.in_ok-var.ensures in
+    let k = c.in_ok-var.ensures.reads in
     let e = c.in_err-sample.field-0.0 in
     let p = err_from_is_err_and c.from_residual-in_err-sample.result c.from_residual-in_err-sample.ensures.1 in
-    let h = second_gives IsVariable (λ _. IsFlag) (one_below var_limit) c.in_ok-var.var k.0 (S c.args.self.now) (S c.variable.new.self) (S c.flag.new.self) k.2 k.1 (Err e) c.in_err-sample.ensures in
+    let h = second_gives IsVariable (λ _. IsFlag) (one_below var_limit) c.in_ok-var.var k.0 (S c.args.self.now) (S c.variable.new.self) (S c.flag.new.self) k.2 k.1 (Err e) c.in_err-sample.ensures.reads in
     λ literals hashes units. stops_following 4 c.args.tag _ _ mode_form _ c.from_residual-in_err-sample.result _ e (S c.args.self.now) (S c.flag.new.self) p.1 p.2 c.if-tag-eq4.true h
 
-pub returns-in_err-named : goal.returns-in_err-named
-returns-in_err-named g c =
+pub returns-in_err-named-clause-reads : goal.returns-in_err-named-clause-reads
+returns-in_err-named-clause-reads g c =
     let S = source_of g.R.CountedRead.seen in
-    let k = c.in_ok-var.ensures in
+    let k = c.in_ok-var.ensures.reads in
     let e = c.in_err-named.field-0.0 in
     let p = err_from_is_err_and c.from_residual-in_err-named.result c.from_residual-in_err-named.ensures.1 in
     let other : nat_eq c.args.tag 1 ≡ false → 2 ≡ c.args.tag = λ o. grind rules in
-    let h = second_gives IsVariable (λ _. IsOptionalVariable) (one_below var_limit) c.in_ok-var.var k.0 (S c.args.self.now) (S c.variable.new.self) (S c.optional.new.self) k.2 k.1 (Err e) c.in_err-named.ensures in
+    let h = second_gives IsVariable (λ _. IsOptionalVariable) (one_below var_limit) c.in_ok-var.var k.0 (S c.args.self.now) (S c.variable.new.self) (S c.optional.new.self) k.2 k.1 (Err e) c.in_err-named.ensures.reads in
     λ literals hashes units. names_stop c.args.tag _ refl other _ c.from_residual-in_err-named.result _ e (S c.args.self.now) (S c.optional.new.self) p.1 p.2 h
 
-pub returns-in_err-bits : goal.returns-in_err-bits
-returns-in_err-bits g c = grind (arith, common_steps, err_from_is_err_and, stops_following, width_form)
+pub returns-in_err-bits-clause-reads : goal.returns-in_err-bits-clause-reads
+returns-in_err-bits-clause-reads g c = grind (arith, common_steps, err_from_is_err_and, stops_following, width_form)
 
 -- WHERE ALL WAS READ
 
-pub returns-in_ok-sample : goal.returns-in_ok-sample
-returns-in_ok-sample g c =
+pub returns-in_ok-sample-clause-reads : goal.returns-in_ok-sample-clause-reads
+returns-in_ok-sample-clause-reads g c =
     let S = source_of g.R.CountedRead.seen in
-    let k = c.in_ok-var.ensures in
-    let e = second_gives IsVariable (λ _. IsFlag) (one_below var_limit) c.in_ok-var.var k.0 (S c.args.self.now) (S c.variable.new.self) (S c.flag.new.self) k.2 k.1 (Ok c.in_ok-sample.sample) c.in_ok-sample.ensures in
+    let k = c.in_ok-var.ensures.reads in
+    let e = second_gives IsVariable (λ _. IsFlag) (one_below var_limit) c.in_ok-var.var k.0 (S c.args.self.now) (S c.variable.new.self) (S c.flag.new.self) k.2 k.1 (Ok c.in_ok-sample.sample) c.in_ok-sample.ensures.reads in
     λ literals hashes units. (e.0, e.1, (sym c.if-tag-eq4.true, e.2))
 
-pub returns-then-tag-eq1 : goal.returns-then-tag-eq1
-returns-then-tag-eq1 g c =
+pub returns-then-tag-eq1-clause-reads : goal.returns-then-tag-eq1-clause-reads
+returns-then-tag-eq1-clause-reads g c =
     let S = source_of g.R.CountedRead.seen in
-    let k = c.in_ok-var.ensures in
-    let e = second_gives IsVariable (λ _. IsOptionalVariable) (one_below var_limit) c.in_ok-var.var k.0 (S c.args.self.now) (S c.variable.new.self) (S c.optional.new.self) k.2 k.1 (Ok c.in_ok-named.named) c.in_ok-named.ensures in
+    let k = c.in_ok-var.ensures.reads in
+    let e = second_gives IsVariable (λ _. IsOptionalVariable) (one_below var_limit) c.in_ok-var.var k.0 (S c.args.self.now) (S c.variable.new.self) (S c.optional.new.self) k.2 k.1 (Ok c.in_ok-named.named) c.in_ok-named.ensures.reads in
     λ literals hashes units. (e.0, e.1, (sym c.if-tag-eq1.true, e.2))
 
-pub returns-else-tag-eq1 : goal.returns-else-tag-eq1
-returns-else-tag-eq1 g c =
+pub returns-else-tag-eq1-clause-reads : goal.returns-else-tag-eq1-clause-reads
+returns-else-tag-eq1-clause-reads g c =
     let S = source_of g.R.CountedRead.seen in
-    let k = c.in_ok-var.ensures in
+    let k = c.in_ok-var.ensures.reads in
     let i : 2 ≡ c.args.tag = grind rules in
-    let e = second_gives IsVariable (λ _. IsOptionalVariable) (one_below var_limit) c.in_ok-var.var k.0 (S c.args.self.now) (S c.variable.new.self) (S c.optional.new.self) k.2 k.1 (Ok c.in_ok-named.named) c.in_ok-named.ensures in
+    let e = second_gives IsVariable (λ _. IsOptionalVariable) (one_below var_limit) c.in_ok-var.var k.0 (S c.args.self.now) (S c.variable.new.self) (S c.optional.new.self) k.2 k.1 (Ok c.in_ok-named.named) c.in_ok-named.ensures.reads in
     λ literals hashes units. (e.0, e.1, (i, e.2))

@@ -1,5 +1,0 @@
-use Rattle.sat_solver.specs.solver.Whole.{IsSolver}
-use Rattle.sat_solver_tests.proofs.calls.make_all.Given as goal
-
-abbrev pub invariant-loop-at : goal.invariant-loop-at
-invariant-loop-at g l = IsSolver l.solver
