@@ -12,14 +12,14 @@ header_at words o = header_of (get_or words o 0) (get_or words (o + 1) 0) (get_o
 unfoldable pub lits_at : List ℕ → ℕ → List ℕ
 lits_at words o = take (get_or words (o + 2) 0) (drop (o + 3) words)
 
--- `IsClause words o` holds if there is a clause at `o`: all of its words are in the buffer, its flags fit, and its
--- literals are codes.
+-- `IsClause words o` holds if there is a clause at `o`: all of its words are in the buffer, its flags fit in 11 bits,
+-- and its literals are codes within the limit of variables.
 pub record IsClause (words : List ℕ) (o : ℕ) : Type 0 where
   pub flags : get_or words (o + 1) 0 < 2 ^ 11
   pub whole : o + 3 + get_or words (o + 2) 0 ≤ length words
   pub lits : (k : ℕ) → k < get_or words (o + 2) 0 → get_or words (o + 3 + k) 0 < 2 * var_limit
 
--- the list with two elements swapped
+-- the list with the elements at positions i and j swapped
 abbrev pub swapped : List ℕ → ℕ → ℕ → List ℕ
 swapped ls i j = set (set ls i (get_or ls j 0)) j (get_or ls i 0)
 
@@ -43,7 +43,7 @@ pub record HeadedClause : Type 0 where
   pub header : Header
   pub lits : List ℕ
 
--- `ChangesAt old new o` holds if only the clause at `o` changed, and it is still a clause.
+-- `ChangesAt old new o` holds if no clause except that at `o` changed, and there is still a clause at `o`.
 pub record ChangesAt (old new : List ℕ) (o : ℕ) : Type 0 where
   pub clause : IsClause new o
   pub size : length new ≡ length old

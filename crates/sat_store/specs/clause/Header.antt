@@ -13,7 +13,7 @@ pub record Header : Type 0 where
   pub active : Bool
   pub len : ℕ
 
--- the number of a tier
+-- the number of a tier, from 0 to 3
 abbrev pub index_of : Tier → ℕ
 index_of Irred = 0
 index_of Core = 1

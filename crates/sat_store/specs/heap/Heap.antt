@@ -57,7 +57,8 @@ pub record DownFrom (r : ℕ → ℕ) (m low hole : ℕ) : Type 0 where
   pub others : (k : ℕ) → 0 < k → k < m → low ≤ parent k → parent k ≢ hole → r k ≤ r (parent k)
   pub across : 0 < hole → low ≤ parent hole → (k : ℕ) → 0 < k → k < m → parent k ≡ hole → r k ≤ r (parent hole)
 
--- `IsFirstChild r m at child` holds if no child of position `at` ranks above the entry at position `child`.
+-- `IsFirstChild r m at child` holds if none of the children of position `at` among the first `m` entries ranks above
+-- the entry at position `child`.
 abbrev pub IsFirstChild : (r : ℕ → ℕ) (m at child : ℕ) → Type 0
 IsFirstChild r m at child = (k : ℕ) → 0 < k → k < m → parent k ≡ at → r k ≤ r child
 
@@ -80,7 +81,8 @@ pub record FirstChildOf (heap : List Entry) (m at : ℕ) (c : Child) : Type 0 wh
   pub place : IsChildAt heap c.at c
   pub first : IsFirstChild (rank_at heap) m at c.at
 
--- `NoneAbove heap m entry at` holds if no child of position `at` ranks above this entry.
+-- `NoneAbove heap m entry at` holds if none of the children of position `at` among the first `m` entries ranks above
+-- `entry`.
 abbrev pub NoneAbove : (heap : List Entry) (m : ℕ) (entry : Entry) (at : ℕ) → Type 0
 NoneAbove heap m entry at = (k : ℕ) → 0 < k → k < m → parent k ≡ at → rank_at heap k ≤ rank entry
 
@@ -111,11 +113,11 @@ pub record Transposes (old new : List ℕ) (i j : ℕ) : Type 0 where
   pub second : (v : ℕ) → v < length old → get_or old v 0 ≡ j → get_or new v 0 ≡ i
   pub others : (v : ℕ) → v < length old → get_or old v 0 ≢ i → get_or old v 0 ≢ j → get_or new v 0 ≡ get_or old v 0
 
--- the flags, indexed by variable, that say whether its position is before m
+-- for every variable, whether its position is before `m`, so that it is in the heap
 abbrev pub flags : ℕ → List ℕ → List Bool
 flags m positions = map (λ p. nat_lt p m) positions
 
--- the activities, indexed by variable
+-- for every variable, its activity
 abbrev pub keys : List Entry → List ℕ → List ℕ
 keys heap positions = map (λ p. key_at heap p) positions
 
@@ -127,8 +129,8 @@ pub record Exchanged (heap : List Entry) (positions : List ℕ) (heap' : List En
   pub places : Transposes positions positions' i j
   pub keys : keys heap' positions' ≡ keys heap positions
 
--- `Rearranged m heap positions heap' positions'` holds if the first `m` entries were permuted, and so were the other
--- entries.
+-- `Rearranged m heap positions heap' positions'` holds if the first `m` entries were permuted among themselves, and so
+-- were the other entries.
 pub record Rearranged (m : ℕ) (heap : List Entry) (positions : List ℕ) (heap' : List Entry) (positions' : List ℕ) : Type 0 where
   pub placed : Placed heap' positions'
   pub count : length heap' ≡ length heap
@@ -159,7 +161,7 @@ pub record IsHeap (heap : List Entry) (positions : List ℕ) (m : ℕ) : Type 0 
   pub small : (v : ℕ) → get_or (keys heap positions) v 0 < 2 ^ 60
   pub ordered : Ordered (rank_at heap) m 0
 
--- `StaysHeap heap positions heap' positions'` holds if a heap stays a heap, whatever number of its variables may be
--- picked.
+-- `StaysHeap heap positions heap' positions'` holds if, for any `m`, the first `m` entries are still a heap if they
+-- were one.
 abbrev pub StaysHeap : (heap : List Entry) (positions : List ℕ) (heap' : List Entry) (positions' : List ℕ) → Type 0
 StaysHeap heap positions heap' positions' = (m : ℕ) → IsHeap heap positions m → IsHeap heap' positions' m

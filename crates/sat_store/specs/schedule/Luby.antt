@@ -11,7 +11,7 @@ luby_below (suc k) t =
 unfoldable pub luby : ℕ → ℕ
 luby t = luby_below t t
 
--- the number of a term as the state counts it: 0 for term 2 ^ 64 - 1, after which the sequence starts again
+-- the number of a term as a counter of 64 bits has it: 0 for term 2 ^ 64 - 1, after which the sequence starts again
 abbrev pub wrapped_number : ℕ → ℕ
 wrapped_number t = if t == 2 ^ 64 - 1 then 0 else t
 

@@ -1,4 +1,4 @@
--- Maps between variables as lists of codes: one more than the target of each index, or 0 if it has none.
+-- Maps between variables as lists of codes. The code of an index is one more than its target, or 0 if it has none.
 use Rattle.std.specs.Prelude.{ℕ, ◌-◌, ◌==◌, ◌≤◌, if◌then◌else◌, Option, Some, None, List, map, slice_index}
 use Rattle.sat_base.specs.values.Literals.{var_limit}
 
