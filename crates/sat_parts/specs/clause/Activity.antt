@@ -23,12 +23,12 @@ pub record PutsFirst (words words' refs : List ℕ) (f : ℕ → Header) (n : �
   pub rest : (k : ℕ) → n ≤ k → k < length refs → header_at words' (get_or refs k 0) ≡ header_at words (get_or refs k 0)
   pub lits : (k : ℕ) → k < length refs → lits_at words' (get_or refs k 0) ≡ lits_at words (get_or refs k 0)
 
--- the amount that a bump adds to an activity, and the decay in thousandths
+-- the amount that a bump adds to an activity, and the factor of the decay in thousandths
 pub record Scale : Type 0 where
   pub bump : ℕ
   pub decay : ℕ
 
--- the scale at the start
+-- the scale before the first bump
 abbrev pub first_scale : Scale
 first_scale = record { bump = 1024; decay = 999 }
 
@@ -44,7 +44,7 @@ later_bump s = quotient_up (s.bump * 1000) s.decay
 abbrev pub with_activity : Header → ℕ → Header
 with_activity h a = record h { activity = a }
 
--- the header of the clause at a given offset, with its activity rescaled
+-- the header of the clause at offset p, with its activity rescaled: divided by 2^16
 abbrev pub shifted : List ℕ → ℕ → Header
 shifted words p = with_activity (header_at words p) ((header_at words p).activity / 2 ^ 16)
 
@@ -60,7 +60,7 @@ StaysBelow words o s = raised words o s.bump < 2 ^ 30
 abbrev pub ReachesRescale : List ℕ → ℕ → Scale → Type 0
 ReachesRescale words o s = 2 ^ 30 ≤ raised words o s.bump
 
--- the header of the clause at a given offset after the clause at o was bumped and all activities were rescaled
+-- the header of the clause at offset p after the clause at o was bumped and all activities were rescaled
 abbrev pub bumped_shifted : List ℕ → (o bump : ℕ) → ℕ → Header
 bumped_shifted words o bump p = with_activity (header_at words p) ((if p == o then raised words o bump else (header_at words p).activity) / 2 ^ 16)
 

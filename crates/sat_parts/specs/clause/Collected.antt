@@ -1,4 +1,4 @@
--- Garbage collection: clauses that were copied into a new buffer, and reasons that follow their clauses.
+-- Garbage collection: clauses are copied into a new buffer, and reasons then name the copies.
 use Rattle.std.specs.Prelude.{ℕ, ◌≡◌, ◌≢◌, ◌+◌, ◌<◌, ◌≤◌, ◌⊎◌, List, [], ◌∷◌, ◌++◌, length, drop, take, slice_index_or as get_or}
 use Rattle.std.specs.List.{Contains, sum_by}
 use Rattle.sat_base.specs.values.Literals.{variable}
@@ -33,8 +33,8 @@ pub record CopyInvariant (words refs words' refs' : List ℕ) (i : ℕ) : Type 0
   pub room : (p : ℕ) → Contains (drop i refs) p → length words' ≤ p
   pub packed : length words' ≡ words_of words' refs'
 
--- `CopiesOne words o to refs to' refs'` holds if a copy of the clause at `o` was appended to the buffer `to` and to the
--- list `refs`.
+-- `CopiesOne words o to refs to' refs'` holds if a copy of the clause at `o` was appended to the buffer `to`, and its
+-- reference to the list `refs`.
 abbrev pub CopiesOne : (words : List ℕ) (o : ℕ) (to refs to' refs' : List ℕ) → Type 0
 CopiesOne words o to refs to' refs' = (c : ℕ) × ((AppendsClause to to' c (header_at words o) (lits_at words o)) × (refs' ≡ refs ++ c ∷ []))
 
@@ -54,8 +54,8 @@ FollowsFirst live refs' n (Long o) r =
     ((k : ℕ) × ((k < n) × (get_or live k 0 ≡ o) × (r ≡ Long (get_or refs' k 0))))
     ⊎ ((r ≡ Long o) × ((k : ℕ) → k < n → get_or live k 0 ≢ o))
 
--- `AreFollowed live refs' lits n nodes nodes'` holds if the reasons of `lits` follow the first `n` clauses of `live` to
--- their copies (`FollowsFirst`), and nodes whose reason is no long clause, levels and depths are unchanged.
+-- `AreFollowed live refs' lits n nodes nodes'` holds if each reason of `lits` that was one of the first `n` clauses of
+-- `live` is now its copy (`FollowsFirst`). Levels, depths and the nodes whose reason is no long clause are unchanged.
 pub record AreFollowed (live refs' lits : List ℕ) (n : ℕ) (nodes nodes' : List ImplNode) : Type 0 where
   pub size : length nodes' ≡ length nodes
   pub levels : (v : ℕ) → (node_of nodes' v).level ≡ (node_of nodes v).level
@@ -64,7 +64,7 @@ pub record AreFollowed (live refs' lits : List ℕ) (n : ℕ) (nodes nodes' : Li
   pub reasons : (i : ℕ) → i < length lits →
       FollowsFirst live refs' n (node_of nodes (variable (get_or lits i 0))).reason (node_of nodes' (variable (get_or lits i 0))).reason
 
--- `FollowsAll live refs' lits nodes nodes'` holds if the reasons of `lits` follow all clauses of `live` to their copies
+-- `FollowsAll live refs' lits nodes nodes'` holds if each reason of `lits` that was a clause of `live` is now its copy
 -- (`AreFollowed`).
 abbrev pub FollowsAll : (live refs' lits : List ℕ) (nodes nodes' : List ImplNode) → Type 0
 FollowsAll live refs' lits nodes nodes' = AreFollowed live refs' lits (length live) nodes nodes'
@@ -90,7 +90,7 @@ pub record Collects (words : List ℕ) (db : Db) (nodes : List ImplNode) (lits w
 abbrev pub AreFirsts : (words live lits : List ℕ) (nodes : List ImplNode) → Type 0
 AreFirsts words live lits nodes = (i o : ℕ) → i < length lits → (node_of nodes (variable (get_or lits i 0))).reason ≡ Long o → Contains live o × (lit_of words o 0 ≡ get_or lits i 0)
 
--- the list after garbage collection
+-- the list after garbage collection, with the new references
 abbrev pub after_collection : List ℕ → Db → Db
 after_collection refs' db = record { refs = refs'; counts = db.counts; garbage = 0 }
 

@@ -37,7 +37,7 @@ is_live_in_tier words tier o = is_live words o && (index_of (header_at words o).
 abbrev pub AreClausePlaces : List ℕ → List ℕ → Type 0
 AreClausePlaces words refs = (o : ℕ) → Contains refs o → IsClause words o
 
--- the number of words of the clause at o if it was deleted, otherwise 0
+-- the number of words of the clause at o, header included, if it is deleted, otherwise 0
 abbrev pub garbage_of : List ℕ → ℕ → ℕ
 garbage_of words o = if is_live words o then 0 else length (lits_at words o) + 3
 
@@ -65,7 +65,7 @@ tier_count_more tier counts = set counts (index_of tier) (get_or counts (index_o
 abbrev pub tier_count_less : Tier → List ℕ → List ℕ
 tier_count_less tier counts = set counts (index_of tier) (get_or counts (index_of tier) 0 - 1)
 
--- the list without the clause at o
+-- the list of references without that of the clause at o
 abbrev pub without : ℕ → List ℕ → List ℕ
 without o refs = filter (λ p. not (p == o)) refs
 

@@ -7,13 +7,13 @@ use Rattle.std.specs.List.Retain.{ReturnsInTurn}
 use Rattle.sat_store.specs.clause.Buffer.{SameClauseAt}
 use Rattle.sat_parts.specs.clause.Db.{is_live, live_refs}
 
--- `TakesEach g words live` holds if the test `g` can be called, in any state, with every clause of `live`, shown with
--- the header and literals that it has in `words`.
+-- `TakesEach g words live` holds if the test `g` can be called, in any state, with every clause of `live`, whose header
+-- and literals it sees as they are in `words`.
 abbrev pub TakesEach : {F : Type 0} → Mut F (Bor (List ℕ) × (ℕ × Unit {0})) Bool → (words live : List ℕ) → Type 0
 TakesEach {F} g words live = (f : F) (shown : Bor (List ℕ)) (o : ℕ) → Contains live o → SameClauseAt words shown.now o → Takes g f (shown, (o, tt))
 
--- `AnswersAt g words f o r f'` holds if a call of the test `g` in state `f` with the clause at `o`, shown with the
--- header and literals that it has in `words`, may return `r` and leave the state `f'`.
+-- `AnswersAt g words f o r f'` holds if a call of the test `g` in state `f` with the clause at `o`, whose header and
+-- literals it sees as they are in `words`, may return `r` and leave the state `f'`.
 pub record AnswersAt {F : Type 0} (g : Mut F (Bor (List ℕ) × (ℕ × Unit {0})) Bool) (words : List ℕ) (f : F) (o : ℕ) (r : Bool) (f' : F) : Type 0 where
   pub shown : Bor (List ℕ)
   pub same : SameClauseAt words shown.now o

@@ -6,7 +6,7 @@ use Rattle.sat_base.specs.values.Literals.{variable}
 use Rattle.sat_parts.specs.declared.prop.graph.ImplNode.{ImplNode}
 use Rattle.sat_parts.specs.prop.Graphs.{node_of}
 
--- the levels of the literals
+-- the levels of the literals, in order
 abbrev pub levels_of : List ImplNode → List ℕ → List ℕ
 levels_of nodes ls = map (λ l. (node_of nodes (variable l)).level) ls
 
@@ -18,11 +18,11 @@ count_distinct xs = distinct_count nat_eq xs
 abbrev pub VariablesBelow : List ℕ → ℕ → Type 0
 VariablesBelow ls n = (k : ℕ) → k < length ls → variable (get_or ls k 0) < n
 
--- `HaveNodes nodes ls` holds if the variable of every literal has a node.
+-- `HaveNodes nodes ls` holds if the variable of every literal of `ls` has a node in `nodes`.
 abbrev pub HaveNodes : List ImplNode → List ℕ → Type 0
 HaveNodes nodes ls = VariablesBelow ls (length nodes)
 
--- `HaveFlags nodes flags ls` holds if the level of every literal has a flag.
+-- `HaveFlags nodes flags ls` holds if the level of every literal of `ls` has a flag in `flags`.
 abbrev pub HaveFlags : List ImplNode → List Bool → List ℕ → Type 0
 HaveFlags nodes flags ls = (k : ℕ) → k < length ls → (node_of nodes (variable (get_or ls k 0))).level < length flags
 

@@ -17,7 +17,7 @@ use Rattle.sat_parts.specs.declared.parts.assumptions.EnqueueAssumption.TheVaria
 abbrev pub variables_of_lits : List ℕ → List ℕ
 variables_of_lits ls = map (λ l. variable l) ls
 
--- `HaveVariablesIn ls p` holds if the variables of the literals exist in `p`.
+-- `HaveVariablesIn ls p` holds if the variables of the literals `ls` exist in `p`.
 abbrev pub HaveVariablesIn : List ℕ → SearchState → Type 0
 HaveVariablesIn ls p = VariablesBelow ls (length p.assignment.current)
 
@@ -34,12 +34,12 @@ pub record IsPlaced (ls below : List ℕ) (place : ℕ) (s : PropagationState) :
   pub begun : (j : ℕ) → j < length below → Contains ls (lit_at s (get_or s.trail.starts j 0))
   pub all : length below < length s.trail.starts → place ≡ length ls
 
--- `ArePlaced a s` holds if the places that the assumptions record are right in the state `s` (`IsPlaced`).
+-- `ArePlaced a s` holds if the places recorded by the assumptions `a` are correct in the state `s` (`IsPlaced`).
 abbrev pub ArePlaced : Assumptions → PropagationState → Type 0
 ArePlaced a s = IsPlaced a.lits.items a.below.items a.place s
 
--- `AreCutTo level a a'` holds if the places of `a'` are right in every state that results from undoing the levels above
--- `level`, if those of `a` were right before.
+-- `AreCutTo level a a'` holds if the places of `a'` are correct in every state that results from undoing the levels
+-- above `level`, provided that those of `a` were correct before.
 abbrev pub AreCutTo : (level : ℕ) (a a' : Assumptions) → Type 0
 AreCutTo level a a' = (s s' : PropagationState) → ArePlaced a s → level ≤ length s.trail.starts → KeepsTo level s s' → length s'.trail.starts ≡ level → ArePlaced a' s'
 

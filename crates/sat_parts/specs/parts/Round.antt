@@ -36,8 +36,8 @@ KeepsPicks values q q' v = (u : ℕ) → u ≢ v → value_of values u ≡ None 
 abbrev pub UnitsHaveNoReason : PropagationState → Type 0
 UnitsHaveNoReason s = (i : ℕ) → i < length s.trail.lits → level s (lit_at s i) ≡ 0 → (node s (lit_at s i)).reason ≡ NoCause
 
--- `IsSoundBelow words db w b a g t q top` holds if all parts are consistent, with complete propagation for the literals
--- at levels below `top`.
+-- `IsSoundBelow words db w b a g t q top` holds if all parts are consistent, and the literals at levels below `top`
+-- that have left the queue are propagated.
 pub record IsSoundBelow (words : List ℕ) (db : Db) (w : Watching) (b : Binaries) (a : Values) (g : List ImplNode) (t : Trailed) (q : Queue) (top : ℕ) : Type 0 where
   pub held : DbMatchesBuffer words db
   pub asks : PropagationInvariant words db.refs w b.implied (state_of a g t) top

@@ -47,8 +47,8 @@ pub record IsPicked (p : SearchState) (v : ℕ) : Type 0 where
   pub there : v < length p.assignment.current
   pub unset : value_of p.assignment.current v ≡ None
 
--- `SearchStateInvariantBelow top p` holds if the parts are consistent, with complete propagation for the literals at
--- levels below `top` (`IsSoundBelow`).
+-- `SearchStateInvariantBelow top p` holds if the parts of `p` are consistent, and the literals at levels below `top`
+-- that have left the queue are propagated (`IsSoundBelow`).
 abbrev pub SearchStateInvariantBelow : ℕ → SearchState → Type 0
 SearchStateInvariantBelow top p = IsSoundBelow p.clauses p.db p.watchlists p.binary p.assignment p.graph p.trail p.vsids top
 
@@ -60,8 +60,8 @@ IsFullyPropagated p = p.trail.head ≡ length p.trail.lits
 abbrev pub AllAssigned : SearchState → Type 0
 AllAssigned p = (u : ℕ) → u < length p.assignment.current → value_of p.assignment.current u ≡ None → InNoClause p u
 
--- `IsRefuted p e` holds if the conflict `e` names a falsified clause, and the invariant holds again once the current
--- level is undone.
+-- `IsRefuted p e` holds if the conflict `e` names a falsified clause, and the invariant between rounds holds again once
+-- the current level is undone.
 abbrev pub IsRefuted : SearchState → Conflict → Type 0
 IsRefuted p e =
     SearchStateInvariantBelow (length p.trail.starts) p

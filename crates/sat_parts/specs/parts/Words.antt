@@ -1,4 +1,5 @@
--- Words of trails since an ask began, as a measure of progress: the units that were taken off the trail, then the literals on it.
+-- Words of trails since an ask began, as a measure of progress: the letters of the units that were taken off the
+-- trail, then those of the literals on it.
 use Rattle.std.specs.Prelude.{ℕ, ◌≡◌, ◌<◌, ◌⊎◌, None, true, false, List, ◌++◌, length, replicate, slice_index_or as get_or}
 use Rattle.std.specs.List.{Contains}
 use Rattle.sat_base.specs.values.Literals.{variable}
@@ -27,33 +28,33 @@ IsIdle assumed s q v = (value_of s.values v ≡ None) × (is_available q v ≡ f
 abbrev pub IsAwaited : List ℕ → Queue → ℕ → Type 0
 IsAwaited assumed q v = (is_available q v ≡ true) ⊎ Contains assumed v
 
--- `IsGone assumed s q v` holds if a literal of the variable `v` was taken off the trail as a unit, or `v` is idle.
+-- `IsGone assumed s q v` holds if `v` is the variable of a unit that was taken off the trail, or is idle (`IsIdle`).
 abbrev pub IsGone : List ℕ → PropagationState → Queue → ℕ → Type 0
 IsGone assumed s q v = (v < length s.values) × (((l : ℕ) × ((variable l ≡ v) × IsRemoved s l)) ⊎ IsIdle assumed s q v)
 
--- `GoneAndIdleStay assumed s q s' q'` holds if variables that are gone in `s` are gone in `s'`, idle ones stay idle,
--- and the number of variables is unchanged.
+-- `GoneAndIdleStay assumed s q s' q'` holds if every variable that was removed or idle (`IsGone`) still is, every idle
+-- one is still idle, and the number of variables is unchanged.
 pub record GoneAndIdleStay (assumed : List ℕ) (s : PropagationState) (q : Queue) (s' : PropagationState) (q' : Queue) : Type 0 where
   pub size : length s'.values ≡ length s.values
   pub gone : (v : ℕ) → IsGone assumed s q v → IsGone assumed s' q' v
   pub idle : (v : ℕ) → IsIdle assumed s q v → IsIdle assumed s' q' v
 
 -- `IsWord assumed s q w` holds if `w` is a word of the trail since an ask with these assumed variables began. It has a
--- P for each of some variables that are gone (units taken off since then), and then the letters of the trail.
+-- P for each of some variables that are removed or idle (`IsGone`), and then the letters of the trail.
 pub record IsWord (assumed : List ℕ) (s : PropagationState) (q : Queue) (w : List Letter) : Type 0 where
   pub gone : List ℕ
   pub distinct : AreDistinct gone
   pub each : (k : ℕ) → k < length gone → IsGone assumed s q (get_or gone k 0)
   pub is : w ≡ replicate (length gone) P ++ trail_letters s.trail
 
--- `WordExtends assumed s q s' q'` holds if every word of the trail of `s` is a prefix of a word of that of `s'`, and
--- gone and idle variables stay so.
+-- `WordExtends assumed s q s' q'` holds if every word of the trail of `s` is a prefix of a word of the trail of `s'`,
+-- and removed and idle variables stay so.
 abbrev pub WordExtends : (assumed : List ℕ) (s : PropagationState) (q : Queue) (s' : PropagationState) (q' : Queue) → Type 0
 WordExtends assumed s q s' q' =
     GoneAndIdleStay assumed s q s' q' × ((w : List Letter) → IsWord assumed s q w → (v : List Letter) × (IsWord assumed s' q' v × IsPrefix w v))
 
--- `WordRises assumed s q s' q'` holds if every word of the trail of `s` is lower than a word of that of `s'`, and gone
--- and idle variables stay so.
+-- `WordRises assumed s q s' q'` holds if every word of the trail of `s` is lower than a word of the trail of `s'`, and
+-- removed and idle variables stay so.
 abbrev pub WordRises : (assumed : List ℕ) (s : PropagationState) (q : Queue) (s' : PropagationState) (q' : Queue) → Type 0
 WordRises assumed s q s' q' =
     GoneAndIdleStay assumed s q s' q' × ((w : List Letter) → IsWord assumed s q w → (v : List Letter) × (IsWord assumed s' q' v × IsLowerWord w v))
@@ -67,7 +68,7 @@ IsTrailWord assumed p w = IsWord assumed (state p) p.vsids w
 abbrev pub TrailWordExtendsFor : List ℕ → SearchState → SearchState → Type 0
 TrailWordExtendsFor assumed p p' = WordExtends assumed (state p) p.vsids (state p') p'.vsids
 
--- `TrailWordStays p p'` holds if gone and idle variables stay so, whatever variables are assumed.
+-- `TrailWordStays p p'` holds if removed and idle variables stay so, whatever variables are assumed.
 abbrev pub TrailWordStays : SearchState → SearchState → Type 0
 TrailWordStays p p' = (assumed : List ℕ) → GoneAndIdleStay assumed (state p) p.vsids (state p') p'.vsids
 

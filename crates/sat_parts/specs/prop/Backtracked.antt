@@ -22,7 +22,8 @@ BacktrackPreservesInvariant level a t a' t' =
     (words refs : List ℕ) (w : Watching) (implied : List (List ℕ)) (nodes : List ImplNode) (top : ℕ) → level < top →
     PropagationInvariant words refs w implied (state_of a nodes t) top → PropagationPrecondition words refs w implied (state_of a' nodes t')
 
--- `KeepsTurns a t a' t'` holds if the reasons of the literals on the trail stay unit in the order of the trail.
+-- `KeepsTurns a t a' t'` holds if the reasons of the literals on the trail stay unit in the order of the trail
+-- (`AreUnitInTurn`).
 abbrev pub KeepsTurns : (a : Values) (t : Trailed) (a' : Values) (t' : Trailed) → Type 0
 KeepsTurns a t a' t' =
     (words live : List ℕ) (implied : List (List ℕ)) (nodes : List ImplNode) (from : ℕ) → StateIsConsistent (state_of a nodes t) →
@@ -58,7 +59,7 @@ pub record BacktrackEffect (top : ℕ) (s s' : PropagationState) : Type 0 where
   pub places : (i : ℕ) → i < length s'.trail.lits → lit_at s' i ≡ lit_at s i
   pub low_places : (i : ℕ) → i < length s.trail.lits → level s (lit_at s i) ≤ top → i < length s'.trail.lits
 
--- `BacktrackEffectOn top a t a' t'` holds if `BacktrackEffect` holds for these values and trails, with any nodes that
--- agree with them.
+-- `BacktrackEffectOn top a t a' t'` holds if `BacktrackEffect` holds for these values and trails, with any nodes with
+-- which they are consistent.
 abbrev pub BacktrackEffectOn : (top : ℕ) (a : Values) (t : Trailed) (a' : Values) (t' : Trailed) → Type 0
 BacktrackEffectOn top a t a' t' = (nodes : List ImplNode) → StateIsConsistent (state_of a nodes t) → BacktrackEffect top (state_of a nodes t) (state_of a' nodes t')

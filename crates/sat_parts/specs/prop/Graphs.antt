@@ -19,7 +19,7 @@ new_node = record { reason = NoCause; level = 0; depth = 0 }
 abbrev pub node_of : List ImplNode → ℕ → ImplNode
 node_of nodes v = get_or nodes v new_node
 
--- the node of a literal that is appended to the trail `t`
+-- the node of a literal that is appended to the trail `t`, with this reason
 abbrev pub node_at : Trailed → Reason → ImplNode
 node_at t reason = record { reason = reason; level = length t.starts; depth = length t.lits + 1 }
 

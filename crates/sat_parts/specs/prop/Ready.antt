@@ -62,8 +62,8 @@ pub record LongReady (words live : List ℕ) (lists : List (List Watch)) (s : Pr
   pub queue : IsQueueCurrent s
   pub settled : AreSettled words live s due
 
--- `AreLists implied count` holds if there is a list of implied literals for each of 2 * `count` literals, and all
--- implied literals are in this range.
+-- `AreLists implied count` holds if there is a list of implied literals for each literal of `count` variables, and all
+-- implied literals are of these variables.
 pub record AreLists (implied : List (List ℕ)) (count : ℕ) : Type 0 where
   pub room : length implied ≡ 2 * count
   pub below : (l k : ℕ) → k < length (implied_by implied l) → get_or (implied_by implied l) k 0 < 2 * count

@@ -25,8 +25,8 @@ Implies words live implied s i (Binary ls) =
 Implies words live implied s i (Long o) =
     Contains live o × (lit_of words o 0 ≡ lit_at s i) × ((k : ℕ) → 1 ≤ k → k < size_of words o → IsFalseBefore s i (lit_of words o k))
 
--- `AreUnitInTurn words live implied s from` holds if the reasons of the literals from position `from` on are unit in
--- the order of the trail.
+-- `AreUnitInTurn words live implied s from` holds if the reason of every literal of the trail from position `from` on
+-- is unit in the order of the trail: all of its other literals were false before (`Implies`).
 abbrev pub AreUnitInTurn : (words live : List ℕ) (implied : List (List ℕ)) (s : PropagationState) (from : ℕ) → Type 0
 AreUnitInTurn words live implied s from =
     (i : ℕ) → from ≤ i → i < length s.trail.lits → Implies words live implied s i (node s (lit_at s i)).reason

@@ -21,7 +21,7 @@ node s l = node_of s.nodes (variable l)
 abbrev pub level : PropagationState → ℕ → ℕ
 level s l = (node s l).level
 
--- the current level: the number of levels above 0
+-- the current decision level: the number of levels above 0
 abbrev pub current_level : PropagationState → ℕ
 current_level s = length s.trail.starts
 

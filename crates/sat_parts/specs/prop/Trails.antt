@@ -12,7 +12,7 @@ pub record Trailed : Type 0 where
   pub cleared : ℕ
   pub room : ℕ
 
--- the trail with the given parts, which the code has as separate fields
+-- the trail with these parts, which are separate fields in the code
 abbrev pub trailed : (lits : List ℕ) (head : ℕ) (starts : List ℕ) (cleared room : ℕ) → Trailed
 trailed lits head starts cleared room = record { lits = lits; head = head; starts = starts; cleared = cleared; room = room }
 
@@ -44,7 +44,7 @@ no_trail = record { lits = []; head = 0; starts = []; cleared = 0; room = 0 }
 abbrev pub first_start : Trailed → ℕ
 first_start t = get_or t.starts 0 (length t.lits)
 
--- `PopsNext t l t'` holds if the next literal `l` left the queue.
+-- `PopsNext t l t'` holds if `l`, the first literal in the queue, left the queue.
 abbrev pub PopsNext : Trailed → ℕ → Trailed → Type 0
 PopsNext t l t' = (slice_get t.lits t.head ≡ Some l) × (t' ≡ record t { head = t.head + 1 })
 

@@ -5,12 +5,12 @@ use Rattle.sat_parts.specs.prop.Values.{Values, value_of}
 use Rattle.sat_store.specs.heap.Vsids.{Queue, with_available}
 use Rattle.sat_parts.specs.prop.Trails.{Trailed}
 
--- `was_true value` is true if `value` is true.
+-- `was_true value` is true if `value` is `Some true`.
 abbrev pub was_true : Option Bool → Bool
 was_true None = false
 was_true (Some b) = b
 
--- the values of variables, and those that they lost last
+-- the values with these current values, and these last values
 abbrev pub values_of : List (Option Bool) → List Bool → Values
 values_of current last = record { current = current; last = last }
 

@@ -2,7 +2,7 @@
 use Rattle.std.specs.Prelude.{ℕ, ◌≡◌, ◌-◌, Bool, false, not, Option, None, Some, is_none, List, ◌++◌, take, replicate, length, if◌then◌else◌, slice_index_or as get_or, slice_set as set}
 use Rattle.sat_base.specs.values.Literals.{variable, is_positive}
 
--- for every variable its value, or `None`, and the value that it lost last
+-- for every variable its value, or `None`, and its saved phase: the value that it lost last
 pub record Values : Type 0 where
   pub current : List (Option Bool)
   pub last : List Bool

@@ -38,8 +38,8 @@ pub record AreWalked (words live : List ℕ) (lists : List (List Watch)) (list :
       ((negated (lit_of words o i) ≡ lit) × HasWatchOutside list kept at o)
       ⊎ ((negated (lit_of words o i) ≢ lit) × HasWatch (watches_of lists (negated (lit_of words o i))) o)
 
--- `WalkInvariant words live s lists list lit kept at` holds if every clause that is not yet propagated has a watch that
--- is still to be visited, in a consistent state.
+-- `WalkInvariant words live s lists list lit kept at` holds if the state is consistent, and every clause that is not
+-- yet propagated has a watch that is still to be visited.
 pub record WalkInvariant (words live : List ℕ) (s : PropagationState) (lists : List (List Watch)) (list : List Watch) (lit kept at : ℕ) : Type 0 where
   pub clauses : AreClauses words live (length s.values)
   pub agrees : StateIsConsistent s
@@ -51,8 +51,8 @@ pub record WalkInvariant (words live : List ℕ) (s : PropagationState) (lists :
       IsSatisfied s (lits_at words o) (level s (negated (lit_of words o i)))
       ⊎ ((negated (lit_of words o i) ≡ lit) × HasWatchFrom list at o)
 
--- `IsOther w v o fl` holds if `fl` was one of the first two literals of the clause at `o` in `w`, and the other of
--- these is first in `v`.
+-- `IsOther w v o fl` holds if `fl` was one of the first two literals, which are watched, of the clause at `o` in `w`,
+-- and the other of these is first in `v`.
 abbrev pub IsOther : List ℕ → List ℕ → ℕ → ℕ → Type 0
 IsOther w v o fl = ((lit_of w o 1 ≡ fl) × (lit_of v o 0 ≡ lit_of w o 0)) ⊎ ((lit_of w o 0 ≡ fl) × (lit_of v o 0 ≡ lit_of w o 1))
 
@@ -83,7 +83,8 @@ Visited w v a lists lists' o fl (Falsified n) =
     × (lists' ≡ lists)
     × ((k : ℕ) → k < size_of v o → IsFalseLit a (lit_of v o k))
 
--- `VisitedIn w v a lists lists' o fl r` holds if `Visited` holds for the result `r`, an assignment and watch lists.
+-- `VisitedIn w v a lists lists' o fl r` holds if `Visited` holds for the result `r`, with the current values of the
+-- assignment `a` and the lists of `lists` and `lists'`.
 abbrev pub VisitedIn : (w v : List ℕ) (a : Values) (lists lists' : Watching) (o fl : ℕ) → Visit → Type 0
 VisitedIn w v a lists lists' o fl r = Visited w v a.current lists.lists lists'.lists o fl r
 
