@@ -23,11 +23,11 @@ pub record Writer : Type 0 where
   pub flushes : ℕ  -- the number of flushes that did not fail
   pub loans : List ℕ  -- the chain of borrows through which the writer was passed, latest first
 
--- the reader, lent once more
+-- the reader, passed through one more borrow, `name`
 abbrev pub lent_reader : ℕ → Reader → Reader
 lent_reader name r = record r { loans = name ∷ r.loans }
 
--- the writer, lent once more
+-- the writer, passed through one more borrow, `name`
 abbrev pub lent_writer : ℕ → Writer → Writer
 lent_writer name w = record w { loans = name ∷ w.loans }
 
@@ -38,7 +38,7 @@ lent_writer name w = record w { loans = name ∷ w.loans }
 abbrev pub CountsErr : {T E : Type 0} → Result T E → ℕ → ℕ → Bool → Type 0
 CountsErr r old new failed = MatchResult r (λ _. (new ≡ old) × (failed ≡ false)) (λ _. (new ≡ old + 1) × (failed ≡ true))
 
--- Returns `true` if a write accepts no byte of a nonempty piece.
+-- `takes_none n piece` is true if `n`, the number of bytes that a write accepted, is 0 although the piece is not empty.
 abbrev pub takes_none : ℕ → List ℕ → Bool
 takes_none n piece = nat_eq n 0 && nat_lt 0 (length piece)
 
@@ -124,14 +124,14 @@ pub record GaveAll (old new : Reader) (text : List ℕ) : Type 0 where
   pub few : FewReads old new
   pub loans : new.loans ≡ old.loans
 
--- `CanFollow old new rest` holds if, by its reads alone, the reader could still give the bytes `rest`. If a read was made
--- since `old`, and the last read found the end, `rest` is empty. Otherwise `rest` can be any bytes.
+-- `CanFollow old new rest` holds if, by its reads alone, the reader could still give the bytes `rest`. If a read was
+-- made since `old`, and the last read found the end, `rest` is empty. Otherwise `rest` can be any bytes.
 abbrev pub CanFollow : Reader → Reader → List ℕ → Type 0
 CanFollow old new rest = old.calls < new.calls → new.ended ≡ true → rest ≡ []
 
 -- `GaveEnough old new P` holds if, between `old` and `new`, the reader gave a text such that P holds of it, followed by
--- any bytes that the reader could still give (`CanFollow`). So the bytes that were read are enough to establish P. Reads
--- were few, and no bytes are known to follow the end.
+-- any bytes that the reader could still give (`CanFollow`). So the bytes that were read are enough to establish P.
+-- Reads were few, and no bytes are known to follow the end.
 pub record GaveEnough (old new : Reader) (P : List ℕ → Type 0) : Type 0 where
   pub text : List ℕ
   pub front : GavePrefix old new text

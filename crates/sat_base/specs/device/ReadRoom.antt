@@ -13,13 +13,14 @@ unread a = a.end - a.at
 abbrev pub unread_in : {R : Type 0} → Input R → ℕ
 unread_in i = unread i.ahead.now
 
--- `HasReadRoom i` holds if the input may read a byte, and the bytes not yet consumed are at most as many as it may read at
--- once.
+-- `HasReadRoom i` holds if the input may read a byte, and the bytes not yet consumed are at most as many as it may read
+-- at once.
 pub record HasReadRoom {R : Type 0} (i : Input R) : Type 0 where
   pub some : 0 < i.room
   pub fits : unread_in i ≤ i.room
 
--- `ReadsWithinRoom old new` holds if the bytes left are fewer than the input may read at once, and this limit is the same.
+-- `ReadsWithinRoom old new` holds if the bytes left are fewer than the input may read at once, and this limit is the
+-- same.
 pub record ReadsWithinRoom {R : Type 0} (old new : Input R) : Type 0 where
   pub left : unread_in new < old.room
   pub room : new.room ≡ old.room
@@ -30,7 +31,8 @@ pub record HasCapacityFor (l : Lists) (count : ℕ) : Type 0 where
   pub hashes : count ≤ vec_capacity l.hashes
   pub units : count ≤ vec_capacity l.units
 
--- `HasItemRoom l room` holds if each of the lists has capacity for the items that all but one of `room` bytes can spell.
+-- `HasItemRoom l room` holds if each of the lists has capacity for the items that all but one of `room` bytes can
+-- spell.
 pub record HasItemRoom (l : Lists) (room : ℕ) : Type 0 where
   pub literals : room ≤ vec_capacity l.literals + 1
   pub hashes : room ≤ vec_capacity l.hashes + 1

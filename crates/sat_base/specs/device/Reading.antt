@@ -63,7 +63,8 @@ pub record ConsumesWithReads (more : ℕ) (old new : Source) (text : List ℕ) :
 abbrev pub ConsumesBytes : Source → Source → List ℕ → Type 0
 ConsumesBytes old new text = ConsumesWithReads 0 old new text
 
--- `AllTaken s` holds if all bytes are consumed: the last read found the end of the reader, and no bytes are pending.
+-- `AllTaken s` holds if all bytes are consumed: a read was made, the last one found the end of the reader, and no bytes
+-- are pending.
 pub record AllTaken (s : Source) : Type 0 where
   pub read : 0 < s.reads
   pub ended : s.reader.ended ≡ true
@@ -80,7 +81,7 @@ ConsumesAllGiven old new text = ConsumesBytes old new text × (new.waiting ≡ [
 abbrev pub ConsumesToEnd : Source → Source → List ℕ → Type 0
 ConsumesToEnd old new text = ConsumesWithReads 1 old new text × AllTaken new
 
--- `LastReadFails old new` holds if exactly one call failed, and it was the last.
+-- `LastReadFails old new` holds if exactly one read of the source's reader failed, and it was the last.
 abbrev pub LastReadFails : Source → Source → Type 0
 LastReadFails old new = (new.reader.failures ≡ old.reader.failures + 1) × (new.reader.failed ≡ true)
 
@@ -103,7 +104,7 @@ pub record ConsumesAndFails (old new : Source) (text : List ℕ) : Type 0 where
   pub loans : new.reader.loans ≡ old.reader.loans
   pub names : new.names ≡ old.names
 
--- 1 if a read gave nothing, otherwise 0
+-- 1 if a read gave nothing (`n` is 0), otherwise 0
 abbrev pub none_given : ℕ → ℕ
 none_given n = if nat_eq n 0 then 1 else 0
 

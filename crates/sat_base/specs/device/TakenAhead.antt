@@ -5,8 +5,8 @@ use Rattle.sat_base.specs.device.Waiting.{waiting}
 use Rattle.sat_base.specs.steps.Formats.{Format, Items}
 use Rattle.sat_base.specs.steps.Numbers.{IsBelow}
 
--- `TakesNumber limit n old new` holds if the text of the number `n`, which is below `limit`, was consumed, without a
--- read.
+-- `TakesNumber limit n old new` holds if the text of the number `n`, which is below `limit`, was consumed from the
+-- buffered bytes, without a read.
 abbrev pub TakesNumber : ℕ → ℕ → Ahead → Ahead → Type 0
 TakesNumber limit n old new = (text : List ℕ) × IsBelow limit n text × (waiting old ≡ text ++ waiting new) × (new.reads ≡ old.reads)
 
@@ -19,8 +19,8 @@ buffered_from at a = drop at (take a.end a.piece)
 abbrev pub IsEncodedBetween : ℕ → ℕ → ℕ → ℕ → Ahead → Type 0
 IsEncodedBetween limit n at following a = (text : List ℕ) × IsBelow limit n text × (buffered_from at a ≡ text ++ buffered_from following a)
 
--- `TakesItems F most n before now old new` holds if `n` items, at most `most`, were consumed and appended to the list
--- `before`, without a read.
+-- `TakesItems F most n before now old new` holds if `n` items, at most `most`, were consumed from the buffered bytes,
+-- without a read. `now` is the list `before` with these items appended.
 abbrev pub TakesItems : Format ℕ → ℕ → ℕ → List ℕ → List ℕ → Ahead → Ahead → Type 0
 TakesItems F most n before now old new =
     (n ≤ most) × (xs : List ℕ) × (text : List ℕ) × (length xs ≡ n) × (now ≡ before ++ xs) × Items F xs text × (waiting old ≡ text ++ waiting new) × (new.reads ≡ old.reads)

@@ -11,10 +11,11 @@ waiting_in p = take p.len p.bytes
 abbrev pub waiting : Ahead → List ℕ
 waiting a = drop a.at (take a.end a.piece)
 
--- `HasByteRoom count waiting size p` holds if there is room for `count` more bytes.
+-- `HasByteRoom count waiting size p` holds if the buffer `p` has room for `count` more pending bytes. `waiting` gives
+-- its pending bytes, and `size` its size.
 abbrev pub HasByteRoom : {P : Type 0} → ℕ → (P → List ℕ) → (P → ℕ) → P → Type 0
 HasByteRoom count waiting size p = length (waiting p) + count ≤ size p
 
--- `UsesRoom count waiting size old new` holds if at most `count` more bytes are pending, in room of the same size.
+-- `UsesRoom count waiting size old new` holds if at most `count` more bytes are pending, in a buffer of the same size.
 abbrev pub UsesRoom : {P : Type 0} → ℕ → (P → List ℕ) → (P → ℕ) → P → P → Type 0
 UsesRoom count waiting size old new = (length (waiting new) ≤ length (waiting old) + count) × (size new ≡ size old)

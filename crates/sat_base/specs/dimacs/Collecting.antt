@@ -11,7 +11,7 @@ use Rattle.sat_base.specs.values.Formulas.{with_formula_clause}
 use Rattle.sat_base.specs.dimacs.Dimacs.{Malformed, Limit, PartialClause, TokenEffect, GoesOn, Ends, Fails, literals_in, token_effect}
 use Rattle.sat_base.specs.values.Literals.{var_limit}
 
--- the token that a token of the code represents; its numbers are those of the code, which are capped
+-- the token with the numbers of a token of the code, which are capped at 2^64 - 1
 abbrev pub token_of : CodeToken → Token
 token_of (code.Number negative value) = Number negative value
 token_of (code.Letter b) = Letter b
@@ -23,7 +23,7 @@ abbrev pub partial_clause_of : List ℕ → PartialClause
 partial_clause_of [] = None
 partial_clause_of (l ∷ ls) = Some (l ∷ ls)
 
--- the unfinished clause, or `None` if it has no literals
+-- the unfinished clause of `clauses`, or `None` if it has no literals
 abbrev pub partial_clause_in : Clauses → PartialClause
 partial_clause_in clauses = partial_clause_of clauses.hand.items
 
@@ -34,11 +34,11 @@ header_after (Letter b) header = header
 header_after (Header v c) header = Some (v, c)
 header_after Wrong header = header
 
--- `SameClausesAndCount old new` holds if the clauses and their count did not change.
+-- `SameClausesAndCount old new` holds if neither the complete clauses nor their count changed.
 abbrev pub SameClausesAndCount : Clauses → Clauses → Type 0
 SameClausesAndCount old new = (new.formula ≡ old.formula) × (new.count ≡ old.count)
 
--- `SameClausesAndHeader old new` holds if neither the clauses nor their count nor the header changed.
+-- `SameClausesAndHeader old new` holds if neither the complete clauses nor their count nor the header changed.
 abbrev pub SameClausesAndHeader : Clauses → Clauses → Type 0
 SameClausesAndHeader old new = SameClausesAndCount old new × (new.header ≡ old.header)
 
@@ -68,7 +68,7 @@ CollectsToken (Err refusal.Malformed) old t new = SameClausesAndHeader old new �
 CollectsToken (Err refusal.Limit) old t new = SameClausesAndHeader old new × ((n : ℕ) → token_effect (partial_clause_in old) n t ≡ Fails (Limit n))
 CollectsToken (Err refusal.OutOfMemory) old t new = SameClausesAndHeader old new × NeedsRoom t
 
--- `IsInside flag hand` holds if `flag` is true exactly when a clause is unfinished.
+-- `IsInside flag hand` holds if `flag` says whether a clause is unfinished.
 abbrev pub IsInside : Bool → PartialClause → Type 0
 IsInside false hand = hand ≡ None
 IsInside true hand = (ls : List ℕ) × (hand ≡ Some ls)

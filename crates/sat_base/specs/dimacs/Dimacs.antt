@@ -18,7 +18,7 @@ pub record Dimacs : Type 0 where
 abbrev pub PartialClause : Type 0
 PartialClause = Option (List ℕ)
 
--- the effect of a token: the text continues, a clause ends, or the text ends with a fault
+-- the effect of a token: the unfinished clause is now this one or none, a clause ends, or the text ends with a fault
 pub data TokenEffect : Type 0 where
   GoesOn : PartialClause → TokenEffect
   Ends : List ℕ → TokenEffect
@@ -34,7 +34,7 @@ abbrev pub with_number : PartialClause → ℕ → Bool → ℕ → TokenEffect
 with_number hand line negative value =
     if nat_lt var_limit value then Fails (Limit line) else GoesOn (Some (literals_in hand ++ mk_lit (value - 1) (not negative) ∷ []))
 
--- the effect of a token on this line
+-- the effect of a token on this line, if `hand` is the unfinished clause
 abbrev pub token_effect : PartialClause → ℕ → Token → TokenEffect
 token_effect hand line (Number negative value) = if nat_eq value 0 then Ends (literals_in hand) else with_number hand line negative value
 token_effect hand line (Header v c) = GoesOn hand

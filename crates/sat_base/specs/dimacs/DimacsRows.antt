@@ -5,11 +5,11 @@ use Rattle.sat_base.specs.text.Text.{dimacs_header}
 use Rattle.sat_base.specs.dimacs.Dimacs.{Clean, Malformed, Limit, up_to_last_blank, IsDimacs}
 use Rattle.sat_base.specs.dimacs.Parsing.{whole_lines}
 
--- the positive literal whose variable has this number
+-- the positive literal of the variable with the number `n`, counted from 1
 abbrev pub positive_lits : ℕ → ℕ
 positive_lits n = mk_lit (n - 1) true
 
--- the negative literal whose variable has this number
+-- the negative literal of the variable with the number `n`, counted from 1
 abbrev pub negative_lit : ℕ → ℕ
 negative_lit n = mk_lit (n - 1) false
 

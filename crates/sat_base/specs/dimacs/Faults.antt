@@ -12,7 +12,7 @@ use Rattle.sat_base.specs.dimacs.Dimacs.{PartialClause, Malformed, Limit, Fails,
 use Rattle.sat_base.specs.dimacs.Parsing.{NoFault, unless_fault, whole_lines, IsSoundText, HasFaultOn}
 use Rattle.sat_base.specs.dimacs.ParserPlaces.{HaveTakenTokens}
 
--- `HasTakenSoundly text machine` holds if `machine` has received `text`, which has no fault so far.
+-- `HasTakenSoundly text machine` holds if the tokenizer `machine` has received `text`, which has no fault so far.
 pub record HasTakenSoundly (text : List ℕ) (machine : Tokenizer) : Type 0 where
   pub before : List (ℕ × Token)  -- the tokens so far
   pub all : List (List ℕ)  -- their clauses
@@ -48,7 +48,8 @@ OutOfMemoryOrFault (errors.Malformed line) text = HasFaultOn line Malformed text
 OutOfMemoryOrFault (errors.Limit line) text = HasFaultOn line Limit text
 OutOfMemoryOrFault e text = ⊥
 
--- `ReadsNext result room text old new` holds if one read with `result` was made, or none because the text has ended.
+-- `ReadsNext result room text old new` holds if one read with `result` was made (`ReadsOnce`), or none because `text`,
+-- which was read before, has ended.
 abbrev pub ReadsNext : {E : Type 0} → Result ℕ E → List ℕ → List ℕ → Reader → Reader → Type 0
 ReadsNext {E} (Ok n) room text old new = ReadsOnce {E = E} (Ok n) room old new ⊎ ((n ≡ 0) × (new ≡ old) × HasEnded text)
 ReadsNext {E} (Err e) room text old new = ReadsOnce {E = E} (Err e) room old new

@@ -12,7 +12,7 @@ use Rattle.sat_base.specs.dimacs.Dimacs.{PartialClause, Dimacs, clauses_of}
 use Rattle.sat_base.specs.dimacs.Collecting.{partial_clause_in}
 use Rattle.sat_base.specs.dimacs.Parsing.{Progress, NoFault, clauses_read, lines_read, whole_lines, capped_numbers, last_byte}
 
--- what a caller knows about a parser
+-- what a caller knows about the parser `p`
 abbrev pub progress_of : Parser → Progress
 progress_of p = record { fed = p.history.fed; taken = p.history.taken; stopped = p.stopped; ended = p.ended }
 
@@ -25,12 +25,12 @@ with_parser p (Err e) = Err e
 abbrev pub all_in : Parser → List (List ℕ)
 all_in p = p.history.taken ++ p.clauses.formula.clauses
 
--- the reading of a formula with the clauses `cs` before its own
+-- the meaning of a text, with the clauses `cs` before its own
 abbrev pub prepend_clauses : List (List ℕ) → Dimacs → Dimacs
 prepend_clauses cs d = record { clauses = cs ++ d.clauses; ending = d.ending }
 
 -- `HaveTakenTokens before all hand` holds if the tokens `before` complete the clauses `all` and leave `hand`
--- unfinished, so that the clauses of any continuation come after `all`.
+-- unfinished: whatever tokens follow, the clauses are `all` and then those that they complete from `hand` on.
 pub record HaveTakenTokens (before : List (ℕ × Token)) (all : List (List ℕ)) (hand : PartialClause) : Type 0 where
   pub says : (last : ℕ) (ts : List (ℕ × Token)) → clauses_of None last (before ++ ts) ≡ prepend_clauses all (clauses_of hand last ts)
   pub sound : (ts : List (ℕ × Token)) → NoFault hand ts → NoFault None (before ++ ts)
@@ -57,8 +57,8 @@ pub record IsParser (p : Parser) : Type 0 where
   pub header : p.clauses.header ≡ capped_numbers (dimacs_header (lines_read (progress_of p)))
   pub goes : p.stopped ≡ false → IsGoingParser p
 
--- `EndsClean result p` holds if `result` is that of the end of the text after its last word: `Ok` between clauses,
--- otherwise malformed on the last line.
+-- `EndsClean result p` holds if `result` is that of the end of the text after its last word: `Ok` if no clause is
+-- unfinished, otherwise malformed on the last line.
 abbrev pub EndsClean : Result (Unit {0}) DimacsError → Parser → Type 0
 EndsClean (Ok u) p = partial_clause_in p.clauses ≡ None
 EndsClean (Err (errors.Malformed line)) p =

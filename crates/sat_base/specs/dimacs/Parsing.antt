@@ -37,7 +37,7 @@ cut_short p = record p { stopped = true }
 abbrev pub at_its_end : Progress → Progress
 at_its_end p = record p { stopped = true; ended = true }
 
--- the bytes whose words have ended: up to the last blank, or all bytes if the text has ended
+-- the accepted bytes whose words have ended: up to the last blank, or all bytes if the text has ended
 abbrev pub words_read : Progress → List ℕ
 words_read p = if p.ended then p.fed else up_to_last_blank p.fed
 
@@ -59,7 +59,7 @@ abbrev pub whole_lines : List ℕ → List ℕ
 whole_lines [] = []
 whole_lines (b ∷ bs) = if has_LF (b ∷ bs) then b ∷ whole_lines bs else []
 
--- the bytes whose lines have ended, or all bytes if the text has ended
+-- the accepted bytes whose lines have ended: up to the last LF, or all bytes if the text has ended
 abbrev pub lines_read : Progress → List ℕ
 lines_read p = if p.ended then p.fed else whole_lines p.fed
 
@@ -68,13 +68,12 @@ abbrev pub capped_numbers : Option (ℕ × ℕ) → Option (ℕ × ℕ)
 capped_numbers None = None
 capped_numbers (Some h) = Some (capped h.0, capped h.1)
 
--- `EndsAt ending p` holds if however the text continues, its clauses are those already read, and `ending` is its
--- ending.
+-- `EndsAt ending p` holds if, however the text continues, its clauses are those already read and its ending is
+-- `ending`.
 abbrev pub EndsAt : Ending → Progress → Type 0
 EndsAt ending p = (rest : List ℕ) → dimacs (p.fed ++ rest) ≡ record { clauses = clauses_read p; ending = ending }
 
--- `unless_fault effect more` holds if `effect` is not a fault, and `more` holds for the unfinished clause after the
--- token.
+-- `unless_fault effect more` holds if `effect` is not a fault, and `more` holds for the unfinished clause after it.
 abbrev pub unless_fault : TokenEffect → (PartialClause → Type 0) → Type 0
 unless_fault (GoesOn hand) more = more hand
 unless_fault (Ends clause) more = more None
@@ -100,12 +99,13 @@ abbrev pub GaveSound : Reader → Reader → Type 0
 GaveSound old new = (text : List ℕ) × GavePrefix old new text × IsSoundText text
     × (old.calls < new.calls → new.ended ≡ true → (dimacs text).ending ≡ Clean)
 
--- `EndsInLastPiece text` holds if fewer bytes than one read can give come after a prefix of the text that ends it.
+-- `EndsInLastPiece text` holds if, after any prefix in which a line that begins with `%` has ended the text, fewer
+-- bytes follow than one read can give.
 abbrev pub EndsInLastPiece : List ℕ → Type 0
 EndsInLastPiece text = (front rest : List ℕ) → text ≡ front ++ rest → HasEnded front → length rest < piece_size
 
--- `StopsReading old new` holds if `EndsInLastPiece` holds for what the reader gave: nothing was read after the line
--- that ends the text.
+-- `StopsReading old new` holds if `EndsInLastPiece` holds for what the reader gave: no piece was read after the one in
+-- which a line that begins with `%` ends the text.
 abbrev pub StopsReading : Reader → Reader → Type 0
 StopsReading old new = (text : List ℕ) × GavePrefix old new text × EndsInLastPiece text
 
@@ -131,14 +131,15 @@ pub record EndsNumber (text whole : List ℕ) : Type 0 where
   pub value : ℕ
   pub number : tokens whole ≡ before ++ ((scan whole).last, Number negative value) ∷ []
 
--- `GoesWell text byte` holds if `byte` is a blank that ends a number after this text, and no word so far is a fault.
+-- `GoesWell text byte` holds if `byte` is a blank that ends a number after this text, and no word so far is a fault. So
+-- the parser may need memory there.
 pub record GoesWell (text : List ℕ) (byte : ℕ) : Type 0 where
   pub blank : is_blank byte ≡ true
   pub number : EndsNumber text (text ++ byte ∷ [])
   pub sound : NoFault None (tokens (text ++ byte ∷ []))
 
 -- `EndsWell text` holds if the text ends cleanly with a number, which is then a zero, and no line that begins with `%`
--- has ended it earlier.
+-- has ended it earlier. So the parser may need memory at its end.
 pub record EndsWell (text : List ℕ) : Type 0 where
   pub number : EndsNumber text text
   pub clean : (dimacs text).ending ≡ Clean
@@ -245,8 +246,8 @@ ParsesInParts old new (Ok p) = (text : List ℕ) × GavePrefix old new text × H
 ParsesInParts old new (Err (parts.Dimacs e)) = GaveEnough old new (Parses (Err e))
 ParsesInParts old new (Err (parts.Caller e)) = Unit {0}
 
--- `Visits calls s answer t` holds if the closure is called with the parser and returns `answer`; closure and parser may
--- change.
+-- `Visits calls s answer t` holds if the closure is called with the parser and returns `answer`. The closure and the
+-- parser are `s` before the call, and `t` after it.
 abbrev pub Visits : {F E : Type 0} → Calls F E → F × Progress → Result (Unit {0}) E → F × Progress → Type 0
 Visits calls s answer t = (p : MutBor Progress) × (q : MutBor Progress) × (p.now ≡ s.1) × (q.now ≡ t.1) × calls s.0 p answer q t.0
 

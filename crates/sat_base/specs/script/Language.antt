@@ -3,7 +3,7 @@ use Rattle.std.specs.Prelude.{ℕ, ◌≡◌, Bool, true, not, ◌&&◌, Option,
 use Rattle.sat_base.specs.text.Text.{Token, Number, Letter, Header, Wrong, tokens, dimacs_header}
 use Rattle.sat_base.specs.script.Script.{Literal, Command, Clause, Ask, Hide, Witness, Sample, ScriptEnding, Clean, Malformed, names_of, has_ask, is_clean}
 
--- the kinds of command, including clauses, which no letter begins
+-- the kinds of command: a clause, which no letter begins, and the commands that `a`, `h`, `w` and `s` begin
 pub data Kind : Type 0 where
   OfClause : Kind
   OfAsk : Kind
@@ -24,7 +24,7 @@ pub data PartialCommand : Type 0 where
   Nothing : PartialCommand
   Within : Kind → List Literal → PartialCommand
 
--- the effect of a token: the text continues, a command ends, or the text is malformed
+-- the effect of a token: the unfinished command is now this one or none, a command ends, or the text is malformed
 pub data CommandTokenEffect : Type 0 where
   GoesOn : PartialCommand → CommandTokenEffect
   Ends : Command → CommandTokenEffect
@@ -67,7 +67,7 @@ abbrev pub with_letter : PartialCommand → ℕ → CommandTokenEffect
 with_letter Nothing b = beginning (kind_of_letter b)
 with_letter (Within kind ls) b = Fails
 
--- the effect of a token, regardless of its line
+-- the effect of a token, regardless of its line, if `hand` is the unfinished command
 abbrev pub command_token_effect : PartialCommand → Token → CommandTokenEffect
 command_token_effect hand (Number negative value) =
     if nat_eq value 0 then Ends (command_in hand) else literal_effect hand (record { name = value; positive = not negative })

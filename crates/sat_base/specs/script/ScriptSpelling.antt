@@ -9,8 +9,8 @@ use Rattle.sat_base.specs.script.Language.{Kind, OfClause, OfAsk, OfHide, OfWitn
 abbrev pub number_of : Literal → Token
 number_of l = Number (not l.positive) l.name
 
--- `AreNamesOfKind kind ls` holds if all names are at least 1, and all literals are positive unless `kind` is a clause
--- or an ask.
+-- `AreNamesOfKind kind ls` holds if the literals are allowed in a command of this kind: all names are at least 1, and
+-- all literals are positive unless it is a clause or an ask.
 abbrev pub AreNamesOfKind : Kind → List Literal → Type 0
 AreNamesOfKind kind ls = AllByRecursion (λ l. (0 < l.name) × (allows_sign kind l.positive ≡ true)) ls
 
@@ -45,7 +45,7 @@ SpellsCommands [] ts = ts ≡ []
 SpellsCommands (c ∷ cs) ts = (front : List Token) × (rest : List Token) × SpellsCommand c front × SpellsCommands cs rest
     × (ts ≡ front ++ rest)
 
--- `BeginsNone ts` holds if there are tokens, and no prefix of them spells a command.
+-- `BeginsNone ts` holds if `ts` is not empty, and no prefix of it spells a command.
 pub record BeginsNone (ts : List Token) : Type 0 where
   pub some : ts ≡ [] → ⊥
   pub none : (c : Command) (front rest : List Token) → SpellsCommand c front → ts ≡ front ++ rest → ⊥

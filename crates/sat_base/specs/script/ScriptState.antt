@@ -75,7 +75,7 @@ for_each f (name ∷ names) j = for_each f names (f name j)
 abbrev pub introduce : ℕ → ScriptState → ScriptState
 introduce name j = for_each with_name (new_names name j) j
 
--- the state in which `name` is no longer in use
+-- the state after `name` is hidden: it is no longer in use
 abbrev pub without_name : ℕ → ScriptState → ScriptState
 without_name name j = record j { in_use = filter (λ n. not (n.name == name)) j.in_use }
 
@@ -85,7 +85,7 @@ without_name name j = record j { in_use = filter (λ n. not (n.name == name)) j.
 abbrev pub identity_lit : ScriptState → Literal → ℕ
 identity_lit j l = mk_lit (unwrap_or (identity_of j l.name) 0) l.positive
 
--- the state after the variable of `name` gets this mode; `name` is in use
+-- the state after the variable of `name`, which is in use, gets this mode
 abbrev pub with_mode : NameMode → ℕ → ScriptState → ScriptState
 with_mode mode name j = record j { modes = set j.modes (unwrap_or (identity_of j name) 0) mode }
 

@@ -11,8 +11,8 @@ abbrev pub NamesIncrease : List Named → Type 0
 NamesIncrease [] = Unit {0}
 NamesIncrease (n ∷ ns) = AllByRecursion (λ m. n.name < m.name) ns × NamesIncrease ns
 
--- `ScriptStateInvariant j` holds if names in use increase and are below `first_unused`, which is at most one past the
--- limit, every identity below `identity_count` has a mode, and no other identity occurs.
+-- `ScriptStateInvariant j` holds if the names in use increase and are below `first_unused`, which is at most one more
+-- than the limit; exactly the identities below `identity_count` have a mode; and no other identity occurs.
 pub record ScriptStateInvariant (j : ScriptState) : Type 0 where
   pub limit : j.first_unused ≤ var_limit + 1
   pub order : NamesIncrease j.in_use
@@ -25,7 +25,7 @@ pub record ScriptStateInvariant (j : ScriptState) : Type 0 where
 abbrev pub ScriptStateInvariantHolds : Type 0
 ScriptStateInvariantHolds = (commands : List Command) → ScriptStateInvariant (after_script commands initial_state)
 
--- the valuation that agrees with `a` below variable `n` and is false from `n` on
+-- the valuation that agrees with `a` on the variables below `n`, and makes all others false
 abbrev pub only_below : ℕ → Valuation → Valuation
 only_below n a = λ v. if nat_lt v n then a v else false
 
@@ -47,7 +47,7 @@ Increase (x ∷ xs) = AllByRecursion (λ y. x < y) xs × Increase xs
 abbrev pub AreInUse : ScriptState → List ℕ → Type 0
 AreInUse j names = AllByRecursion (λ name. (i : ℕ) × (identity_of j name ≡ Some i)) names
 
--- `NamesAreListed` holds if an increasing list of exactly the names in use is the list that the state has.
+-- `NamesAreListed` holds if every increasing list of exactly the names in use is the list of names in the state.
 abbrev pub NamesAreListed : Type 0
 NamesAreListed = (j : ScriptState) (names : List ℕ) → NamesIncrease j.in_use → Increase names
     → ((name i : ℕ) → identity_of j name ≡ Some i → Among name names)
@@ -56,7 +56,7 @@ NamesAreListed = (j : ScriptState) (names : List ℕ) → NamesIncrease j.in_use
 -- `NamesAreInUse` says why the default identity 0 in `identity_lit` and `with_mode` is never needed: both are only used
 -- for names in use. This holds in every state, even in one that no script reaches.
 pub record NamesAreInUse : Type 0 where
-  -- Names are in use once they are introduced. `accepted` introduces the names of a clause or an ask before it uses `identity_lit`, and every other
+  -- Names are in use once they are introduced. `state_after_accepted` introduces the names of a clause or an ask before it uses `identity_lit`, and every other
   -- name before it sets the mode.
   pub introduced : (j : ScriptState) (names : List ℕ) → AreInUse (for_each introduce names j) names
   -- All names of a correct model are in use. So are those of a correct core, if the names of its ask are in use.

@@ -31,12 +31,12 @@ Then {A} {B} F G x bytes = (a : List ℕ) × (b : List ℕ) × F x.0 a × G x.0 
 abbrev pub Both : {A B : Type 0} → Format A → Format B → Format (A × B)
 Both F G = Then F (λ _. G)
 
--- items, one after another
+-- any number of items, one after another
 abbrev pub Items : {A : Type 0} → Format A → Format (List A)
 Items {A} F [] bytes = bytes ≡ []
 Items {A} F (x ∷ xs) bytes = (a : List ℕ) × (b : List ℕ) × F x a × Items F xs b × (bytes ≡ a ++ b)
 
--- this number of items, one after another, without a count
+-- exactly `n` items, one after another, without a count
 abbrev pub Times : {A : Type 0} → Format A → ℕ → Format (List A)
 Times {A} F n xs bytes = (length xs ≡ n) × Items F xs bytes
 

@@ -22,11 +22,11 @@ step_with code.Assumptions literals hashes units = Assumptions literals
 step_with code.FailedAssumptions literals hashes units = FailedAssumptions literals hashes
 step_with code.End literals hashes units = End
 
--- the step of a kind with the lists that `Lists` holds
+-- the step of a kind with the literals, hashes and units of these lists
 abbrev pub step_held : Lists → StepKind → Step
 step_held l k = step_with k l.literals.items l.hashes.items l.units.items
 
--- the list of literals and the list of hashes that `Lists` holds
+-- the literals and the hashes of these lists
 abbrev pub both_held : Lists → List ℕ × List ℕ
 both_held l = (l.literals.items, l.hashes.items)
 

@@ -1,4 +1,4 @@
--- Numbers in groups of seven bits, low group first.
+-- Numbers in groups of seven bits (LEB128), low group first.
 use Rattle.std.specs.Prelude.{◌≡◌, ℕ, ◌+◌, ◌*◌, ◌<◌, ◌≤◌, List, [], ◌∷◌}
 use Rattle.sat_base.specs.steps.Formats.{Format}
 

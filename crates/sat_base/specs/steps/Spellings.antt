@@ -25,7 +25,7 @@ an_optional_variable = record { format = IsOptionalVariable; bytes = optional_by
 abbrev pub a_flag : Spelling Bool
 a_flag = record { format = IsFlag; bytes = flag_bytes }
 
--- how many bits the hashes of later steps have
+-- the width: how many bits the hashes of later steps have
 abbrev pub a_width : Spelling ℕ
 a_width = record { format = IsWidth; bytes = number_bytes }
 

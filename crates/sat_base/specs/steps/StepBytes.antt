@@ -3,7 +3,7 @@ use Rattle.std.specs.Prelude.{ℕ, suc, zero, ◌+◌, ◌/◌, ◌%◌, Bool, t
 use Rattle.sat_base.specs.steps.Steps.{Deletion, Redundant, Simplified, Satisfied, Step, SolverVarName, UserVarName, DeleteVar, ChangeSamplingMode, AddClause, AtClause, UnitClauses, DeleteClause, ChangeHashBits, Model, Assumptions, FailedAssumptions, End}
 use Rattle.sat_base.specs.steps.StepText.{tag_of}
 
--- a number in groups of seven bits, low group first; at most k groups are followed by another
+-- a number in groups of seven bits (LEB128), low group first; at most `k` groups are followed by another
 unfoldable pub groups : ℕ → ℕ → List ℕ
 groups zero n = n ∷ []
 groups (suc k) n = if nat_lt n 128 then n ∷ [] else (n % 128 + 128) ∷ groups k (n / 128)
@@ -17,36 +17,36 @@ abbrev pub optional_bytes : Option ℕ → List ℕ
 optional_bytes None = number_bytes 0
 optional_bytes (Some v) = number_bytes (v + 1)
 
--- 0 for false, and 1 for true
+-- the byte of a flag: 0 for false, and 1 for true
 abbrev pub flag_bytes : Bool → List ℕ
 flag_bytes false = number_bytes 0
 flag_bytes true = number_bytes 1
 
--- the number of the reason for which a clause is deleted
+-- the bytes of the number of the reason for which a clause is deleted
 abbrev pub deletion_bytes : Deletion → List ℕ
 deletion_bytes Redundant = number_bytes 0
 deletion_bytes Simplified = number_bytes 1
 deletion_bytes Satisfied = number_bytes 2
 
--- literals or hashes, one after another
+-- the bytes of literals or hashes, one after another
 abbrev pub numbers_bytes : List ℕ → List ℕ
 numbers_bytes [] = []
 numbers_bytes (n ∷ ns) = number_bytes n ++ numbers_bytes ns
 
--- literals, each with a hash
+-- the bytes of literals, each with a hash, one after another
 abbrev pub pairs_bytes : List (ℕ × ℕ) → List ℕ
 pairs_bytes [] = []
 pairs_bytes (p ∷ ps) = (number_bytes p.0 ++ number_bytes p.1) ++ pairs_bytes ps
 
--- a count, and then this number of literals or hashes
+-- the bytes of a list: a count, and then this number of literals or hashes
 abbrev pub list_bytes : List ℕ → List ℕ
 list_bytes ns = number_bytes (length ns) ++ numbers_bytes ns
 
--- a count, and then this number of literals, each with a hash
+-- the bytes of a list of units: a count, and then this number of literals, each with a hash
 abbrev pub units_bytes : List (ℕ × ℕ) → List ℕ
 units_bytes ps = number_bytes (length ps) ++ pairs_bytes ps
 
--- the fields after the tag
+-- the bytes of a step's fields, which come after its tag
 abbrev pub fields_bytes : Step → List ℕ
 fields_bytes (SolverVarName global solver) = number_bytes global ++ optional_bytes solver
 fields_bytes (UserVarName global user) = number_bytes global ++ optional_bytes user
@@ -62,7 +62,7 @@ fields_bytes (Assumptions assumptions) = list_bytes assumptions
 fields_bytes (FailedAssumptions core hashes) = list_bytes core ++ list_bytes hashes
 fields_bytes End = []
 
--- a step's tag, and the fields after it
+-- the bytes of a step: its tag, and then its fields
 abbrev pub step_bytes : Step → List ℕ
 step_bytes step = tag_of step ∷ fields_bytes step
 

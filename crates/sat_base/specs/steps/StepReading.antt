@@ -43,12 +43,12 @@ is_repeat errors.BadByte = false
 is_repeat errors.Read = false
 is_repeat errors.OutOfMemory = false
 
--- `stopped result` is true if the result stops the reader.
+-- `stopped result` is true if the result is an error that stops the reader.
 abbrev pub stopped : Result Step StepError → Bool
 stopped (Ok step) = false
 stopped (Err e) = is_stop e
 
--- `repeated result` is true if the result says that the reader was stopped before.
+-- `repeated result` is true if the result is the error that says that the reader was stopped before.
 abbrev pub repeated : Result Step StepError → Bool
 repeated (Ok step) = false
 repeated (Err e) = is_repeat e

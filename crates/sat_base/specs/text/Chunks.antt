@@ -8,6 +8,7 @@ abbrev pub Follows : {S R : Type 0} → (S → (List ℕ → R) → Type 0) → 
 Follows {S} {R} Means old bytes new = (before : List ℕ → R) → Means old before
     → (after : List ℕ → R) × Means new after × ((rest : List ℕ) → before (bytes ++ rest) ≡ after rest)
 
--- `IgnoresRest left_of` holds if the bytes to come do not change what is still to be read.
+-- `IgnoresRest left_of` holds if the bytes to come do not change what is still to be read, which `left_of` gives for
+-- them.
 abbrev pub IgnoresRest : {R : Type 0} → (List ℕ → R) → Type 0
 IgnoresRest left_of = (rest : List ℕ) → left_of rest ≡ left_of []

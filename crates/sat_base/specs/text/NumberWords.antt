@@ -14,7 +14,8 @@ digits_so_far (suc n) = decimal (suc n)
 abbrev pub NoDigit : ℕ → ℕ → ℕ → Type 0
 NoDigit limit number byte = (n : ℕ) (more : List ℕ) → IsNumberUpTo limit n → decimal n ≡ digits_so_far number ++ (byte ∷ more) → ⊥
 
--- `EndsNone number byte limit` holds if the byte is not a space, or the number before it is 0 or above the limit.
+-- `EndsNone number byte limit` holds if the byte does not end a number within the limit: it is not a space, or the
+-- number before it is 0 or above the limit.
 abbrev pub EndsNone : ℕ → ℕ → ℕ → Type 0
 EndsNone number byte limit = byte ≡ 32 → (number ≡ 0) ⊎ (limit < number)
 

@@ -33,7 +33,7 @@ stage_after Format w = with_value Vars (digits 0 w)
 stage_after (Vars v) w = with_value (Both v) (digits 0 w)
 stage_after (Both v c) w = None
 
--- the token of a header line that ends at a stage
+-- the token of a header line that ends at this stage: a header only after both numbers, otherwise `Wrong`
 abbrev pub stage_end : Stage → Token
 stage_end (Both v c) = Header v c
 stage_end stage = Wrong
@@ -67,7 +67,7 @@ abbrev pub HasNoBlank : List ℕ → Type 0
 HasNoBlank [] = Unit {0}
 HasNoBlank (b ∷ bs) = (is_blank b ≡ false) × HasNoBlank bs
 
--- `IsPosition spot` holds if the unfinished word of the position, if there is one, contains no blank.
+-- `IsPosition spot` holds if the position `spot` is possible: its unfinished word, if there is one, contains no blank.
 abbrev pub IsPosition : Position → Type 0
 IsPosition (Within x w) = HasNoBlank (x ∷ w)
 IsPosition (HeaderWithin stage x w) = HasNoBlank (x ∷ w)
@@ -105,7 +105,7 @@ unfinished_token (HeaderWithin stage x w) n = (n + 1, after_word (stage_after st
 unfinished_token Spoilt n = (n + 1, Wrong) ∷ []
 unfinished_token spot n = []
 
--- `may_after spot` is true if a header is still allowed on the next lines.
+-- `may_after spot` is true if a header is still allowed on the lines after the position `spot`.
 abbrev pub may_after : Position → Bool
 may_after (Fresh may) = may
 may_after (Leading may) = may
@@ -139,7 +139,7 @@ following_blank (HeaderWithin stage x w) = after_header_word (stage_after stage 
 following_blank Spoilt = Comment false
 following_blank Over = Over
 
--- the token `Wrong` if a word is not allowed in a header line, otherwise no token
+-- the token `Wrong` if a word is not allowed in a header line (there is no stage after it), otherwise no token
 abbrev pub spoils : Option Stage → ℕ → List (ℕ × Token)
 spoils None n = (n + 1, Wrong) ∷ []
 spoils (Some stage) n = []
@@ -151,7 +151,7 @@ ended_by_blank (HeaderWithin stage x w) n = spoils (stage_after stage (x ∷ w))
 ended_by_blank Spoilt n = (n + 1, Wrong) ∷ []
 ended_by_blank spot n = []
 
--- the line of the last byte
+-- the number of the line of the last byte, at a position after n ended lines
 abbrev pub line_at : Position → ℕ → ℕ
 line_at (Fresh may) n = n
 line_at spot n = n + 1

@@ -12,7 +12,7 @@ use Rattle.sat_base.specs.declared.text.Tokenizer.{Tokenizer}
 use Rattle.sat_base.specs.text.Text.{digits, Token, Number, Letter, Header, Wrong, token, Scan, is_letter}
 use Rattle.sat_base.specs.text.Position.{Stage, Begun, Named, Format, Vars, Both, stage_after, Position, Fresh, Leading, Comment, Between, Within, HeaderBetween, HeaderWithin, Spoilt, Over, HasNoBlank, remaining_scan, unfinished_token, ended_by_blank, following_blank, after_LF, prepend_tokens}
 
--- a count or a value, capped at 2^64-1
+-- a count or a value, capped at 2^64 - 1
 abbrev pub capped : ℕ → ℕ
 capped n = min n (2 ^ 64 - 1)
 
@@ -31,11 +31,11 @@ with_digit value digit = capped (10 * value + (digit - 48))
 abbrev pub SpellsCapped : List ℕ → ℕ → Type 0
 SpellsCapped ds value = (m : ℕ) × (digits 0 ds ≡ Some m) × (value ≡ capped m)
 
--- `BeginsWrong w` holds if every word that begins with these bytes is wrong.
+-- `BeginsWrong w` holds if every word that begins with the bytes `w` is wrong.
 abbrev pub BeginsWrong : List ℕ → Type 0
 BeginsWrong w = (more : List ℕ) → token (w ++ more) ≡ Wrong
 
--- `BeginsSpoilt s w` holds if no word that begins with these bytes is allowed at this stage of a header line.
+-- `BeginsSpoilt s w` holds if no word that begins with the bytes `w` is allowed at the stage `s` of a header line.
 abbrev pub BeginsSpoilt : Stage → List ℕ → Type 0
 BeginsSpoilt s w = (more : List ℕ) → stage_after s (w ++ more) ≡ None
 
@@ -46,7 +46,8 @@ IsStage stage.Format s = s ≡ Format
 IsStage (stage.Vars vars) s = (v : ℕ) × (vars ≡ capped v) × (s ≡ Vars v)
 IsStage (stage.Both vars clauses) s = (v : ℕ) × (c : ℕ) × (vars ≡ capped v) × (clauses ≡ capped c) × (s ≡ Both v c)
 
--- `IsAtHeader place spot` holds if the place in a header line can represent the position `spot`.
+-- `IsAtHeader place spot` holds if the place in a header line can represent the position `spot`, which has the bytes of
+-- the unfinished word.
 abbrev pub IsAtHeader : HeaderPlace → Position → Type 0
 IsAtHeader (header.Between ended) spot = (s : Stage) × IsStage ended s × (spot ≡ HeaderBetween s)
 IsAtHeader header.P spot = spot ≡ HeaderWithin Begun 112 []
@@ -114,8 +115,8 @@ abbrev pub BeganHeader : CodeStage → ℕ → Option HeaderPlace → Type 0
 BeganHeader ended byte None = (s : Stage) → IsStage ended s → BeginsSpoilt s (byte ∷ [])
 BeganHeader ended byte (Some place) = (s : Stage) → IsStage ended s → IsAtHeader place (HeaderWithin s byte [])
 
--- `IsCappedToken given tokens` holds if after any number of ended lines, the only one of `tokens` is that which `given`
--- represents, on the next line, or there is none if `given` is `None`.
+-- `IsCappedToken given tokens` holds if, after any number of ended lines, `tokens` gives one token, that which `given`
+-- represents, on the next line, or none if `given` is `None`.
 abbrev pub IsCappedToken : Option CodeToken → (ℕ → List (ℕ × Token)) → Type 0
 IsCappedToken None tokens = (n : ℕ) → tokens n ≡ []
 IsCappedToken (Some t) tokens = (given : Token) × (t ≡ capped_token given) × ((n : ℕ) → tokens n ≡ (n + 1, given) ∷ [])
@@ -141,7 +142,7 @@ abbrev pub IsStageIf : Option CodeStage → Option Stage → Type 0
 IsStageIf None given = given ≡ None
 IsStageIf (Some ended) given = (s : Stage) × IsStage ended s × (given ≡ Some s)
 
--- `LeadsAfter old new` holds if a blank that does not end a line leads from one place to another.
+-- `LeadsAfter old new` holds if a blank other than LF leads from one place to another.
 abbrev pub LeadsAfter : Place → Place → Type 0
 LeadsAfter old new = (spot : Position) → IsAt old spot → IsAt new (following_blank spot)
 
@@ -154,7 +155,7 @@ IsBetweenWords (at.Header (header.Between ended)) = Unit {0}
 IsBetweenWords at.Over = Unit {0}
 IsBetweenWords place = ⊥
 
--- `may_come place` is true if a header is still allowed on the next lines.
+-- `may_come place` is true if a header is still allowed on the lines after this place.
 abbrev pub may_come : Place → Bool
 may_come (at.Fresh may) = may
 may_come (at.Leading may) = may
@@ -197,7 +198,7 @@ abbrev pub ReceivesPrefix : Tokenizer → List ℕ → Option CodeToken → Toke
 ReceivesPrefix old bytes given new = (before : List ℕ → Scan) → IsPositionedBefore old before
     → (after : List ℕ → Scan) × IsPositionedBefore new after × GivesAfter given bytes before after
 
--- `IsOfHeader token` holds if the token is a header or `Wrong`.
+-- `IsOfHeader token` holds if the token can be that of a header line: a header or `Wrong`.
 abbrev pub IsOfHeader : Token → Type 0
 IsOfHeader (Number negative value) = ⊥
 IsOfHeader (Letter b) = ⊥

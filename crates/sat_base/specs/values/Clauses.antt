@@ -7,23 +7,23 @@ use Rattle.sat_base.specs.values.Literals.{is_positive, variable}
 abbrev pub Valuation : Type 0
 Valuation = ℕ → Bool
 
--- Returns `true` if a literal is true in a valuation.
+-- `literal_true a l` is true if the literal `l` is true in the valuation `a`.
 abbrev pub literal_true : Valuation → ℕ → Bool
 literal_true a l = if is_positive l then a (variable l) else not (a (variable l))
 
--- Returns `true` if at least one literal of the clause is true in the valuation.
+-- `clause_true a ls` is true if at least one literal of the clause `ls` is true in the valuation `a`.
 abbrev pub clause_true : Valuation → List ℕ → Bool
 clause_true a [] = false
 clause_true a (l ∷ ls) = literal_true a l || clause_true a ls
 
--- the valuation with the value at v flipped
+-- the valuation `a` with the value of the variable `v` flipped
 abbrev pub flipped : ℕ → Valuation → Valuation
 flipped v a = λ x. if x == v then not (a x) else a x
 
--- `EachTrue a ls` holds if all literals of the list are true in the valuation.
+-- `EachTrue a ls` holds if all literals of `ls` are true in the valuation `a`.
 abbrev pub EachTrue : Valuation → List ℕ → Type 0
 EachTrue a = AllByRecursion (λ l. literal_true a l ≡ true)
 
--- `EachHolds a cs` holds if the valuation satisfies all clauses of the list.
+-- `EachHolds a cs` holds if the valuation `a` satisfies all clauses of `cs`.
 abbrev pub EachHolds : Valuation → List (List ℕ) → Type 0
 EachHolds a = AllByRecursion (λ c. clause_true a c ≡ true)

@@ -6,7 +6,8 @@ abbrev pub pieces : {A : Type 0} → ℕ → List ℕ → List A → List (List 
 pieces from [] xs = []
 pieces from (end ∷ ends) xs = slice_range xs from end ∷ pieces end ends xs
 
--- `AreEnds from ends xs` holds if the places ascend, starting at `from`, and the last is the length of the list.
+-- `AreEnds from ends xs` holds if the places `ends` ascend from `from` on (equal ones are allowed), and the last is the
+-- length of the list `xs`.
 abbrev pub AreEnds : {A : Type 0} → ℕ → List ℕ → List A → Type 0
 AreEnds from [] xs = length xs ≡ from
 AreEnds from (end ∷ ends) xs = (from ≤ end) × AreEnds end ends xs

@@ -23,7 +23,7 @@ value_at missing t v = if nat_lt v (near_count t) then slice_index_or t.near.ite
 abbrev pub HasPlaceFor : {T : Type 0} → Table T → ℕ → Type 0
 HasPlaceFor t v = (v < near_count t) ⊎ IsSome (get nat_cmp t.far v)
 
--- `KeepsRoom old new` holds if every place that had room still has it.
+-- `KeepsRoom old new` holds if every place whose value could be set without allocating in `old` has such room in `new`.
 abbrev pub KeepsRoom : {T : Type 0} → (old new : Table T) → Type 0
 KeepsRoom old new = (v : ℕ) → HasPlaceFor old v → HasPlaceFor new v
 

@@ -153,7 +153,7 @@ spell n (x ∷ xs) h =
     let low : x - 48 ≡ x % 16 = grind (arith, nat_tests) in
     rw e (ap (λ d. digits (10 * n + d) xs) low ∙ spell (10 * n + x % 16) xs h.1)
 
--- zeros in front change no value, and are digits
+-- leading zeros are digits, and do not change the value
 zeros_first : (j : ℕ) (ds : List ℕ) → value_after 0 (map (λ b. b % 16) (replicate j 0 ++ ds)) ≡ value_after 0 (map (λ b. b % 16) ds)
 zeros_first zero ds = refl
 zeros_first (suc j) ds = zeros_first j ds

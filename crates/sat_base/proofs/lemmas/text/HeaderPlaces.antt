@@ -41,7 +41,7 @@ begun_no_clauses vars b d s (v, h, e) more = rw e (spoilt_number b [] d (Both v)
 pub begun_after_both : (vars clauses b : ℕ) → BeganHeader (stage.Both vars clauses) b None
 begun_after_both vars clauses b s (v, c, h, k, e) more = rw e refl
 
--- WORDS GO ON
+-- WORDS CONTINUE
 -- a byte that begins a word
 pub between_moves : (ended : CodeStage) (b : ℕ) (o : Option HeaderPlace) → is_blank b ≡ false → BeganHeader ended b o → MovesHeader (header.Between ended) b o
 between_moves ended b None f began = λ spot i.
@@ -53,7 +53,7 @@ between_moves ended b (Some place) f began = λ spot i.
     let h = i.1 in
     rw i.2 (HeaderWithin s b [], began s h, λ n rest. header_between_word s n b rest (no_LF b f))
 
--- a byte that spoils the word
+-- a byte with which the word is not allowed
 spoilt_by : (s : Stage) (x : ℕ) (w : List ℕ) (b : ℕ) → HasNoBlank (x ∷ w) → is_blank b ≡ false → BeginsSpoilt s ((x ∷ w) ++ b ∷ []) → MovesPosition (HeaderWithin s x w) b Spoilt
 spoilt_by s x w b solid f h n rest = header_within_more s x w n b rest (no_LF b f) ∙ header_spoilt s x (w ++ b ∷ []) n rest (Solid-more (x ∷ w) b solid f) h
 

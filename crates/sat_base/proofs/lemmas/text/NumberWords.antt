@@ -99,7 +99,7 @@ no_space [] (c ∷ es) y p e = cc
 no_space (d ∷ ds) [] y p e = p.0 (let r : d ≡ 32 = cc in r)
 no_space (d ∷ ds) (c ∷ es) y p e = no_space ds es y p.1 (let r : ds ≡ es ++ (32 ∷ y) = cc in r)
 
--- a word that goes on after the bytes of another
+-- a word that continues after the bytes of another
 goes_on : (ds es : List ℕ) (b : ℕ) (x y : List ℕ) → Plain ds → (b ≡ 32 → ⊥) → ds ++ (b ∷ x) ≡ es ++ (32 ∷ y) → (more : List ℕ) × (es ≡ ds ++ (b ∷ more))
 goes_on [] [] b x y p other e = absurd (other (let r : b ≡ 32 = cc in r))
 goes_on [] (c ∷ es) b x y p other e = (es, let r : c ≡ b = cc in ap (λ c. c ∷ es) r)
@@ -119,7 +119,7 @@ first_byte [] b x y h e = absurd (omega arith)
 first_byte (c ∷ cs) b x y h e = (cs, let r : c ≡ b = cc in ap (λ c. c ∷ cs) r)
 
 module _ (limit : ℕ) (fits : limit < 2 ^ 64) where
-  -- a number goes on after the digits so far
+  -- a number continues after the digits so far
   pub number_goes_on : (number b : ℕ) (x : List ℕ) (n : ℕ) (tail : List ℕ) → number < 2 ^ 64 → (b ≡ 32 → number ≡ 0) → IsNumberUpTo limit n → digits_so_far number ++ (b ∷ x) ≡ decimal n ++ (32 ∷ tail) → (more : List ℕ) × (decimal n ≡ digits_so_far number ++ (b ∷ more))
   number_goes_on zero b x n tail small space k e = first_byte (decimal n) b x tail (decimal_nonempty n (omega arith)) e
   number_goes_on (suc number) b x n tail small space k e = goes_on (decimal (suc number)) (decimal n) b x tail (plain_so_far (suc number) small) (λ s. let z : suc number ≡ 0 = space s in omega arith) e
