@@ -29,8 +29,8 @@ all_in p = p.history.taken ++ p.clauses.formula.clauses
 abbrev pub prepend_clauses : List (List ℕ) → Dimacs → Dimacs
 prepend_clauses cs d = record { clauses = cs ++ d.clauses; ending = d.ending }
 
--- `HaveTakenTokens before all hand` holds if the tokens `before` complete the clauses `all` and leave `hand`
--- unfinished: whatever tokens follow, the clauses are `all` and then those that they complete from `hand` on.
+-- `HaveTakenTokens before all hand` holds if the tokens `before` complete the clauses `all`, and the clause `hand` is
+-- then unfinished: whatever tokens follow, the clauses are `all` and then those that they complete from `hand` on.
 pub record HaveTakenTokens (before : List (ℕ × Token)) (all : List (List ℕ)) (hand : PartialClause) : Type 0 where
   pub says : (last : ℕ) (ts : List (ℕ × Token)) → clauses_of None last (before ++ ts) ≡ prepend_clauses all (clauses_of hand last ts)
   pub sound : (ts : List (ℕ × Token)) → NoFault hand ts → NoFault None (before ++ ts)

@@ -79,7 +79,7 @@ unless_fault (GoesOn hand) more = more hand
 unless_fault (Ends clause) more = more None
 unless_fault (Fails ending) more = ⊥
 
--- `NoFault hand ts` holds if none of the tokens is a fault, starting from the unfinished clause `hand` or none.
+-- `NoFault hand ts` holds if none of the tokens is a fault, if the clause `hand`, or none, is unfinished before them.
 abbrev pub NoFault : PartialClause → List (ℕ × Token) → Type 0
 NoFault hand [] = Unit {0}
 NoFault hand (t ∷ ts) = unless_fault (token_effect hand t.0 t.1) (λ h. NoFault h ts)
