@@ -100,12 +100,12 @@ effect (Assumptions ls) f = record (with_literals_known ls f) { assumed = ls }
 effect (FailedAssumptions core hashes) f = f
 effect End f = record f { ended = true }
 
--- What is stored after accepted steps, the newest first. A unit conflict is settled before the next step is judged.
+-- What is stored after accepted steps, the newest first. A unit conflict is settled before the next step is checked.
 abbrev pub stored_after : List Step → Stored
 stored_after [] = nothing_stored
 stored_after (step ∷ earlier) = effect step (with_conflict_settled (stored_after earlier))
 
--- What is stored when the step after these is judged.
+-- What is stored when the step after these is checked.
 abbrev pub ready_after : List Step → Stored
 ready_after steps = with_conflict_settled (stored_after steps)
 

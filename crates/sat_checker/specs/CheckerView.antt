@@ -17,7 +17,7 @@ use Rattle.sat_checker.specs.declared.error.CheckerError.TheVariants as errors
 use Rattle.sat_checker.specs.declared.processing.ProcessingError.{ProcessingError}
 use Rattle.sat_checker.specs.declared.processing.ProcessingError.TheVariants as faults
 
--- What contracts see of a checker: the kernel, which judges the steps, and the listeners.
+-- What contracts see of a checker: the kernel, which checks the steps, and the listeners.
 pub record CheckerView (L : Type 0) : Type 0 where
   pub kernel : Kernel
   pub listeners : L
@@ -26,7 +26,7 @@ pub record CheckerView (L : Type 0) : Type 0 where
 abbrev pub seen : {L : Type 0} → Kernel → L → CheckerView L
 seen kernel listeners = record { kernel = kernel; listeners = listeners }
 
--- The kernel of a checker, which judges steps.
+-- The kernel of a checker, which checks steps.
 abbrev pub kernel_of : {P T : Type 0} → Checker P T → Kernel
 kernel_of c = c.kernel
 

@@ -1,4 +1,4 @@
--- What contracts see of the kernel, the part of a checker that judges steps: the accepted steps (input clauses
+-- What contracts see of the kernel, the part of a checker that checks steps: the accepted steps (input clauses
 -- included), and whether it has failed. Listeners are left out.
 use Rattle.std.specs.Prelude.{ℕ, ◌≡◌, ◌≢◌, ◌⊎◌, ◌+◌, ◌≤◌, Bool, true, false, None, List, ◌∷◌, Result, Ok, Err}
 use Rattle.sat_base.specs.steps.Steps.{Step}

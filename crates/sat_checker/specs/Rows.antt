@@ -14,7 +14,7 @@ following (step ∷ steps) earlier = following steps (step ∷ earlier)
 abbrev pub left_by : List Step → Stored
 left_by steps = stored_after (following steps [])
 
--- What is stored when the next step after these is judged.
+-- What is stored when the next step after these is checked.
 abbrev pub ready_by : List Step → Stored
 ready_by steps = ready_after (following steps [])
 
@@ -282,7 +282,7 @@ Tautologies = let input : List Step = AddClause (0 ∷ 1 ∷ []) ∷ [] in let d
     AllAccepted input × ((left_by input).next_id ≡ 1) × (is_known 0 (left_by input) ≡ true) × ((left_by input).clauses ≡ [])
     × AllAccepted derived × ((left_by derived).next_id ≡ 0) × (is_known 1 (left_by derived) ≡ true) × ((left_by derived).clauses ≡ [])
 
--- `WitnessNamed` holds if a witness variable may get a name, and stays a witness.
+-- `WitnessNamed` holds if a witness variable may get a name, and is still a witness then.
 abbrev pub WitnessNamed : Type 0
 WitnessNamed = let steps : List Step = Assumptions (0 ∷ []) ∷ ChangeSamplingMode 0 false ∷ UserVarName 0 (Some 7) ∷ [] in AllAccepted steps × (mode_of 0 (left_by steps) ≡ Witness)
 
@@ -302,7 +302,7 @@ EmptyAfter = AllAccepted (two_clauses ++ AtClause false (0 ∷ []) (hash_of (0 �
 abbrev pub EmptyBefore : Type 0
 EmptyBefore = LastRefused two_clauses (AtClause false (0 ∷ []) (5 ∷ hash_of (0 ∷ 2 ∷ []) ∷ hash_of (0 ∷ 3 ∷ []) ∷ []))
 
--- `LastAfterConflict` holds if a unit that contradicts a stored unit is not stored, so that [2, 3] stays the last
+-- `LastAfterConflict` holds if a unit that contradicts a stored unit is not stored, so that [2, 3] is still the last
 -- irredundant clause.
 abbrev pub LastAfterConflict : Type 0
 LastAfterConflict = AllAccepted (AddClause (0 ∷ []) ∷ AddClause (2 ∷ 4 ∷ 6 ∷ []) ∷ AddClause (2 ∷ 4 ∷ []) ∷ AddClause (1 ∷ []) ∷ DeleteClause (2 ∷ 4 ∷ 6 ∷ []) Simplified ∷ [])

@@ -132,7 +132,7 @@ with_units (l ∷ ls) f = with_units ls (with_unit l f)
 abbrev pub with_variable : ℕ → Variable → Stored → Stored
 with_variable v x f = record f { variables = λ w. if w == v then x else f.variables w }
 
--- What is stored after these variables become known; their modes and names stay.
+-- What is stored after these variables become known; their modes and names are unchanged.
 abbrev pub with_known : List ℕ → Stored → Stored
 with_known vs f = record f { variables = λ v. if is_among vs v then record (f.variables v) { known = true } else f.variables v }
 

@@ -450,7 +450,7 @@ impl Formula {
         }
     }
 
-    /// Deletes a redundant clause whose literals are in any order, if no listener hears of it and the clause is the
+    /// Deletes a redundant clause whose literals are in any order, if there is no listener and the clause is the
     /// first with its hash. Returns `true` if it is deleted. Otherwise, no clause changes.
     #[inline(always)]
     pub fn delete_given(

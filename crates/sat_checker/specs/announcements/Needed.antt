@@ -1,4 +1,4 @@
--- Which stored units and clauses a clause that passed the propagation check rests on.
+-- Which stored units and clauses a clause that passed the propagation check follows from.
 use Rattle.std.specs.Prelude.{ℕ, ◌==◌, not, ◌&&◌, List, [], ◌∷◌, ◌++◌, map, filter, Option, None, Some, if◌then◌else◌}
 use Rattle.sat_base.specs.values.Literals.{negated}
 use Rattle.sat_checker.specs.LiteralSets.{is_among, is_tautology, canonical}
@@ -6,7 +6,7 @@ use Rattle.sat_checker.specs.Stored.{StoredClause, StoredUnit, Stored, unit_lite
 use Rattle.sat_checker.specs.Storing.{unit_id}
 use Rattle.sat_checker.specs.inner.Walk.{ClauseState, falsified, becomes_unit, neither, clause_state}
 
--- What a conflict rests on, followed backwards: literals that are true, and the needed clauses in the order visited,
+-- The causes of a conflict, followed backwards: literals that are true, and the needed clauses in the order visited,
 -- the falsified clause last.
 pub record ConflictCauses : Type 0 where
   pub literals : List ℕ
@@ -29,7 +29,7 @@ causes_by falsified c assumed following = record { literals = map negated c.lite
 causes_by (becomes_unit l) c assumed following = with_cause l c (following (l ∷ assumed))
 causes_by neither c assumed following = following assumed
 
--- What the first conflict of these clauses rests on, if every clause that is unit when it is visited is used.
+-- The causes of the first conflict of these clauses, if every clause that is unit when it is visited is used.
 abbrev pub conflict_causes : List ℕ → List StoredClause → ConflictCauses
 conflict_causes assumed [] = record { literals = []; clauses = [] }
 conflict_causes assumed (c ∷ cs) = causes_by (clause_state assumed c.literals) c assumed (λ more. conflict_causes more cs)
@@ -62,9 +62,9 @@ abbrev pub unit_alone : Option ℕ → List ℕ → List ℕ
 unit_alone (Some id) ids = id ∷ []
 unit_alone None ids = ids
 
--- The ids that a clause rests on, if it passes the check under these hashes. A tautology rests on nothing. A clause
--- that units satisfy rests on the unit of its lowest such literal. Any other clause rests on the needed units, by
--- increasing id, and then on the needed clauses, in the order visited.
+-- The ids that a clause follows from, if it passes the check under these hashes. A tautology needs no ids. A clause
+-- that units satisfy follows from the unit of its lowest such literal. Any other clause follows from the needed units,
+-- by increasing id, and then the needed clauses, in the order visited.
 abbrev pub propagations : Stored → List ℕ → List ℕ → List ℕ
 propagations f clause hashes =
     let denied : List ℕ = map negated clause in

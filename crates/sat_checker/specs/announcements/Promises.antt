@@ -28,8 +28,8 @@ pub record RestsOn (f : Stored) (clause ids : List ℕ) : Type 0 where
   pub increasing : IsIncreasing (map (λ u. u.id) units)
   pub conflict : UnitInTurn (map negated clause) (map (λ u. u.literal ∷ []) units ++ map (λ c. c.literals) clauses)
 
--- `PropagationsInTurn` holds if every clause that passes the check and is no tautology rests on its propagations, also
--- after more units are added.
+-- `PropagationsInTurn` holds if every clause that passes the check and is no tautology follows by propagation from the
+-- units and clauses that `propagations` lists, also after more units are added.
 abbrev pub PropagationsInTurn : Type 0
 PropagationsInTurn = (steps : List Step) (front clause hashes : List ℕ) → AcceptsAll steps → PassesByHashes (with_units front (ready_after steps)) clause hashes → is_tautology clause ≡ false →
     RestsOn (with_units front (ready_after steps)) clause (propagations (with_units front (ready_after steps)) clause hashes)
@@ -49,7 +49,7 @@ pub data ClauseWalk : List ℕ → List StoredClause → List Reason → StoredC
   is_neither : (assumed : List ℕ) (c : StoredClause) (cs : List StoredClause) (reasons : List Reason) (last : StoredClause) →
       (IsFalsified assumed c.literals → ⊥) → ((l : ℕ) → IsUnit assumed c.literals l → ⊥) → ClauseWalk assumed cs reasons last → ClauseWalk assumed (c ∷ cs) reasons last
 
--- `IsNeededLiteral reasons last m` holds if the conflict in `last`, followed backwards, rests on the literal `m`: it is
+-- `IsNeededLiteral reasons last m` holds if the conflict in `last`, followed backwards, needs the literal `m`: it is
 -- the negation of a literal of `last`, or of another literal of a clause that implied a needed literal.
 pub data IsNeededLiteral (reasons : List Reason) (last : StoredClause) : ℕ → Type 0 where
   of_last : (l : ℕ) → is_among last.literals l ≡ true → IsNeededLiteral reasons last (negated l)
@@ -82,8 +82,8 @@ TautologiesRestOnNothing = (f : Stored) (clause hashes : List ℕ) → is_tautol
 abbrev pub IsNoEmpty : Last → Type 0
 IsNoEmpty last = (id : ℕ) → last ≢ Empty id
 
--- `DeletionsRest` holds if every clause deleted as satisfied rests on the unit that satisfies it, and every clause
--- deleted as simplified rests on the last irredundant clause stored, unless that is an empty clause.
+-- `DeletionsRest` holds if every clause deleted as satisfied follows by propagation from the unit that satisfies it,
+-- and every clause deleted as simplified from the last irredundant clause stored, unless that is an empty clause.
 abbrev pub DeletionsRest : Type 0
 DeletionsRest = (steps : List Step) (clause : List ℕ) → AcceptsAll steps →
     (Accepts (ready_after steps) (DeleteClause clause Satisfied) → RestsOn (ready_after steps) clause (option_to_list (true_unit (canonical clause) (ready_after steps).units)))
@@ -125,8 +125,8 @@ abbrev pub ConflictIsAnnounced : Type 0
 ConflictIsAnnounced = (steps : List Step) (id i j : ℕ) → delayed (stored_after steps) ≡ AtClause id false [] (i ∷ j ∷ []) ∷ [] →
     (l : ℕ) × IsAnnounced i (l ∷ []) (notices_after steps) × IsAnnounced j (negated l ∷ []) (notices_after steps)
 
--- `SimplifiedIsAnnounced` holds if every clause that may be deleted as simplified rests on an announced clause that is
--- a subset of it, possibly an empty clause.
+-- `SimplifiedIsAnnounced` holds if for every clause that may be deleted as simplified, the last irredundant clause
+-- stored is an announced subset of it, possibly an empty clause.
 abbrev pub SimplifiedIsAnnounced : Type 0
 SimplifiedIsAnnounced = (steps : List Step) (clause : List ℕ) → Accepts (ready_after steps) (DeleteClause clause Simplified) →
     (id : ℕ) × (part : List ℕ) × (option_to_list (last_id (ready_after steps).last) ≡ id ∷ []) × (is_subset_of part clause ≡ true) × IsAnnounced id part (all_notices_after steps)

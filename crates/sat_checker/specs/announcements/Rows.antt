@@ -68,7 +68,7 @@ contradicting = UserVarName 0 (Some 0) ∷ steps.AddClause (0 ∷ []) ∷ steps.
 abbrev pub contradiction_announced : List Announcement
 contradiction_announced = UserVar 0 (Some (record { name = 0; sampling = true; is_new = true })) ∷ AddClause 0 (0 ∷ []) ∷ AddClause 1 (1 ∷ []) ∷ []
 
--- The announcement of the empty clause of `contradicting`, which rests on the two units.
+-- The announcement of the empty clause of `contradicting`, which follows from the two units.
 abbrev pub empty_announced : List Announcement
 empty_announced = AtClause 2 false [] (0 ∷ 1 ∷ []) ∷ []
 

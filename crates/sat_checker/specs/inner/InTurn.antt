@@ -1,4 +1,4 @@
--- Units that are judged one after another, without allocating for the earlier ones.
+-- Units that are checked one after another, without allocating for the earlier ones.
 use Rattle.std.specs.Prelude.{ℕ, ◌==◌, ◌≡◌, Bool, true, false, not, ◌&&◌, List, [], ◌∷◌, if◌then◌else◌}
 use Rattle.sat_base.specs.values.Literals.{negated}
 use Rattle.sat_checker.specs.LiteralSets.{is_among}

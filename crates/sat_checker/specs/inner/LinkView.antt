@@ -64,7 +64,7 @@ head_at heads top = slice_index_or heads top 0
 abbrev pub with_top : ℕ → ℕ → ℕ → List Pair → List Pair
 with_top shift count top = filter (λ p. top_of shift count p.hash == top)
 
--- `IsWalk links at` holds if the links from the place `at` come to an end, and there are at most `gone` links.
+-- `IsWalk links at` holds if the links from the place `at` lead to an end, and there are at most `gone` links.
 pub record IsWalk (links : List Link) (at : ℕ) : Type 0 where
   pub few : length links ≤ gone
   pub leads : LinksPairs links at (rest links at)

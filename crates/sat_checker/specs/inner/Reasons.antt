@@ -1,4 +1,4 @@
--- What a walk notes about the clauses that it visits, and how the notes give what its conflict rests on.
+-- What a walk notes about the clauses that it visits, and how the notes give the causes of its conflict.
 use Rattle.std.specs.Prelude.{ℕ, ◌≡◌, ◌+◌, ◌<◌, Bool, true, false, List, [], ◌∷◌, ◌++◌, map, filter, Option, None, Some, length}
 use Rattle.std.specs.List.{AllByRecursion, list_any}
 use Rattle.sat_base.specs.values.Literals.{negated}
@@ -59,7 +59,7 @@ abbrev pub noted_length : List Slot → WalkNotes → ℕ
 noted_length slots passed = total_length (map (λ r. literals_at slots r.place) passed.reasons) + conflict_length slots passed.conflict
 
 -- `KeepsGround slots old assumed clauses new more left` holds if going from `old`, `assumed` and `clauses` to `new`,
--- `more` and `left` does not change what a conflict rests on. If all places noted in `old` exist, so do those in `new`.
+-- `more` and `left` does not change the causes of a conflict. If all places noted in `old` exist, so do those in `new`.
 pub record KeepsGround (slots : List Slot) (old : WalkNotes) (assumed : List ℕ) (clauses : List StoredClause) (new : WalkNotes) (more : List ℕ) (left : List StoredClause) : Type 0 where
   pub same : (rest : List StoredClause) →
       followed_back (reasons_in slots old) (conflict_causes assumed (clauses ++ rest)) ≡ followed_back (reasons_in slots new) (conflict_causes more (left ++ rest))

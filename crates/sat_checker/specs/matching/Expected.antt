@@ -72,8 +72,8 @@ EachSpelt names ls codes = AllByRecursion (λ l. (code : ℕ) × Spells names l 
 abbrev pub SameSet : (ℕ → Option ℕ) → List Literal → List ℕ → Type 0
 SameSet names ls codes = EachSpelt names ls codes × AllByRecursion (λ code. (l : Literal) × Spells names l code × Among l ls) codes
 
--- `Fits knows earlier expected step` holds if the step is what is expected after the earlier steps, with the variables
--- known that `knows` says.
+-- `Fits knows earlier expected step` holds if the step is the expected one after the earlier steps, when the variables
+-- for which `knows` is true are known.
 pub data Fits (knows : ℕ → Bool) (earlier : List Step) : Expected → Step → Type 0 where
   new_name : {name v index : ℕ} → index + 1 ≡ name → knows v ≡ false
       → Fits knows earlier (NewName name) (UserVarName v (Some index))

@@ -5,7 +5,7 @@ use Rattle.sat_checker.specs.listeners.Hearing.{hearers, HearsAll, HearsFirst, H
 use Rattle.sat_checker.specs.listeners.ProcessingView.{HearsEach}
 use Rattle.sat_checker.proofs.kernel.notify_pending.Given as goal
 
--- if the listeners now hear the remaining announcements, they have heard all of them
+-- if the listeners now receive the remaining announcements, they have received all of them
 abbrev pub invariant-loop-place : goal.invariant-loop-place
 invariant-loop-place g l = record {
   all : (m : _) → HearsAll (HearsFirst g.O.ProofProcessor.takes (HearsEach g.P.ProofProcessor.takes g.T.ProofTranscriptProcessor.reads))

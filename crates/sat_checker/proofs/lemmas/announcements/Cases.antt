@@ -1,4 +1,4 @@
--- What a clause that passes rests on, by cases: a tautology, a unit that satisfies it, or a conflict.
+-- What a clause that passes follows from, by cases: a tautology, a unit that satisfies it, or a conflict.
 use Rattle.std.proofs.Common.{ℕ, ◌≡◌, Bool, true, false, cond, List, [], ◌∷◌, ◌++◌, map, Some, None, sym, ◌∙◌, ap}
 use Rattle.std.specs.List.{list_any}
 use Rattle.sat_base.specs.values.Literals.{negated}

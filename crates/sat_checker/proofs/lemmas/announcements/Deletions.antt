@@ -1,4 +1,4 @@
--- What a deleted clause rests on, and the order of announcements.
+-- What a deleted clause follows from, and the order of announcements.
 use Rattle.std.proofs.Common.{ℕ, ◌≡◌, Bool, true, false, cond, eqb, List, [], ◌∷◌, map, refl, sym, ◌∙◌, ap, subst, Option, Some, None, inl, inr}
 use Rattle.std.proofs.lemmas.Bool.{both_ways, eqb-true}
 use Rattle.std.specs.List.{AllByRecursion, list_any}

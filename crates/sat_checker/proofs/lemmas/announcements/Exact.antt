@@ -1,4 +1,4 @@
--- Propagations are exactly what the conflict rests on.
+-- Propagations are exactly the causes of the conflict.
 use Rattle.std.proofs.Common.{ℕ, ◌≡◌, true, false, cond, eqb, List, [], ◌∷◌, ◌++◌, map, refl, sym, ◌∙◌, ap, subst, Option, Some, None, inl, inr}
 use Rattle.std.proofs.lemmas.Bool.{or_left, or_right, both_ways, eq-eqb, false_from_ne_true}
 use Rattle.std.specs.List.{AllByRecursion, list_any}

@@ -1,4 +1,4 @@
--- The clauses that a conflict rests on are unit in turn under the needed literals, the last one falsified.
+-- The clauses that a conflict needs are unit in turn under the needed literals, the last one falsified.
 use Rattle.std.proofs.Common.{ℕ, ◌≡◌, Bool, true, false, not, cond, eqb, List, [], ◌∷◌, ◌++◌, map, filter, refl, sym, ap, subst, None, ◌⊎◌, inl, inr}
 use Rattle.std.proofs.lemmas.Bool.{or_cases, or_left, or_right, both_ways, eqb-true, eq-eqb, true≢false, false_from_ne_true}
 use Rattle.std.specs.List.{AllByRecursion}

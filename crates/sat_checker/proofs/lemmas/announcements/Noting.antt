@@ -1,4 +1,4 @@
--- The notes of a walk preserve what its conflict rests on.
+-- The notes of a walk preserve the causes of its conflict.
 use Rattle.std.proofs.Common.{ℕ, suc, ◌+◌, ◌<◌, ◌≤◌, ◌≡◌, Bool, true, false, not, ◌||◌, cond, eqb, List, [], ◌∷◌, ◌++◌, length, drop, get_or, map, filter, refl, sym, ◌∙◌, ap, subst, arith, Some, None, inl, inr}
 use Rattle.std.proofs.lemmas.List.{append_assoc, append-nil, map-append, drop_more}
 use Rattle.std.proofs.lemmas.Bool.{both_ways}
@@ -178,7 +178,7 @@ both_same true b f g = sym (f refl)
 both_same false true f g = g refl
 both_same false false f g = refl
 
--- A walk that starts without notes, with the clause's literals false, explains what its conflict rests on.
+-- A walk that starts without notes, with the clause's literals false, explains the causes of its conflict.
 pub explained : (ss : List Slot) (old new : WalkNotes) (units clause more hashes : List ℕ) → old.reasons ≡ [] → denied_in_turn units clause ≡ Some more → MeetsConflict ss old more (named hashes ss) new
     → Explains ss new (conflict_causes (map negated clause ++ units) (named hashes ss))
 explained ss old new units clause more hashes e d h =

@@ -1,4 +1,4 @@
--- A clause that passes the check rests on its propagations.
+-- A clause that passes the check follows from its propagations.
 use Rattle.std.proofs.Common.{ℕ, ◌/◌, ◌≡◌, Bool, true, false, not, ◌&&◌, ◌||◌, cond, eqb, List, [], ◌∷◌, ◌++◌, map, filter, refl, sym, ◌∙◌, ap, subst, arith, Option, Some, None, ◌⊎◌, inl, inr}
 use Rattle.std.proofs.lemmas.Bool.{or_cases, or_left, or_right, or_from, both_ways, eqb-true, eq-eqb, eqb-false, ne_eqb, true≢false, cases_Bool, false_from_ne_true}
 use Rattle.std.specs.List.{AllByRecursion, list_any}
@@ -292,7 +292,7 @@ each_imp : (P Q : StoredUnit → Type 0) (us : List StoredUnit) → ((u : Stored
 each_imp P Q [] w h = tt
 each_imp P Q (u ∷ us) w h = (w u h.0, each_imp P Q us w h.1)
 
--- if no unit satisfies the clause and the walk meets a conflict, the clause rests on its causes
+-- if no unit satisfies the clause and the walk reaches a conflict, the clause follows from its causes
 module _ (f : Stored) (clause hashes : List ℕ) (sorted : Sorted f) (apart : VariablesDistinct (unit_literals f)) where
   rests_on_conflict : ((m : ℕ) → is_among clause m ≡ true → is_among (unit_literals f) m ≡ false) → walk (map negated clause ++ unit_literals f) (literals_of (clauses_named hashes f)) ≡ None
       → RestsOn f clause (conflict_ids (map negated clause) (conflict_causes (map negated clause ++ unit_literals f) (clauses_named hashes f)) f.units)
@@ -343,7 +343,7 @@ module _ (f : Stored) (clause hashes : List ℕ) (sorted : Sorted f) (apart : Va
         conflict = (among_negated clause t.found.unit.literal m, tt);
       }
 
-  -- a clause that passes because of a conflict makes the walk meet one
+  -- a clause that passes because of a conflict makes the walk reach one
   pub met : ((m : ℕ) → is_among clause m ≡ true → is_among (unit_literals f) m ≡ false) → is_tautology clause ≡ false → PassesByHashes f clause hashes → walk (map negated clause ++ unit_literals f) (literals_of (clauses_named hashes f)) ≡ None
   met none n (tautology t) = absurd (both_ways (is_tautology clause) n t)
   met none n (unit_true t) = absurd (both_ways (list_any (is_among (unit_literals f)) clause) (any_none (is_among (unit_literals f)) clause none) t)

@@ -1,4 +1,4 @@
--- What listeners have heard, call by call.
+-- What listeners have received, call by call.
 use Rattle.std.proofs.Common.{ℕ, append_assoc, ◌≡◌, ◌⊎◌, List, [], ◌∷◌, ◌++◌, ◌+◌, ◌<◌, ◌≤◌, length, arith, drop, slice_index_or, Option, None, Some, Result, Ok, Err, inl, inr, refl, sym, ap, subst, ◌∙◌}
 use Rattle.std.proofs.lemmas.Bool.{true≢false}
 use Rattle.std.proofs.lemmas.List.{drop_more, drop_all}
@@ -36,7 +36,7 @@ module _ {L : Type 0} (Hears : L → Notice → Result Unit ProcessingError → 
   up_to_more e [] us a b c h k = subst (λ x. HearsUpTo Hears e us x c) h k
   up_to_more e (t ∷ ts) us a b c h k = inr (h.0, h.1, up_to_more e ts us h.0 b c h.2 k)
 
-  -- announcements that are heard after the earlier ones
+  -- announcements that are received after the earlier ones
   pub since_more : (before ts us : List Notice) (a b c : L) → HearsSince Hears before ts a b → HearsAll Hears us b c → HearsSince Hears before (ts ++ us) a c
   since_more before ts us a b c h k = (h.0 ++ us, ap (λ z. z ++ us) h.1 ∙ append_assoc before h.0 us, all_more h.0 us a b c h.2 k)
 
@@ -61,7 +61,7 @@ module _ {L : Type 0} (Hears : L → Notice → Result Unit ProcessingError → 
     pub news_fault : (e : ProcessingError) (m : L) → Hears l (record { announcement = a; variables = variables }) (Err e) m → HearsUpTo Hears e (announced_by variables (drop i xs)) l m
     news_fault e m h = subst (λ bs. HearsUpTo Hears e (announced_by variables bs) l m) (sym here) (inl (record { announcement = a; variables = variables }, same_itself _, h))
 
-  -- the listeners have heard the announcements, with or without the delayed one
+  -- the listeners have received the announcements, with or without the delayed one
   pub heard_some : (c : Option (ℕ × ℕ)) (steps : List Step) (before : List Notice) (a b : L) → HearsSince Hears before (notices_by c steps) a b → HearsSince Hears before (notices_after steps) a b ⊎ HearsSince Hears before (all_notices_after steps) a b
   heard_some (Some conflict) steps before a b h = inl h
   heard_some None steps before a b h = inr h

@@ -44,7 +44,7 @@ module _ (k : Kernel) (steps : List Step) (kept : KeepsAfter k.state steps) wher
     | inr e ↦ conflict_of ∙ ap (λ (f : Stored). f.conflict) e ∙ settled_none (stored_after steps)
   ]
 
-  -- if no unit conflict is pending, the stored formula is the one that judges the next step
+  -- if no unit conflict is pending, the stored formula is the one that checks the next step
   pub ready_is : k.state.formula.status.conflict ≡ None → kept.formula ≡ ready_after steps
   ready_is n = elim kept.left [
     | inl e ↦ e ∙ sym (settled_already (stored_after steps) (sym (ap (λ (f : Stored). f.conflict) e) ∙ sym conflict_of ∙ n))
@@ -58,7 +58,7 @@ module _ (k : Kernel) (steps : List Step) (kept : KeepsAfter k.state steps) wher
     | inr e ↦ absurd (let g : ◌≡◌ {A = Option (ℕ × ℕ)} None (Some units) = sym (settled_none (stored_after steps)) ∙ sym (ap (λ (f : Stored). f.conflict) e) ∙ sym conflict_of ∙ s in cc)
   ]
 
--- once settled, the stored formula is the one that judges the next step
+-- once settled, the stored formula is the one that checks the next step
 pub ready_of : (state : CheckerState) (steps : List Step) (kept : KeepsAfter state steps) → with_conflict_settled kept.formula ≡ ready_after steps
 ready_of state steps kept = elim kept.left [
   | inl e ↦ ap with_conflict_settled e

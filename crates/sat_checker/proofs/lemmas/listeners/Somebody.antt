@@ -22,7 +22,7 @@ use Rattle.sat_checker.specs.declared.error.CheckerDimacsError.TheVariants as re
 use Rattle.sat_checker.proofs.lemmas.listeners.Heard.{nobody_fails}
 
 module _ {P T : Type 0} (Takes : P → Notice → Result Unit Error → P → Type 0) (Reads : T → Transcribed → Result Unit Error → T → Type 0) where
-  -- the notices so far, which the current listeners have heard
+  -- the notices so far, which the current listeners have received
   abbrev before : CheckerView (Processing P T) → List Step → List Notice
   before old steps = notices_by old.kernel.state.formula.status.conflict steps
 

@@ -95,7 +95,7 @@ module _ (heads : List ℕ) (links : List Link) (shift : ℕ) (a : AreLinked hea
       (λ q k e. n (sym (eqb-true (top_of shift (length heads) q.hash) s k.1) ∙ ap (top_of shift (length heads)) (k.0.hash ∙ ap (λ y. (link_at links y).hash) e) ∙ t)) (with_top shift (length heads) s (listed_pairs links))
       (all_both (IsThere links) (λ q. eqb (top_of shift (length heads) q.hash) s ≡ true) (with_top shift (length heads) s (listed_pairs links)) (part_there heads links shift a s) (all_pass (λ p. eqb (top_of shift (length heads) p.hash) s) (listed_pairs links)))
 
-  -- a linked place exists, is not gone, and its hash has this top
+  -- a linked place exists, has a pair, and its hash has this top
   pub record IsLinkedPlace (x : ℕ) : Type 0 where
     pub exists : x < length links
     pub top_is : top_of shift (length heads) (link_at links x).hash ≡ top

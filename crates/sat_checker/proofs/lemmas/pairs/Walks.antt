@@ -8,7 +8,7 @@ use Rattle.sat_checker.specs.inner.LinkView.{nowhere, gone, link_at, pair_at, ch
 use Rattle.sat_checker.specs.declared.store.links.Pair.{Pair}
 use Rattle.sat_checker.specs.declared.store.links.Link.{Link}
 
--- the link at the pair's place has the pair's hash, and is not gone
+-- the link at the pair's place has the pair's hash, and is that of a pair
 pub record IsThere (links : List Link) (p : Pair) : Type 0 where
   pub inside : p.place < length links
   pub hash : p.hash ≡ (link_at links p.place).hash

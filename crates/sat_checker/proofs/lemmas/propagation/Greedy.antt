@@ -1,4 +1,4 @@
--- The greedy walk meets a conflict exactly if some of the clauses are unit in turn, the last falsified.
+-- The greedy walk reaches a conflict exactly if some of the clauses are unit in turn, the last falsified.
 use Rattle.std.proofs.Common.{ℕ, ◌≡◌, ◌≢◌, Bool, true, false, not, ◌||◌, cond, eqb, List, [], ◌∷◌, ◌++◌, refl, sym, ◌∙◌, ap, subst, Option, Some, None, ◌⊎◌, inl, inr}
 use Rattle.std.proofs.lemmas.Bool.{or_cases, or_left, or_right, both_ways, eqb-true, eq-eqb, true≢false}
 use Rattle.std.specs.List.{AllByRecursion}
@@ -98,7 +98,7 @@ unit_first assumed clause o rest u r = go r.picked r.chosen r.conflict
     go [] s c = absurd c
     go (d ∷ ds) s c = record { picked = clause ∷ d ∷ ds; chosen = inl (refl, s); conflict = (o, u, c) }
 
--- if the walk meets a conflict, some of the clauses are unit in turn, the last falsified
+-- if the walk reaches a conflict, some of the clauses are unit in turn, the last falsified
 walk_runs : (clauses : List (List ℕ)) (assumed : List ℕ) → walk assumed clauses ≡ None → Runs assumed clauses
 walk_runs [] assumed e = absurd cc
 walk_runs (c ∷ cs) assumed e = by_open (walk_runs cs) (not_false assumed c) refl e
@@ -157,7 +157,7 @@ walk_opened assumed clause rest o e had new = ap (from_open assumed rest) e ∙ 
     go true h = had h
     go false h = new h
 
--- if the rest of the walk meets a conflict under any superset of the literals, so does the entire walk
+-- if the rest of the walk reaches a conflict under any superset of the literals, so does the entire walk
 walk_past : (assumed clause : List ℕ) (rest : List (List ℕ)) → ((more : List ℕ) → Within assumed more → walk more rest ≡ None) → walk assumed (clause ∷ rest) ≡ None
 walk_past assumed clause rest next = go (not_false assumed clause) refl
   where
@@ -166,7 +166,7 @@ walk_past assumed clause rest next = go (not_false assumed clause) refl
     go (o ∷ []) e = walk_opened assumed clause rest o e (λ h. next assumed (Within-itself assumed)) (λ h. next (o ∷ assumed) (Within-one_more assumed o))
     go (o ∷ p ∷ ls) e = ap (from_open assumed rest) e ∙ next assumed (Within-itself assumed)
 
--- if some of the clauses are unit in turn, the last falsified, the walk meets a conflict
+-- if some of the clauses are unit in turn, the last falsified, the walk reaches a conflict
 -- even under more assumed literals
 walk_finds : (clauses : List (List ℕ)) (fewer more : List ℕ) → Within fewer more → AllByRecursion NoRepeats clauses → (named : List (List ℕ)) → IsSubsequence named clauses → UnitInTurn fewer named → walk more clauses ≡ None
 walk_finds clauses fewer more w n [] s r = absurd r
@@ -232,7 +232,7 @@ walk_over ((c ∷ cs) ∷ fs) rest assumed n e = go (λ m. walk_over fs rest m n
     go ih None e' = refl
     go ih (Some m) e' = ih m e'
 
--- a conflict that the walk meets is a conflict by the rule
+-- a conflict that the walk reaches is a conflict by the rule
 pub rule_from_walk : (assumed : List ℕ) (buckets : List (List (List ℕ))) → walk_buckets assumed buckets ≡ true → BucketsConflict assumed buckets
 rule_from_walk assumed buckets e =
     let f = walk_front buckets assumed e in
@@ -248,7 +248,7 @@ joined_front P (b ∷ bs) rest h = both b (clauses_in bs) h.0 (joined_front P bs
     both [] ys p q = q
     both (x ∷ xs) ys p q = (p.0, both xs ys p.1 q)
 
--- if there is a conflict by the rule, the walk meets one, even under more assumed literals
+-- if there is a conflict by the rule, the walk reaches one, even under more assumed literals
 pub walk_from_rule : (fewer more : List ℕ) (buckets : List (List (List ℕ))) → Within fewer more → AllByRecursion (AllByRecursion NoRepeats) buckets → BucketsConflict fewer buckets → walk_buckets more buckets ≡ true
 walk_from_rule fewer more buckets w n h =
     let n' : AllByRecursion (AllByRecursion NoRepeats) (h.first ++ h.rest) = subst (AllByRecursion (AllByRecursion NoRepeats)) h.split n in

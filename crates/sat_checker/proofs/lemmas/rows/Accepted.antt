@@ -24,11 +24,11 @@ end_alone = ((tt, tt), refl, refl)
 none_some : (n : ℕ) → None ≢ Some n
 none_some n e = cc
 
--- a clause passes if the walk meets a conflict
+-- a clause passes if the walk reaches a conflict
 pub walked : (f : Stored) (clause hashes : List ℕ) → walk_buckets (map negated clause ++ unit_literals f) (map (bucket f) hashes) ≡ true → PassesByHashes f clause hashes
 walked f clause hashes e = conflict (rule_from_walk (map negated clause ++ unit_literals f) (map (bucket f) hashes) e)
 
--- a clause does not pass if it is no tautology, no unit satisfies it, and the walk meets no conflict
+-- a clause does not pass if it is no tautology, no unit satisfies it, and the walk reaches no conflict
 pub stuck : (f : Stored) (clause hashes : List ℕ) → is_tautology clause ≡ false → list_any (is_unit f) clause ≡ false → AllByRecursion (AllByRecursion NoRepeats) (map (bucket f) hashes) → walk_buckets (map negated clause ++ unit_literals f) (map (bucket f) hashes) ≡ false → PassesByHashes f clause hashes → ⊥
 stuck f clause hashes t u n w (tautology e) = both_ways (is_tautology clause) t e
 stuck f clause hashes t u n w (unit_true e) = both_ways (list_any (is_unit f) clause) u e

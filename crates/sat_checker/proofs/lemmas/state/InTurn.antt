@@ -1,4 +1,4 @@
--- Units that are judged one by one, without allocating for the earlier ones.
+-- Units that are checked one by one, without allocating for the earlier ones.
 use Rattle.std.proofs.Common.{ℕ, zero, suc, ◌+◌, ◌-◌, ◌*◌, ◌<◌, ◌≤◌, ◌≡◌, ◌↔◌, Bool, true, false, not, ◌&&◌, ◌||◌, cond, eqb, List, [], ◌∷◌, ◌++◌, length, take, drop, get_or, map, refl, sym, ◌∙◌, ap, subst, arith, Result, Ok, Err, IfOk}
 use Rattle.std.proofs.lemmas.Bool.{eqb-true, ne_eqb, both_ways}
 use Rattle.std.proofs.lemmas.List.{drop_more, take_more, map-append}
@@ -221,7 +221,7 @@ passing_none store trail f all stand k is h = record {
     none l n false e = refl
     none l n true e = absurd (both_ways (is_among trail.room l) n (stand l e))
 
--- the unit at `i` is added, and the next one is judged
+-- the unit at `i` is added, and the next one is checked
 module _ (store : Store) (room : List ℕ) (f : Stored) (all : List (ℕ × ℕ)) (i place : ℕ) (trail : LiteralsAndRoom) (u v : ℕ × ℕ) (some : i + 1 ≡ place) (inside : place < length all) (is : u ≡ get_or all i u) (next : v ≡ get_or all place v)
     (p : Passing store room f all i trail) where
   abbrev pub following : Stored
@@ -236,7 +236,7 @@ module _ (store : Store) (room : List ℕ) (f : Stored) (all : List (ℕ × ℕ)
   came : firsts (take place all) ≡ firsts (take i all) ++ u.0 ∷ []
   came = ap (λ j. firsts (take j all)) (sym some) ∙ ap firsts (take_more all i u (omega arith) ∙ ap (λ x. take i all ++ x ∷ []) (sym is)) ∙ map-append (λ (w : ℕ × ℕ). w.0) (take i all) (u ∷ [])
 
-  -- the next unit is judged under the literals that are then assumed
+  -- the next unit is checked under the literals that are then assumed
   module _ (new : LiteralsAndRoom) (same : trail.room ≡ room) (paired : (l : ℕ) → is_among room l ≡ is_among room (negated l)) (e : new ≡ record trail { literals = with_assumed u.0 trail }) where
     after_assumes : AssumesUnits new (firsts (take place all)) following
     after_assumes =
