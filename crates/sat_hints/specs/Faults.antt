@@ -31,9 +31,9 @@ pub record StopsAtLine (most : ℕ) (text : List ℕ) : Type 0 where
   pub derivation : IsHintDerivation (line ∷ earlier)
   pub few : length rest < most
 
--- `FaultHolds fault text` holds if the text may have been given before the fault. After `Read`, its lines are a derivation,
--- and what follows them is a proper prefix of a line. `OutOfMemory` may also mean that memory ran out for the last line of
--- a derivation. Then fewer than 4,096 bytes follow it, which were read with its end.
+-- `FaultHolds fault text` holds if the text may have been given before the fault. After `Read`, its lines are a
+-- derivation, and what follows them is a proper prefix of a line. `OutOfMemory` may also mean that memory ran out for
+-- the last line of a derivation. Then fewer than 4,096 bytes follow it, which were read with its end.
 abbrev pub FaultHolds : HintFault → List ℕ → Type 0
 FaultHolds Read text = StopsWithinLine text
 FaultHolds OutOfMemory text = StopsWithinLine text ⊎ StopsAtLine piece_size text

@@ -32,11 +32,12 @@ steps_of_lines (Gone id ∷ earlier) = steps_of_lines earlier
 steps_of_lines (Core core ids ∷ earlier) = steps_of_lines earlier
 steps_of_lines (Fresh v ∷ earlier) = DeleteVar v ∷ steps_of_lines earlier
 
--- `IsLeftByLines lines a` holds if the lines leave the valuation `a`.
+-- `IsLeftByLines lines a` holds if the lines, the newest first, allow the valuation `a`: it satisfies the clauses of
+-- the formula, where a variable that became new may have had either value before.
 abbrev pub IsLeftByLines : List Line → Valuation → Type 0
 IsLeftByLines lines = Holds (steps_of_lines lines)
 
--- `EachDerivedHolds lines` holds if every derived clause holds in every valuation that the lines before it leave.
+-- `EachDerivedHolds lines` holds if every derived clause holds in every valuation that the lines before it allow.
 abbrev pub EachDerivedHolds : List Line → Type 0
 EachDerivedHolds [] = Unit {0}
 EachDerivedHolds (Input id clause ∷ earlier) = EachDerivedHolds earlier
@@ -45,7 +46,7 @@ EachDerivedHolds (Gone id ∷ earlier) = EachDerivedHolds earlier
 EachDerivedHolds (Core core ids ∷ earlier) = EachDerivedHolds earlier
 EachDerivedHolds (Fresh v ∷ earlier) = EachDerivedHolds earlier
 
--- `EachCoreFails lines` holds if for every core, no valuation that the lines before it leave satisfies all of its
+-- `EachCoreFails lines` holds if for every core, no valuation that the lines before it allow satisfies all of its
 -- literals.
 abbrev pub EachCoreFails : List Line → Type 0
 EachCoreFails [] = Unit {0}
@@ -56,21 +57,21 @@ EachCoreFails (Core core ids ∷ earlier) = EachCoreFails earlier × ((a : Valua
 EachCoreFails (Fresh v ∷ earlier) = EachCoreFails earlier
 
 -- `DerivedFollow` holds if in every derivation, every derived clause holds in every valuation that the lines before it
--- leave.
+-- allow.
 abbrev pub DerivedFollow : Type 0
 DerivedFollow = (lines : List Line) → IsHintDerivation lines → EachDerivedHolds lines
 
--- `HintCoresFail` holds if in every derivation, no valuation that the lines before a core leave satisfies all literals
+-- `HintCoresFail` holds if in every derivation, no valuation that the lines before a core allow satisfies all literals
 -- of the core.
 abbrev pub HintCoresFail : Type 0
 HintCoresFail = (lines : List Line) → IsHintDerivation lines → EachCoreFails lines
 
--- `PresentHold` holds if every clause that is present after a derivation holds in every valuation that its lines leave,
+-- `PresentHold` holds if every clause that is present after a derivation holds in every valuation that its lines allow,
 -- even if one of the clause's variables became new after it was added.
 abbrev pub PresentHold : Type 0
 PresentHold = (lines : List Line) (a : Valuation) (id : ℕ) (clause : List ℕ) → IsHintDerivation lines → IsLeftByLines lines a → clause_under id lines ≡ Some clause → clause_true a clause ≡ true
 
--- `EmptyMeansNone` holds if every derivation that derives an empty clause leaves no valuation.
+-- `EmptyMeansNone` holds if every derivation that derives an empty clause allows no valuation.
 abbrev pub EmptyMeansNone : Type 0
 EmptyMeansNone = (lines : List Line) (a : Valuation) → IsHintDerivation lines → derives_empty lines ≡ true → IsLeftByLines lines a → ⊥
 
@@ -91,12 +92,12 @@ inputs_of (Gone id ∷ earlier) = inputs_of earlier
 inputs_of (Core core ids ∷ earlier) = inputs_of earlier
 inputs_of (Fresh v ∷ earlier) = inputs_of earlier
 
--- `FormulaIsLeft` holds if all lines leave every valuation that satisfies their clauses of the formula, whichever
+-- `FormulaIsLeft` holds if all lines allow every valuation that satisfies their clauses of the formula, whichever
 -- variables become new.
 abbrev pub FormulaIsLeft : Type 0
 FormulaIsLeft = (lines : List Line) (a : Valuation) → EachHolds a (inputs_of lines) → IsLeftByLines lines a
 
--- `FormulaLeaves` holds if all lines by which no variable becomes new leave exactly the valuations that satisfy their
+-- `FormulaLeaves` holds if all lines by which no variable becomes new allow exactly the valuations that satisfy their
 -- clauses of the formula.
 abbrev pub FormulaLeaves : Type 0
 FormulaLeaves = (lines : List Line) (a : Valuation) → AllByRecursion MakesNoVarNew lines → IsLeftByLines lines a ↔ EachHolds a (inputs_of lines)

@@ -11,8 +11,8 @@ use crate::numbers::{read_id, read_literal, read_variable};
 use sat_base::{Lit, Var, take_text};
 use std::alloc::{AllocError, Global};
 
-/// The lists of the current line. Their memory is reused, and reserved before a line is read, so reading a line does not
-/// allocate.
+/// The lists of the current line. Their memory is reused, and reserved before a line is read, so reading a line does
+/// not allocate.
 #[derive(Drop)]
 pub(crate) struct Lists {
     literals: Vec<Lit>,

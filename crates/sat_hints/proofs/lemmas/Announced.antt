@@ -237,7 +237,7 @@ is_first ls s (c ∷ cs) e = go (is_first ls s cs) (same_literals c.literals ls)
     go ih true t k = let f : c ≡ s = cc in record { stored = inl (sym f); literals_are = ap (λ (x : StoredClause). x.literals) (sym f) ∙ same c.literals ls t }
     go ih false t k = let x = ih k in record { stored = inr x.stored; literals_are = x.literals_are }
 
--- a clause that stays has one fewer count
+-- a clause that is not removed has one fewer count
 module _ (P : ℕ → List ℕ → Type 0) where
   abbrev Each : List StoredClause → Type 0
   Each = AllByRecursion (λ c. P c.id c.literals)
@@ -279,7 +279,7 @@ stands_left r ls id d s (c ∷ cs) e g t h i w = go (λ k l. stands_left r ls id
     go ih false k (inl l) = record { clause = c; stored = inl refl; id_is = ap (λ (x : StoredClause). x.id) (sym l) ∙ i; literals_are = ap (λ (x : StoredClause). x.literals) (sym l) ∙ w }
     go ih false k (inr l) = stands_later id d c (without_clause r ls cs) (ih k l)
 
--- if a clause is removed, the others stay
+-- if a clause is removed, the others are unchanged
 stands_other : (r : Bool) (ls : List ℕ) (id : ℕ) (d : List ℕ) (s : StoredClause) (cs : List StoredClause) → clause_with ls cs ≡ Some s → (id ≡ s.id → ⊥) → (t : StoredClause) → IsOneOf t cs → t.id ≡ id → t.literals ≡ d → HasAccepted id d (without_clause r ls cs)
 stands_other r ls id d s [] e g t h i w = absurd h
 stands_other r ls id d s (c ∷ cs) e g t h i w = go (λ k l. stands_other r ls id d s cs k g t l i w) (same_literals c.literals ls) e h

@@ -199,7 +199,7 @@ module _ (start a b : Reader) (old : Checking) (count : ℕ) (r : ReadsSoFar sta
   err_some new Read h e = absurd cc
   err_some new OutOfMemory (bytes, g, few, stops) e = starved_some bytes g
 
-  -- the check goes on
+  -- the check continues
   pub goes_on : (new : Checking) → ChecksNext (Ok None) a b old new → GoesOn start b new (count + 1)
   goes_on new (bytes, g, k) = record { ready = k.0; room = k.1; reads = reads_next new bytes g (k.2 r.given r.read) }
 

@@ -58,7 +58,7 @@ room_more : (xs ys c : List ℕ) → RoomStays xs ys → HasClauseRoom xs c → 
 room_more xs ys [] s h = tt
 room_more xs ys (l ∷ ls) s h = ((s _ h.0.0, s _ h.0.1), room_more xs ys ls s h.1)
 
--- room for the present clauses stays if the room only grows
+-- there is still room for the present clauses if the room only grows
 pub room_still : (s : ActiveClauses) (xs ys : List ℕ) → RoomStays xs ys → HasRoomForPresent xs s → HasRoomForPresent ys s
 room_still s xs ys k h id c e = room_more xs ys c k (h id c e)
 

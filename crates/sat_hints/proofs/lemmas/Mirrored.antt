@@ -207,7 +207,7 @@ long_same r ls f lines id e m = record {
     go true k = k
     go false k = omega (arith, k)
 
--- a clause that is stored already leaves lines and store in agreement
+-- lines and store still agree after a clause that is stored already
 pub set_same : (r : Bool) (ls : List ℕ) (f : Stored) (lines : List Line) (id : ℕ) → id_of_set ls f ≡ Some id → Mirrors f lines → Mirrors (with_set r ls f) lines
 set_same r [] f lines id e m = absurd cc
 set_same r (l ∷ []) f lines id e m = subst (λ b. Mirrors (cond b f (cond (is_unit f (negated l)) (with_contradiction l f) (with_new_unit l f))) lines) (sym (unit_there l id f.units e)) m
@@ -301,7 +301,7 @@ module _ (line : Line) (set : List ℕ) (f : Stored) (lines : List Line) (new : 
     conflict = conflict_kept;
   }
 
--- a new clause and its line leave lines and store in agreement
+-- lines and store still agree after a new clause and its line
 pub set_new : (r : Bool) (set : List ℕ) (f : Stored) (lines : List Line) (line : Line) → id_of_set set f ≡ None → NewLine line f.next_id set lines → Mirrors f lines → Mirrors (with_set r set f) (line ∷ lines)
 set_new r [] f lines line e new m = empty_new line [] f lines new m refl (with_set r [] f) refl refl refl refl
 set_new r (l ∷ []) f lines line e new m = subst (λ b. Mirrors (cond b f (cond (is_unit f (negated l)) (with_contradiction l f) (with_new_unit l f))) (line ∷ lines)) (sym (unit_absent l f.units e)) (go (is_unit f (negated l)))

@@ -61,8 +61,8 @@ abbrev pub HasReadOrFault : Option HintWhy → Checking → List ℕ → Type 0
 HasReadOrFault None c text = HasRead c text
 HasReadOrFault (Some why) c text = HasFault c text why
 
--- `HasRoomFor c count` holds if `count` more bytes can be parsed without allocating. There is room to complete the line that
--- has begun, and for the lists of any line.
+-- `HasRoomFor c count` holds if `count` more bytes can be parsed without allocating. There is room to complete the line
+-- that has begun, and for the lists of any line.
 pub record HasRoomFor (c : Checking) (count : ℕ) : Type 0 where
   pub lists : HasListRoom c.lists (vec_len c.held + count)
   pub held : 0 < vec_len c.held → vec_len c.held + count ≤ vec_capacity c.held
@@ -103,8 +103,8 @@ pub record GivesPiece (from to : Reader) (bytes : List ℕ) : Type 0 where
   pub unended : to.ended ≡ false
   pub failures : to.failures ≡ from.failures
 
--- `GivesVerdict from to old verdict` holds if one read did not fail, and the verdict is correct for what was read and for
--- whatever follows. Nothing follows if the read found the end.
+-- `GivesVerdict from to old verdict` holds if one read did not fail, and the verdict is correct for what was read and
+-- for whatever follows. Nothing follows if the read found the end.
 pub record GivesVerdict (from to : Reader) (old : Checking) (verdict : HintVerdict) : Type 0 where
   pub bytes : List ℕ
   pub front : GavePrefix from to bytes

@@ -104,8 +104,8 @@ IsWithinLimit (Item part) = Unit {0}
 IsWithinLimit (Digits part number) = number ≤ limit_of part
 IsWithinLimit Over = Unit {0}
 
--- `ReachesPlace from bytes to` holds if whatever completes a line from `to`, if there is such a place, also completes it
--- from `from`, after the bytes. If the number at `from` is within its limit, so is the number at `to`.
+-- `ReachesPlace from bytes to` holds if whatever completes a line from `to`, if there is such a place, also completes
+-- it from `from`, after the bytes. If the number at `from` is within its limit, so is the number at `to`.
 abbrev pub ReachesPlace : Place → List ℕ → Option Place → Type 0
 ReachesPlace from bytes None = Unit {0}
 ReachesPlace from bytes (Some to) = IsWithinLimit from → IsWithinLimit to × ((more : List ℕ) → IsRestOfLine to more → IsRestOfLine from (bytes ++ more))
