@@ -32,7 +32,10 @@ fn numbers_of_variables(rt: HostRuntime) {
 
 #[test]
 fn numbers_are_printed(rt: HostRuntime) {
-    let (third, last) = (Lit::from_index(2, false), Lit::from_index(268_435_455, true));
+    let (third, last) = (
+        Lit::from_index(2, false),
+        Lit::from_index(268_435_455, true),
+    );
     assert!(rt; is_printed(rt.alloc(), &third, "-3"));
     assert!(rt; is_printed(rt.alloc(), &last, "268435456"));
     assert!(rt; is_printed(rt.alloc(), &Var::from_index(0), "1"));

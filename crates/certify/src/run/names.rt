@@ -10,8 +10,8 @@ use super::faults::fault_of;
 use crate::fault::RunFault;
 use crate::judge::NameState;
 use sat_base::{CountedWrite, Lit, Var};
-use sat_solver::{Solver, SolverError};
 use sat_solver::facade::laws::steps_record_answers;
+use sat_solver::{Solver, SolverError};
 
 /// Introduces the name `user`, and sets its state.
 fn change_name<C: CountedWrite + Drop>(

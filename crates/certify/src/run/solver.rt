@@ -11,8 +11,8 @@ use super::faults::{fault_of, is_interrupted};
 use crate::fault::RunFault;
 use crate::summary::{Answer, AskReport};
 use sat_base::{CountedWrite, Lit};
-use sat_solver::{Solver, SolverConfigUpdate};
 use sat_solver::facade::laws::steps_record_answers;
+use sat_solver::{Solver, SolverConfigUpdate};
 
 /// Adds a clause to the solver. None of the clause's names may be refused.
 pub fn add_clause<C: CountedWrite + Drop>(
