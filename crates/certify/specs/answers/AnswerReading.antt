@@ -1,4 +1,5 @@
--- How an answer is read from bytes, and why no answer can be read.
+-- How an answer is read from bytes, and why no answer can be read. Bytes are ASCII codes: 10 is LF, 32 a space, 48 `0`,
+-- 102 `f`, and 118 `v`.
 use Rattle.std.specs.Prelude.{ℕ, ◌≡◌, ◌≢◌, ◌⊎◌, List, [], ◌∷◌, ◌++◌, decimal}
 use Rattle.sat_base.specs.values.Literals.{variable}
 use Rattle.sat_base.specs.script.Script.{Literal}

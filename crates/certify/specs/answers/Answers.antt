@@ -1,4 +1,4 @@
--- The lines of answers, and the answers to a script.
+-- The lines of answers, and the answers to a script. Bytes are ASCII codes: 10 is LF, 32 a space, 45 `-`, 48 `0`.
 use Rattle.std.specs.Prelude.{ℕ, ◌+◌, Option, Some, None, List, [], ◌∷◌, ◌++◌, decimal, if◌then◌else◌}
 use Rattle.sat_base.specs.script.Script.{Literal, Command, Ask, ScriptEnding, Clean, Malformed}
 use Rattle.sat_checker.specs.matching.Expected.{Outcome, Sat, Unsat, Unknown}

@@ -93,7 +93,7 @@ state_after_accepted (Hide names) state = for_each (λ name s. without_name name
 state_after_accepted (Witness names) state = for_each (λ name s. with_mode true name (introduce name s)) names state
 state_after_accepted (Sample names) state = for_each (λ name s. with_mode false name (introduce name s)) names state
 
--- Returns `true` if the name is in use and its mode is witness.
+-- `is_witness names name` is true if the name is in the list, and its mode is witness.
 abbrev pub is_witness : List Named → ℕ → Bool
 is_witness [] name = false
 is_witness (n ∷ ns) name = if n.name == name then n.witness else is_witness ns name

@@ -4,16 +4,16 @@ use Rattle.sat_base.specs.script.Script.{Literal, Command, Clause, Ask, Hide, Wi
 use Rattle.sat_base.specs.script.Language.{Reading, with_ask}
 use Rattle.sat_base.specs.text.Text.{prepend_to_first, is_none, same_bytes}
 
--- Returns `true` if byte `b` is one of these characters.
+-- `is_one_of cs b` is true if byte `b` is one of the characters `cs`.
 abbrev pub is_one_of : List ℕ → ℕ → Bool
 is_one_of [] b = false
 is_one_of (c ∷ cs) b = nat_eq b c || is_one_of cs b
 
--- Returns `true` if a byte is a space, tab, CR or LF.
+-- `is_blank b` is true if the byte is a space, tab, CR or LF.
 abbrev pub is_blank : ℕ → Bool
 is_blank = is_one_of (codes " \t\r\n")
 
--- Returns `true` if a byte is an ASCII digit.
+-- `is_digit b` is true if the byte is an ASCII digit.
 abbrev pub is_digit : ℕ → Bool
 is_digit = is_one_of (codes "0123456789")
 
@@ -22,7 +22,7 @@ unfoldable pub lines : List ℕ → List (List ℕ)
 lines [] = []
 lines (b ∷ bs) = if is_one_of (codes "\n") b then (b ∷ []) ∷ lines bs else prepend_to_first b (lines bs)
 
--- Returns `true` if the text begins with a nonblank byte.
+-- `goes_on bs` is true if the text begins with a nonblank byte.
 abbrev pub goes_on : List ℕ → Bool
 goes_on [] = false
 goes_on (b ∷ bs) = not (is_blank b)
@@ -32,7 +32,7 @@ unfoldable pub words : List ℕ → List (List ℕ)
 words [] = []
 words (b ∷ bs) = if is_blank b then words bs else (if goes_on bs then prepend_to_first b (words bs) else (b ∷ []) ∷ words bs)
 
--- Returns `true` if the first nonblank byte of the line is one of these characters.
+-- `begins_with cs bs` is true if the first nonblank byte of the line is one of the characters `cs`.
 unfoldable pub begins_with : List ℕ → List ℕ → Bool
 begins_with cs [] = false
 begins_with cs (b ∷ bs) = if is_blank b then begins_with cs bs else is_one_of cs b
@@ -117,7 +117,7 @@ parse_tokens hand (t ∷ ts) = ([], Malformed)
 abbrev pub parse_written : List ℕ → Reading
 parse_written text = parse_tokens None (tokens_of_lines true (lines text))
 
--- Returns `true` if the first token is a header.
+-- `is_headed ts` is true if the first token is a header.
 abbrev pub is_headed : List Token → Bool
 is_headed (Header ∷ ts) = true
 is_headed ts = false

@@ -1,4 +1,4 @@
--- Worked examples: scripts of a few commands, and their answers.
+-- Worked examples: scripts of a few commands, and their answers, as ASCII codes.
 use Rattle.std.specs.Prelude.{ℕ, ◌≡◌, Bool, true, false, Some, None, List, [], ◌∷◌, ◌++◌}
 use Rattle.sat_base.specs.script.Script.{Literal, Command, Clause, Ask, Hide, Witness, Clean, Malformed}
 use Rattle.sat_base.specs.script.ScriptState.{Sampled, initial_state, after_script, refusal_of, PastLimit, WitnessName}

@@ -40,7 +40,7 @@ abbrev pub hint_verdict_text : HintVerdict → List ℕ
 hint_verdict_text (Proved empty cores lines) = proved_text empty cores lines
 hint_verdict_text (Bad line cause) = bad_text line cause
 
--- Returns `true` if the verdict says that the hint text is a proof.
+-- `is_proved verdict` is true if the verdict says that the hint text is a proof.
 abbrev pub is_proved : HintVerdict → Bool
 is_proved (Proved empty cores lines) = true
 is_proved (Bad line cause) = false

@@ -79,7 +79,7 @@ abbrev pub yes_or_no_text : Verdict → List ℕ
 yes_or_no_text Yes = codes "yes" ++ 10 ∷ []
 yes_or_no_text (No ask why) = codes "no " ++ no_text ask why
 
--- Returns `true` if the script is malformed.
+-- `is_malformed ending` is true if the script is malformed.
 abbrev pub is_malformed : ScriptEnding → Bool
 is_malformed Clean = false
 is_malformed Malformed = true

@@ -72,7 +72,7 @@ keeps_loans a b k kept n m h = let e : ◌≡◌ {A = List ℕ} (given_before b.
 pub keeps_stop : (a b : Reader) (k kept : List ℕ) (n m : ℕ) → StopsReading (kept_reader a k n) (kept_reader b kept m) → StopsReading a b
 keeps_stop a b k kept n m h = (h.0, record { gave = h.1.gave; known_bytes = h.1.known_bytes; loans = keeps_loans a b k kept n m h.1.loans }, h.2)
 
--- a reader that was lent came back through the same loan
+-- a reader that was lent was returned through the same loan
 pub same_loan : (a b : Reader) (given back : ℕ) → (lent_reader back b).loans ≡ (lent_reader given a).loans → given ≡ back
 same_loan a b given back e = let h : ◌≡◌ {A = List ℕ} (back ∷ b.loans) (given ∷ a.loans) = e in cc
 

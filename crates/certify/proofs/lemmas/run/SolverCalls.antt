@@ -32,7 +32,7 @@ limited u budget old new at ready h = record {
   rounds = ap (λ (s : Solver). s.clock.rounds) h.same;
 }
 
--- the answer that a state of the solver stands for
+-- the answer that a state of the solver represents
 is_sat : (st : SatState) → is_answer st true → AnswerIs st kind.Sat
 is_sat states.Sat h = refl
 is_sat states.Unknown h = absurd h

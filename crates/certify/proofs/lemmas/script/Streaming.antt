@@ -69,7 +69,7 @@ taken_fewer old new text e same some =
     let m : most_reads - new.reads ≡ most_reads - old.reads = ap (λ (n : ℕ). most_reads - n) same in
     omega arith
 
--- a read leaves fewer turns
+-- a read leaves fewer calls that can consume bytes
 pub refilled_fewer : (old new : LastPiece) → waiting_bytes old ≡ [] → new.reads ≡ old.reads + 1 → 4097 * (most_reads - new.reads) + length (waiting_bytes new) < 4097 * (most_reads - old.reads) + length (waiting_bytes old)
 refilled_fewer old new none more =
     let l = length-take (new.end - new.at) (drop new.at new.piece) in
