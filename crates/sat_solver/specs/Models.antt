@@ -9,14 +9,13 @@ abbrev pub has_true_value : Option Bool → Bool
 has_true_value None = false
 has_true_value (Some b) = b
 
--- `value_by index values unit` is the value of the index if there is one, otherwise that of the unit; false if there
--- is none
+-- `value_by index values unit` is true if the index has the value true or, without an index, the unit is true
 abbrev pub value_by : Option ℕ → List (Option Bool) → Option Bool → Bool
 value_by None values unit = has_true_value unit
 value_by (Some x) values unit = has_true_value (get_or values x None)
 
--- `value_in n values v` is the value of the proof variable `v` when the search has these values: that of its index if
--- it has one, otherwise that of its unit; false if there is none
+-- `value_in n values v` is true if the proof variable `v` is true when the search has these values: by its index if it
+-- has one, otherwise by its unit; a variable without a value is false
 abbrev pub value_in : Variables → List (Option Bool) → ℕ → Bool
 value_in n values v = value_by (solver_of n v) values (data_at n v).unit
 

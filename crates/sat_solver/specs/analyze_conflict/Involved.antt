@@ -73,16 +73,17 @@ pub record AreListed (s : PropagationState) (seen : List ℕ) (flags : List Bool
   pub flagged : (v : ℕ) → get_or flags v false ≡ true → Contains seen v
   pub passed : (v : ℕ) → Contains seen v → (get_or flags v false ≡ true) ⊎ IsPassed s at v
 
--- `CollectionInvariant words s e w at` is the invariant of the lists of seen variables and antecedents while literals
--- are resolved, down to position `at` of the trail
+-- `CollectionInvariant words s e w at` holds if the lists of seen variables and antecedents are correct while literals
+-- are resolved, down to position `at` of the trail: exactly the seen variables are listed, every resolution was needed,
+-- and the antecedents are listed, the falsified clause first
 pub record CollectionInvariant (words : List ℕ) (s : PropagationState) (e : Conflict) (w : AnalysisState) (at : ℕ) : Type 0 where
   pub listed : AreListed s w.seen w.flags at
   pub seen : AreSeen words s (falsified words e) w.used w.seen
   pub needed : AreNeeded words s (falsified words e) w.used
   pub antecedents : w.antecedents ≡ long_falsified e ++ longs_of s w.used
 
--- `BeginsCollecting words s e w` is the invariant of the lists at the end of the trail, before any literal is
--- resolved
+-- `BeginsCollecting words s e w` holds if the invariant of the lists does at the end of the trail, before any literal
+-- is resolved
 abbrev pub BeginsCollecting : (words : List ℕ) (s : PropagationState) (e : Conflict) (w : AnalysisState) → Type 0
 BeginsCollecting words s e w = CollectionInvariant words s e w (length s.trail.lits)
 

@@ -32,8 +32,8 @@ pub record CanAnalyze (words : List ℕ) (s : PropagationState) : Type 0 where
       IsFalseBefore s p (get_or (causes_at words s (lit_at s p)) k 0)
   pub valid : (p o : ℕ) → get_or s.trail.starts 0 0 ≤ p → p < length s.trail.lits → (node s (lit_at s p)).reason ≡ Long o → IsClause words o × (0 < length (lits_at words o))
 
--- `PropagationInvariantBelow words refs w implied s` is the invariant after propagation has found a conflict: that of
--- propagation, for literals below the current level
+-- `PropagationInvariantBelow words refs w implied s` holds if the invariant of propagation does for literals below the
+-- current level, as after propagation has found a conflict
 abbrev pub PropagationInvariantBelow : (words refs : List ℕ) (w : Watching) (implied : List (List ℕ)) (s : PropagationState) → Type 0
 PropagationInvariantBelow words refs w implied s = PropagationInvariant words refs w implied s (current_level s)
 
@@ -128,8 +128,9 @@ pub record AreUsed (words : List ℕ) (s : PropagationState) (top : ℕ) (w : An
   pub falling : (j k : ℕ) → j < k → k < length w.used → depth s (get_or w.used k 0) < depth s (get_or w.used j 0)
   pub causes : (k : ℕ) → k < length w.used → AreCovered s top w at (causes_at words s (get_or w.used k 0))
 
--- `ResolutionInvariant words s ls w at` is the invariant while the clause `ls` is resolved with the reasons of used
--- literals, down to position `at` of the trail
+-- `ResolutionInvariant words s ls w at` holds if the clause `ls` was resolved with the reasons of the used literals,
+-- down to position `at` of the trail: at least one literal is pending, and the other literals are explained as by
+-- `IsCovered`
 pub record ResolutionInvariant (words : List ℕ) (s : PropagationState) (ls : List ℕ) (w : AnalysisState) (at : ℕ) : Type 0 where
   pub marks : MarksWork s (current_level s) w at
   pub some : 0 < w.pending

@@ -95,9 +95,10 @@ followed nodes filter (r ∷ rs) w =
     if is_settled nodes r w then followed nodes filter rs w
     else (if can_follow nodes filter r then followed nodes filter rs (marked r w) else record { work = w; whole = false })
 
--- `Minimal words s conflict first low rest w` is the invariant while the clause is minimized: the literal `first` is
--- of the current level. Every other literal of `rest` is false, flagged, and of a level between 0 and that one.
--- Flagged variables are in the clause or used, and no used literal is the negation of a literal of the clause.
+-- `Minimal words s conflict first low rest w` holds if the invariant of minimization does, and the clause `rest` is
+-- what is left: the literal `first` is of the current level. Every other literal of `rest` is false, flagged, and of a
+-- level between 0 and that one. Flagged variables are in the clause or used, and no used literal is the negation of a
+-- literal of the clause.
 pub record Minimal (words : List ℕ) (s : PropagationState) (conflict : List ℕ) (first low : ℕ) (rest : List ℕ) (w : AnalysisState) : Type 0 where
   pub searching : MinimizationInvariant words s conflict first low w (length w.used)
   pub distinct : AreDistinct rest
@@ -167,9 +168,9 @@ pub record FallsBefore (nodes : List ImplNode) (ls : List ℕ) (resolved : ℕ) 
 abbrev pub MinimizationIsDone : (words : List ℕ) (s : PropagationState) (e : Conflict) (low : ℕ) (w : AnalysisState) → Type 0
 MinimizationIsDone words s e low w = MinimizationInvariant words s (falsified words e) (get_or w.clause 0 0) low w (length w.used)
 
--- `MinimizationResult words s e low r w w' b` is the result of a search for literals from which `r` follows. If `b`
--- is true, its negation is used, and so are those literals, and all their reasons are explained. Otherwise nothing
--- has changed.
+-- `MinimizationResult words s e low r w w' b` holds if `b` is the result of a search for literals from which `r`
+-- follows. If `b` is true, the negation of `r` is used, and so are those literals, and all their reasons are explained.
+-- Otherwise nothing has changed.
 abbrev pub MinimizationResult : (words : List ℕ) (s : PropagationState) (e : Conflict) (low r : ℕ) (w w' : AnalysisState) → Bool → Type 0
 MinimizationResult words s e low r w w' b = MatchBool b
     (MarksMore (used_up (negated r) w) w' × MinimizationInvariant words s (falsified words e) (get_or w.clause 0 0) low w' (length w'.used))

@@ -51,8 +51,8 @@ pub data IsFailedAssumption (words : List ℕ) (s : PropagationState) (failed : 
   fails_signs : IsChosen s 0 (negated failed) → core ≡ failed ∷ negated failed ∷ [] → used ≡ [] → IsFailedAssumption words s failed core used
   fails_clauses : IsRefutation words s failed core used → IsFailedAssumption words s failed core used
 
--- `TraceInvariant words s failed w at` is the invariant while reasons are traced back: flagged literals above level 0
--- that are before position `at` of the trail are still to be resolved
+-- `TraceInvariant words s failed w at` holds if reasons were traced back to position `at` of the trail: flagged
+-- literals above level 0 that are before it are still to be resolved
 pub record TraceInvariant (words : List ℕ) (s : PropagationState) (failed : ℕ) (w : AnalysisState) (at : ℕ) : Type 0 where
   pub marks : MarksWork s 1 w at
   pub uses : AreUsed words s 1 w at

@@ -26,7 +26,7 @@ RoundShares outcomes.Unsat n c = Unit {0}
 RoundShares outcomes.Failed n c = SharesIndices n c
 
 -- `RoundEnds seen outcome n n' p p' c c'` holds if a round has this outcome, and what it changed of names, proof and
--- search is as the outcome requires; the judge's state is unchanged
+-- search is as the outcome requires; the script state is unchanged
 pub record RoundEnds {W L : Type 0} {G : Ghosts L} (seen : W → Writer) (outcome : RoundOutcome) (n n' : Variables) (p p' : Proof W L G) (c c' : Search) : Type 0 where
   pub steps : List Step
   pub adds : EmitsChecked seen steps p p'
@@ -36,7 +36,7 @@ pub record RoundEnds {W L : Type 0} {G : Ghosts L} (seen : W → Writer) (outcom
   pub says : RoundResult outcome (steps_of p) steps (session_of p') c c'
   pub shares : RoundShares outcome n' c'
 
--- `EndsRound seen r n n' p p' c c'` is the result of a round: an outcome or an error; `StoreFull` only if the clause
--- buffer is full
+-- `EndsRound seen r n n' p p' c c'` holds if `r` is the result of a round: an outcome as by `RoundEnds`, or the call
+-- failed; `StoreFull` only if the clause buffer is full
 abbrev pub EndsRound : {W L : Type 0} {G : Ghosts L} → (W → Writer) → Result RoundOutcome SolverError → Variables → Variables → Proof W L G → Proof W L G → Search → Search → Type 0
 EndsRound seen r n n' p p' c c' = MatchResult r (λ o. RoundEnds seen o n n' p p' c c') (λ e. PassFailsOr (IsFull c'.parts) seen e p p')

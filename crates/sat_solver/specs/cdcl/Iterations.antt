@@ -1,4 +1,4 @@
--- How a turn of a search ends.
+-- How an iteration of a search ends.
 use Rattle.std.specs.Prelude.{ℕ, ◌≡◌, ◌+◌, ◌<◌, Option, None, Some, List, length, slice_index_or as get_or}
 use Rattle.std.specs.List.{Contains}
 use Rattle.sat_parts.specs.declared.prop.graph.Conflict.{Conflict}
@@ -35,16 +35,16 @@ pub record IsFailing (ls : List ℕ) (p : SearchState) (l : ℕ) : Type 0 where
   pub fails : IsFalseLit p.assignment.current l
   pub decided : AreDecided ls (state p)
 
--- `OpensLevelOrStops found ls p p'` is what holds after a turn in which propagation found no conflict: if `found` is
--- `None`, a level was opened; otherwise the assignment is complete, or an assumption has failed
+-- `OpensLevelOrStops found ls p p'` holds if, after propagation without a conflict, a level was opened (`None`), the
+-- assignment is complete, or one of the assumptions `ls` has failed
 abbrev pub OpensLevelOrStops : Option FoundConflict → List ℕ → SearchState → SearchState → Type 0
 OpensLevelOrStops None ls p p' = length p'.trail.starts ≡ length p.trail.starts + 1
 OpensLevelOrStops (Some (Falsified e)) ls p p' = ⊥
 OpensLevelOrStops (Some Complete) ls p p' = IsComplete ls p'
 OpensLevelOrStops (Some (Failed l)) ls p p' = IsFailing ls p' l
 
--- `GoesDeeper found a a' p p'` is the effect of a turn after propagation: a level was opened, or the search stops as
--- by `OpensLevelOrStops`; clauses and assumptions are unchanged, and no unit is new
+-- `GoesDeeper found a a' p p'` holds if, after propagation without a conflict, a level was opened, or the search stops
+-- as by `OpensLevelOrStops`; clauses and assumptions are unchanged, and no unit is new
 pub record GoesDeeper (found : Option FoundConflict) (a a' : Assumptions) (p p' : SearchState) : Type 0 where
   pub holds : SearchStateInvariant p'
   pub lits : a'.lits ≡ a.lits
@@ -69,20 +69,21 @@ pub record IsStopped (s : Session) (c : Search) (e : Conflict) : Type 0 where
   pub fits : SessionMatchesParts c.parts s (global_in c)
   pub ready : IsReadySearch s c
 
--- `StopResult stop s c` is what holds when a search stops: a clause is falsified, the assignment is complete, or an
--- assumption has failed
+-- `StopResult stop s c` holds if a search stopped for the reason `stop`: a clause is falsified, the assignment is
+-- complete, or an assumption has failed
 abbrev pub StopResult : FoundConflict → Session → Search → Type 0
 StopResult (Falsified e) s c = IsStopped s c e
 StopResult Complete s c = SearchInvariant s c × IsComplete c.assumptions.lits.items c.parts
 StopResult (Failed l) s c = SearchInvariant s c × IsFailing c.assumptions.lits.items c.parts l
 
--- `IterationResult found s c c'` is what holds after a turn: one more level is open, or the search has stopped
+-- `IterationResult found s c c'` holds if, after an iteration, one more level is open (`None`), or the search has
+-- stopped as by `StopResult`
 abbrev pub IterationResult : Option FoundConflict → Session → Search → Search → Type 0
 IterationResult None s c c' = SearchInvariant s c' × (length c'.parts.trail.starts ≡ length c.parts.trail.starts + 1)
 IterationResult (Some stop) s c c' = StopResult stop s c'
 
--- `IterationEffect found s c c'` holds if a turn with this result changed the search from `c` to `c'`; variables and
--- assumptions are unchanged, and the word of the trail is unchanged or extended
+-- `IterationEffect found s c c'` holds if an iteration with this result changed the search from `c` to `c'`; variables
+-- and assumptions are unchanged, and the word of the trail is unchanged or extended
 pub record IterationEffect (found : Option FoundConflict) (s : Session) (c c' : Search) : Type 0 where
   pub says : IterationResult found s c c'
   pub moved : SameVarsAndAssumptions c c'

@@ -41,7 +41,7 @@ pub record SameAssumedAndNames (s t : Session) : Type 0 where
 abbrev pub AreNamedOrIdle : Session → Search → Type 0
 AreNamedOrIdle s c = (v : ℕ) → v < length c.parts.assignment.current → (s.solver_names (global_in c v) ≡ Some v) ⊎ IsIdle (assumed_indices c) (state c.parts) c.parts.vsids v
 
--- `IsReadySearch s c` is the invariant of everything besides the parts: flags, assumptions and indices
+-- `IsReadySearch s c` holds if flags, assumptions and indices of the search are consistent, and match the session
 pub record IsReadySearch (s : Session) (c : Search) : Type 0 where
   pub free : IsFree c
   pub placed : ArePlaced c.assumptions (state c.parts)
@@ -49,7 +49,8 @@ pub record IsReadySearch (s : Session) (c : Search) : Type 0 where
   pub asked : AreAsked s c
   pub used : AreNamedOrIdle s c
 
--- `SearchInvariant s c` is the invariant of a search between turns, with the session of its steps
+-- `SearchInvariant s c` holds if the search is consistent, as it is between iterations, and matches the session of its
+-- steps
 pub record SearchInvariant (s : Session) (c : Search) : Type 0 where
   pub valid : SearchStateSessionInvariant c.parts s (global_in c)
   pub ready : IsReadySearch s c

@@ -49,7 +49,8 @@ pub record LastRefutes (earlier steps : List Step) (s : Session) : Type 0 where
   pub now : s.unsat ≡ true
   pub quiet : AreQuiet steps
 
--- `RoundResult outcome earlier steps s c c'` is what holds after a round with this outcome
+-- `RoundResult outcome earlier steps s c c'` holds if a round with this outcome learned a clause, found a model or a
+-- failed core, or recorded unsat
 abbrev pub RoundResult : RoundOutcome → (earlier steps : List Step) → Session → Search → Search → Type 0
 RoundResult outcomes.Learned earlier steps s c c' = RoundLearns earlier steps s c c'
 RoundResult outcomes.Model earlier steps s c c' = RoundFindsModel s c c' × AreQuiet steps

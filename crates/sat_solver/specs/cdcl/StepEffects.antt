@@ -91,11 +91,11 @@ pub record EmitsStepsWith {A W L : Type 0} {G : Ghosts L} (full : Type 0) (learn
   pub loss : IfErr result (λ e. NamesLoss e old new)
   pub ends : MatchResult result (λ x. Answers x steps) (IsFaultOr full)
 
--- `EmitsStepsOr full seen result old new Answers` is `EmitsStepsWith` for a call that may learn clauses
+-- `EmitsStepsOr full seen result old new Answers` holds if `EmitsStepsWith` does for a call that may learn clauses
 abbrev pub EmitsStepsOr : {A W L : Type 0} {G : Ghosts L} → (full : Type 0) → (W → Writer) → Result A SolverError → Proof W L G → Proof W L G → (A → List Step → Type 0) → Type 0
 EmitsStepsOr full seen result old new Answers = EmitsStepsWith full true seen result old new Answers
 
--- `EmitsSteps seen result old new Answers` is `EmitsStepsWith` for a call that learns nothing and never fails with
--- `StoreFull`
+-- `EmitsSteps seen result old new Answers` holds if `EmitsStepsWith` does for a call that learns nothing and never
+-- fails with `StoreFull`
 abbrev pub EmitsSteps : {A W L : Type 0} {G : Ghosts L} → (W → Writer) → Result A SolverError → Proof W L G → Proof W L G → (A → List Step → Type 0) → Type 0
 EmitsSteps seen result old new Answers = EmitsStepsWith ⊥ false seen result old new Answers

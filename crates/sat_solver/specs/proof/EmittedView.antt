@@ -105,8 +105,8 @@ EmittedReturnsListeners {G = G} m given = ReturnsIfChecked G.takes (emitted_list
 abbrev pub EmittedReturnsNotifiedListeners : {L : Type 0} {G : Ghosts L} → EmittedSteps L G → (given : List L) → Type 0
 EmittedReturnsNotifiedListeners {G = G} m given = m.lost ≡ false → ReturnsNotifiedIfChecked G.takes (emitted_listeners m) given m.history.steps
 
--- `CheckerCallResult result m` is the result of a call of the checker: on an error, the checker failed with this
--- fault, and a processor's error is stored
+-- `CheckerCallResult result m` holds if `result` is that of a call of the checker: on an error, the checker failed with
+-- this fault, and a processor's error is stored
 abbrev pub CheckerCallResult : {L : Type 0} {G : Ghosts L} → Result (Unit {0}) CheckFault → EmittedSteps L G → Type 0
 CheckerCallResult (Ok x) m = Unit {0}
 CheckerCallResult (Err fault) m = EmittedCheckerFailed fault m × IsListenerError fault m.complaint
@@ -116,7 +116,8 @@ CheckerCallResult (Err fault) m = EmittedCheckerFailed fault m × IsListenerErro
 abbrev pub CheckerErrorAfterMissedStep : {L : Type 0} {G : Ghosts L} → (lost : Bool) → CheckFault → EmittedSteps L G → Type 0
 CheckerErrorAfterMissedStep lost fault m = (EmittedCheckerFailed fault m × IsListenerError fault m.complaint) ⊎ ((lost ≡ true) × (fault ≡ checks.OutOfMemory))
 
--- `CheckerResultAfterMissedStep lost result m` is the result of a call of a checker that may have missed a step
+-- `CheckerResultAfterMissedStep lost result m` holds if `result` is that of a call of a checker that may have missed a
+-- step: an error is as by `CheckerErrorAfterMissedStep`
 abbrev pub CheckerResultAfterMissedStep : {L : Type 0} {G : Ghosts L} → (lost : Bool) → Result (Unit {0}) CheckFault → EmittedSteps L G → Type 0
 CheckerResultAfterMissedStep lost (Ok x) m = Unit {0}
 CheckerResultAfterMissedStep lost (Err fault) m = CheckerErrorAfterMissedStep lost fault m
@@ -152,8 +153,8 @@ pub record MadeHasOneMoreListener {L : Type 0} {G : Ghosts L} (processor : L) (o
   pub listening : emitted_listeners new ≡ Some (before ++ processor ∷ [])
   pub taking : emitted_has_missed_step new ≡ false
 
--- `EmittedAddListenerResult result processor old new` is the result of adding a listener; the only error is that
--- memory runs out
+-- `EmittedAddListenerResult result processor old new` holds if `result` is that of adding a listener; the only error is
+-- that memory runs out
 abbrev pub EmittedAddListenerResult : {L : Type 0} {G : Ghosts L} → Result (Unit {0}) CheckFault → L → EmittedSteps L G → EmittedSteps L G → Type 0
 EmittedAddListenerResult (Ok x) processor old new = MadeHasOneMoreListener processor old new
 EmittedAddListenerResult (Err checks.OutOfMemory) processor old new = emitted_listeners new ≡ emitted_listeners old

@@ -15,7 +15,7 @@ use Rattle.sat_checker.specs.declared.processing.ProcessingError.TheVariants as 
 use Rattle.sat_solver.specs.declared.proof.emitted.CheckFault.{CheckFault}
 use Rattle.sat_solver.specs.declared.proof.emitted.CheckFault.TheVariants as checks
 
--- `reads_nothing old said result new` is the relation for transcripts of type `Nobody`, which accept everything
+-- `reads_nothing old said result new` holds if a transcript of type `Nobody` accepts what is said, which is always so
 abbrev pub reads_nothing : Nobody → Transcribed → Result Unit Error → Nobody → Type 0
 reads_nothing old said result new = (result ≡ Ok tt) × (new ≡ old)
 
@@ -30,7 +30,7 @@ ExhaustedBy None written = CountersExhausted (ready_after written)
 ExhaustedBy (Some step) written = ExhaustsCounters step (stored_after written)
 
 module _ {L : Type 0} (takes : L → Notice → Result Unit Error → L → Type 0) where
-  -- `Hears` is the relation by which every processor hears an announcement, as its relation `takes` says
+  -- `Hears` relates listeners before and after an announcement: every processor hears it, as its relation `takes` says
   abbrev pub Hears : Processing L Nobody → Notice → Result Unit ProcessingError → Processing L Nobody → Type 0
   Hears = HearsEach takes reads_nothing
 
@@ -49,9 +49,9 @@ module _ {L : Type 0} (takes : L → Notice → Result Unit Error → L → Type
     abbrev pub HasHeard : Type 0
     HasHeard = HeardAll ⊎ ((e : ProcessingError) × HeardUpTo e)
 
-    -- `FailedOf in_hand fault` is why the checker failed after these steps, at the step in hand, if there is one.
-    -- `OutOfMemory`: memory ran out in the checker, or a listener returned this fault. `CounterEnd`: the step in hand
-    -- exhausts the ids or a counter. `Processor`: a listener returned this error.
+    -- `FailedOf in_hand fault` holds if the checker failed with this fault after these steps, at the step in hand, if
+    -- there is one. `OutOfMemory`: memory ran out in the checker, or a listener returned this fault. `CounterEnd`: the
+    -- step in hand exhausts the ids or a counter. `Processor`: a listener returned this error.
     abbrev pub FailedOf : (in_hand : Option Step) → CheckFault → Type 0
     FailedOf in_hand checks.OutOfMemory = HeardAll ⊎ HeardUpTo faults.OutOfMemory
     FailedOf in_hand checks.CounterEnd = ExhaustedBy in_hand written × HeardAll

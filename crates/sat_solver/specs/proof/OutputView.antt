@@ -43,15 +43,15 @@ pub record SendsSteps (f : ProofFormat) (steps : List Step) (old new : Sink) : T
   pub spelt : AreSpeltInFormat f steps
   pub sent : AddsToSink old new (text_in f steps)
 
--- `PutsSteps f result steps old new` is the result of writing steps to a sink; if memory runs out, the sink is
--- unchanged
+-- `PutsSteps f result steps old new` holds if `result` is that of writing steps to a sink; if memory runs out, the sink
+-- is unchanged
 abbrev pub PutsSteps : ProofFormat → Result (Unit {0}) OutputError → List Step → Sink → Sink → Type 0
 PutsSteps f (Ok x) steps old new = SendsSteps f steps old new
 PutsSteps f (Err (Write e)) steps old new = WriterFails old.writer new.writer (old.waiting ++ text_in f steps)
 PutsSteps f (Err OutOfMemory) steps old new = new ≡ old
 
--- `PutsLines binary result step old new` is the result of writing the lines of a step; if memory runs out, the writer
--- is unchanged
+-- `PutsLines binary result step old new` holds if `result` is that of writing the lines of a step; if memory runs out,
+-- the writer is unchanged
 abbrev pub PutsLines : Bool → Result (Unit {0}) OutputError → Step → Writer → Writer → Type 0
 PutsLines binary (Ok x) step old new = WriterAccepts old new (drat_text binary step)
 PutsLines binary (Err (Write e)) step old new = WriterFails old new (drat_text binary step)

@@ -183,7 +183,8 @@ pub record EmitsChecked {W L : Type 0} {G : Ghosts L} (seen : W → Writer) (ste
   pub width : IsAtWidth old ⊎ (steps ≡ [] → ⊥) → IsAtWidth new
   pub target : TargetTakes (target_of seen old) steps (target_of seen new)
 
--- `PutsOn result steps old new` is the result of writing steps to the target; if memory runs out, none is written
+-- `PutsOn result steps old new` holds if `result` is that of writing steps to the target; if memory runs out, none is
+-- written
 abbrev pub PutsOn : Result (Unit {0}) ProofError → List Step → Target → Target → Type 0
 PutsOn (Ok x) steps old new = TargetTakes old steps new
 PutsOn (Err (Write e)) steps old new = TargetFails old steps new
@@ -206,7 +207,8 @@ FailsOnlyInCheckerAfterMissedStep lost (Err (Write e)) new = ⊥
 FailsOnlyInCheckerAfterMissedStep lost (Err OutOfMemory) new = ⊥
 FailsOnlyInCheckerAfterMissedStep lost (Err (Check fault)) new = mades.CheckerErrorAfterMissedStep lost fault new.made
 
--- `EmitsAsAnswered seen result steps old new` is the result of making these steps: if memory runs out, none was made
+-- `EmitsAsAnswered seen result steps old new` holds if `result` is that of making these steps: if memory runs out, none
+-- was made
 abbrev pub EmitsAsAnswered : {T W L : Type 0} {G : Ghosts L} → (W → Writer) → Result T ProofError → List Step → Proof W L G → Proof W L G → Type 0
 EmitsAsAnswered seen (Ok x) steps old new = EmitsChecked seen steps old new
 EmitsAsAnswered seen (Err (Write e)) steps old new = FailsToEmit seen steps old new × (new.cause ≡ Some e)
@@ -236,14 +238,15 @@ pub record FlushesAndNotifies {W L : Type 0} {G : Ghosts L} (seen : W → Writer
   pub target : Flushed (target_of seen old) (target_of seen new)
   pub reported : AllStepsReported new
 
--- `FlushesTarget seen result old new` is the result of flushing only the target
+-- `FlushesTarget seen result old new` holds if `result` is that of flushing only the target
 abbrev pub FlushesTarget : {W L : Type 0} {G : Ghosts L} → (W → Writer) → Result (Unit {0}) ProofError → Proof W L G → Proof W L G → Type 0
 FlushesTarget seen (Ok x) old new = Drains seen old new
 FlushesTarget seen (Err (Write e)) old new = FailsToEmit seen [] old new × (new.cause ≡ Some e)
 FlushesTarget seen (Err OutOfMemory) old new = ⊥
 FlushesTarget seen (Err (Check fault)) old new = ⊥
 
--- `FlushesOrFails seen result old new` is the result of a flush, after which the checker announces what was pending
+-- `FlushesOrFails seen result old new` holds if `result` is that of a flush, after which the checker announces what was
+-- pending
 abbrev pub FlushesOrFails : {W L : Type 0} {G : Ghosts L} → (W → Writer) → Result (Unit {0}) ProofError → Proof W L G → Proof W L G → Type 0
 FlushesOrFails seen (Ok x) old new = FlushesAndNotifies seen old new
 FlushesOrFails seen (Err (Write e)) old new = FailsToEmit seen [] old new × (new.cause ≡ Some e)
@@ -293,8 +296,8 @@ pub record ClosesOne {W L : Type 0} {G : Ghosts L} (seen : W → Writer) (given 
   pub target : ClosesAfter (target_of seen old) (End ∷ []) (target_of seen new)
   pub reported : AllStepsReported new
 
--- `ClosesTarget seen result old new` is the result of closing a proof: no target was open, or it is returned, or the
--- target, memory or the checker failed
+-- `ClosesTarget seen result old new` holds if `result` is that of closing a proof: no target was open, or it is
+-- returned, or the target, memory or the checker failed
 abbrev pub ClosesTarget : {W L : Type 0} {G : Ghosts L} → (W → Writer) → Result (Option W) ProofError → Proof W L G → Proof W L G → Type 0
 ClosesTarget seen (Ok None) old new = ClosesNone seen old new
 ClosesTarget seen (Ok (Some given)) old new = ClosesOne seen given old new
@@ -335,8 +338,8 @@ pub record HasOneMoreListener {W L : Type 0} {G : Ghosts L} (processor : L) (old
   pub listening : proof_listeners new ≡ Some (before ++ processor ∷ [])
   pub taking : has_missed_step new ≡ false
 
--- `AddListenerResult result processor old new` is the result of adding a listener; the only error is that memory runs
--- out
+-- `AddListenerResult result processor old new` holds if `result` is that of adding a listener; the only error is that
+-- memory runs out
 abbrev pub AddListenerResult : {W L : Type 0} {G : Ghosts L} → Result (Unit {0}) ProofError → L → Proof W L G → Proof W L G → Type 0
 AddListenerResult (Ok x) processor old new = HasOneMoreListener processor old new
 AddListenerResult (Err (Write e)) processor old new = ⊥

@@ -51,8 +51,8 @@ pub record CountsEmpoweringIn (from to : List Step) (k : ℕ) : Type 0 where
   pub following : to ≡ steps ++ from
   pub times : CountsEmpowering from steps k
 
--- `ContextInvariant c` is the invariant between rounds: all steps were allowed, the invariant of the search holds,
--- and the intervals of reductions are positive
+-- `ContextInvariant c` holds if all steps were allowed, the invariant of the search holds, and the intervals of
+-- reductions are positive, as between rounds
 pub record ContextInvariant {W L : Type 0} {G : Ghosts L} (c : Context W L G) : Type 0 where
   pub keeps : HasAllowedSteps c.proof
   pub search : SearchInvariant (session_of c.proof) c.search
@@ -68,7 +68,7 @@ abbrev pub values_in : {W L : Type 0} {G : Ghosts L} → Context W L G → ℕ
 values_in c = length c.search.parts.assignment.current
 
 -- `ComesByRounds seen a n k b m` holds if `k` rounds that ended in a conflict lead from `a`, `n` to `b`, `m`: exactly
--- `k` of the steps derive an empowering clause. The judge's state, assumptions and parameters are unchanged.
+-- `k` of the steps derive an empowering clause. The script state, assumptions and parameters are unchanged.
 pub record ComesByRounds {W L : Type 0} {G : Ghosts L} (seen : W → Writer) (a : Context W L G) (n : Variables) (k : ℕ) (b : Context W L G) (m : Variables) : Type 0 where
   pub steps : List Step
   pub adds : EmitsChecked seen steps a.proof b.proof
@@ -82,7 +82,8 @@ pub record ComesByRounds {W L : Type 0} {G : Ghosts L} (seen : W → Writer) (a 
 abbrev pub ReachedByAsManyRounds : {W L : Type 0} {G : Ghosts L} → (W → Writer) → Context W L G → Context W L G → Type 0
 ReachedByAsManyRounds {W} {L} {G} seen b c = (a : Context W L G) (n m : Variables) (k : ℕ) → ComesByRounds seen a n k b m → ComesByRounds seen a n k c m
 
--- `HoldsAfterOutcome outcome s m c c'` is what holds of the names and the search after an outcome that is an answer
+-- `HoldsAfterOutcome outcome s m c c'` holds if names and search are as this outcome requires, which is an answer: a
+-- model or a failed core was found, or unsat was recorded
 abbrev pub HoldsAfterOutcome : RoundOutcome → Session → Variables → Search → Search → Type 0
 HoldsAfterOutcome outcomes.Learned s m c c' = ⊥
 HoldsAfterOutcome outcomes.Model s m c c' = RoundFindsModel s c c' × SharesIndices m c'

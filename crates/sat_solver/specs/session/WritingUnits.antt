@@ -7,7 +7,8 @@ use Rattle.sat_parts.specs.prop.Reasons.{AreUnitInTurn}
 use Rattle.sat_parts.specs.declared.parts.SearchState.{SearchState}
 use Rattle.sat_parts.specs.parts.Whole.{state}
 
--- `IsOrderly p` holds if the parts satisfy what writing units requires
+-- `IsOrderly p` holds if units of level 0 can be written: values, reasons and trail agree, long clauses are well
+-- formed, and the reasons on the trail are unit in turn
 pub record IsOrderly (p : SearchState) : Type 0 where
   pub agrees : StateIsConsistent (state p)
   pub clauses : AreClauses p.clauses (live_refs p.clauses p.db.refs) (length p.assignment.current)

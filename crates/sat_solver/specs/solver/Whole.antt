@@ -75,7 +75,7 @@ pub record SolverPartsInvariant {W L : Type 0} {G : Ghosts L} (c : Context W L G
   pub decays : AreDecays c.config
   -- the solver's own checker, if there is one, has received all steps
   pub taking : has_missed_step c.proof ≡ false
-  -- names and steps match some state of the judge
+  -- names and steps match some script state
   pub judged : HasScriptState n (steps_of c.proof)
   pub says : HoldsInState state c n asked assumed core
 

@@ -29,7 +29,7 @@ pub record LosesIndex (s t : Session) (v : ℕ) : Type 0 where
   pub assumed : t.assumed ≡ s.assumed
 
 -- `FreesIndex old new from to v` holds if the variable `v` lost its index in names and session, by steps that learn
--- nothing; the judge's state is unchanged
+-- nothing; the script state is unchanged
 pub record FreesIndex (old new : Variables) (from to : List Step) (v : ℕ) : Type 0 where
   pub does : KeepsScriptState old new from to
   pub solvers : (w : ℕ) → solver_of new w ≡ (if w == v then None else solver_of old w)
@@ -53,7 +53,7 @@ pub record KeepsAsked (old new : Variables) (s t : Session) : Type 0 where
   pub assumed : t.assumed ≡ s.assumed
   pub indices : (v x : ℕ) → mentions s.assumed v ≡ true → solver_of old v ≡ Some x → solver_of new v ≡ Some x
 
--- `FreesSome old new from to c c'` holds if some indices were released. No step is visible to the judge or learns
+-- `FreesSome old new from to c c'` holds if some indices were released. No step changes the script state or learns
 -- anything. Clauses and assumptions are unchanged, and the word of the trail is unchanged or extended.
 pub record FreesSome (old new : Variables) (from to : List Step) (c c' : Search) : Type 0 where
   pub does : KeepsScriptState old new from to

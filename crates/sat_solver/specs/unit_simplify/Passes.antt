@@ -40,8 +40,8 @@ pub record MaySettle {W L : Type 0} {G : Ghosts L} (n : Variables) (p : Proof W 
   pub propagated : IsPropagated (session_of p) c
   pub bottom : c.parts.trail.starts ≡ []
 
--- `PassesQuietly seen n n' p p' c c'` holds if the invariants still hold together. The steps made are invisible to
--- the judge and learn nothing, assumptions are unchanged, and the word of the trail is unchanged or extended.
+-- `PassesQuietly seen n n' p p' c c'` holds if the invariants still hold together. The steps made change no script
+-- state and learn nothing, assumptions are unchanged, and the word of the trail is unchanged or extended.
 pub record PassesQuietly {W L : Type 0} {G : Ghosts L} (seen : W → Writer) (n n' : Variables) (p p' : Proof W L G) (c c' : Search) : Type 0 where
   pub together : JointInvariant n' p' c'
   pub took : ComesByCheckedSteps seen p p'
@@ -75,7 +75,8 @@ pub record IsSimplifiedPass {W L : Type 0} {G : Ghosts L} (seen : W → Writer) 
   pub left : (o : ℕ) → Contains (live_refs c'.parts.clauses c'.parts.db.refs) o → HasNoAssignedLit c'.parts o
   pub indices : AllLeft n' (session_of p') c'.parts
 
--- `Simplifies seen r n n' p p' c c'` is the result of a simplification: as by `IsSimplifiedPass`, or the call failed
+-- `Simplifies seen r n n' p p' c c'` holds if `r` is the result of a simplification: as by `IsSimplifiedPass`, or the
+-- call failed
 abbrev pub Simplifies : {W L : Type 0} {G : Ghosts L} → (W → Writer) → Result (Unit {0}) SolverError → Variables → Variables → Proof W L G → Proof W L G → Search → Search → Type 0
 Simplifies seen r n n' p p' c c' = MatchResult r (λ _. IsSimplifiedPass seen n n' p p' c c') (λ e. PassFails seen e p p')
 
@@ -88,11 +89,13 @@ pub record FindsFalseClause {W L : Type 0} {G : Ghosts L} (n n' : Variables) (p 
   pub moved : SameVarsAndAssumptions c c'
   pub word : TrailWordExtendsFor (assumed_indices c) c.parts c'.parts
 
--- `BeginSays seen conflict n n' p p' c c'` holds if the round may go on, or a clause is already falsified
+-- `BeginSays seen conflict n n' p p' c c'` holds if the round can continue, or the conflict is a clause that is already
+-- falsified
 abbrev pub BeginSays : {W L : Type 0} {G : Ghosts L} → (W → Writer) → Option Conflict → Variables → Variables → Proof W L G → Proof W L G → Search → Search → Type 0
 BeginSays seen None n n' p p' c c' = PassesQuietly seen n n' p p' c c'
 BeginSays seen (Some e) n n' p p' c c' = FindsFalseClause n n' p p' c c' e
 
--- `BeginsRound seen r n n' p p' c c'` is the result of beginning a round: as by `BeginSays`, or the call failed
+-- `BeginsRound seen r n n' p p' c c'` holds if `r` is the result of beginning a round: as by `BeginSays`, or the call
+-- failed
 abbrev pub BeginsRound : {W L : Type 0} {G : Ghosts L} → (W → Writer) → Result (Option Conflict) SolverError → Variables → Variables → Proof W L G → Proof W L G → Search → Search → Type 0
 BeginsRound seen r n n' p p' c c' = MatchResult r (λ o. BeginSays seen o n n' p p' c c') (λ e. PassFails seen e p p')

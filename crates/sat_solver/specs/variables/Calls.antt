@@ -1,4 +1,4 @@
--- How calls over names change names, proof and judge.
+-- How calls over names change names, proof and script state.
 use Rattle.std.specs.Prelude.{ℕ, ◌+◌, ◌==◌, ◌≡◌, max, false, Some, List, [], ◌∷◌, map, if◌then◌else◌}
 use Rattle.sat_base.specs.script.ScriptState.{ScriptState, with_name, with_names, new_names, introduce}
 use Rattle.sat_base.specs.steps.Steps.{Step, UserVarName}
@@ -17,7 +17,7 @@ use Rattle.sat_solver.specs.variables.VariableRoom.{live_count, LeavesRoom}
 use Rattle.sat_solver.specs.declared.variables.Variables.{Variables}
 
 -- `NamesInvariant n steps` holds if the names are consistent and match the steps, all of which were allowed: the
--- invariant between calls, for any judge
+-- invariant between calls, in any script state
 pub record NamesInvariant (n : Variables) (steps : List Step) : Type 0 where
   pub tidy : VariablesInvariant n
   pub said : NamesMatchSteps n (session_after steps)
@@ -25,18 +25,17 @@ pub record NamesInvariant (n : Variables) (steps : List Step) : Type 0 where
   -- by the steps, every name has the variable that is stored for it
   pub read : (u : ℕ) → variable_of steps (u + 1) ≡ global_of n u
 
--- `NamesAgree n steps j live` holds if names and steps match the state `j` of the judge, whose live variables are
--- `live`
+-- `NamesAgree n steps j live` holds if names and steps match the script state `j`, whose live variables are `live`
 pub record NamesAgree (n : Variables) (steps : List Step) (j : ScriptState) (live : LiveVariables) : Type 0 where
   pub judged : NamesMatchState n j live
   pub bridge : IsBridge checker_rules j steps live
 
--- `HasScriptState n steps` holds if names and steps match some state of the judge
+-- `HasScriptState n steps` holds if names and steps match some script state
 abbrev pub HasScriptState : Variables → List Step → Type 0
 HasScriptState n steps = (j : ScriptState) × (live : LiveVariables) × NamesAgree n steps j live
 
--- `ReachesScriptState new from to j es` holds if names and steps match the state `j` of the judge, and the ordered
--- steps made since `from` are the expected ones
+-- `ReachesScriptState new from to j es` holds if names and steps match the script state `j`, and the ordered steps made
+-- since `from` are the expected ones
 pub record ReachesScriptState (new : Variables) (from to : List Step) (j : ScriptState) (es : List Expected) : Type 0 where
   pub live : LiveVariables
   pub agree : NamesAgree new to j live
@@ -63,7 +62,7 @@ pub record NamesAll (old new : Variables) (from to : List Step) (names : List �
   pub comes : OnlyAllowedSteps IsDue from to
   pub kept : (j : ScriptState) (live : LiveVariables) → NamesAgree old from j live → ReachesScriptState new from to (with_names names j) (map NewName names)
 
--- `NamesEffect old new from to judge due` holds if a call changed the judge's state by `judge` and made the ordered
+-- `NamesEffect old new from to judge due` holds if a call changed the script state by `judge` and made the ordered
 -- steps `due`; other steps may be in between
 pub record NamesEffect (old new : Variables) (from to : List Step) (judge : ScriptState → ScriptState) (due : ScriptState → List Expected) : Type 0 where
   pub valid : NamesInvariant new to
@@ -82,6 +81,6 @@ pub record IntroducesNameUnseen (old new : Variables) (from to : List Step) (use
   pub comes : OnlyAllowedSteps IsDue from to
   pub room : LeavesRoom old new user
 
--- `KeepsScriptState old new from to` holds if the judge's state is unchanged, and no ordered step was made
+-- `KeepsScriptState old new from to` holds if the script state is unchanged, and no ordered step was made
 abbrev pub KeepsScriptState : Variables → Variables → List Step → List Step → Type 0
 KeepsScriptState old new from to = NamesEffect old new from to (λ j. j) (λ j. [])

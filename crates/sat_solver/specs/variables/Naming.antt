@@ -150,8 +150,8 @@ pub record IsNextUser (n : Variables) (user : ℕ) : Type 0 where
   pub reach : user ≤ names_used n
   pub lowest : (m : ℕ) → m < user → global_of n m ≡ None → ⊥
 
--- `IsLowestUnused j name` holds if `name` is the lowest name not in use, by the judge's state: the lowest hidden name,
--- otherwise the first never used
+-- `IsLowestUnused j name` holds if `name` is the lowest name not in use in the script state `j`: the lowest hidden
+-- name, otherwise the first never used
 pub record IsLowestUnused (j : ScriptState) (name : ℕ) : Type 0 where
   pub named : 0 < name
   pub unused : identity_of j name ≡ None

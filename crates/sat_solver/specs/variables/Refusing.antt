@@ -9,7 +9,7 @@ use Rattle.sat_base.specs.script.ScriptState.{Refusal, WitnessName}
 abbrev pub names_in : List ℕ → List ℕ
 names_in = map (λ l. variable l + 1)
 
--- the judge's refusal for a name of mode witness, by its index, or `None`
+-- the refusal of a command for a name of mode witness, given its index, or `None`
 abbrev pub as_refusal : Option ℕ → Option Refusal
 as_refusal None = None
 as_refusal (Some user) = Some (WitnessName (user + 1))

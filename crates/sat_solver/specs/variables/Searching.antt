@@ -31,11 +31,11 @@ IsOfSearch n step = ⊥
 abbrev pub SearchesPreserveNames : Type 0
 SearchesPreserveNames = (n : Variables) (steps : List Step) (step : Step) → NamesInvariant n steps → IsAllowedStep (session_after steps) step → IsOfSearch n step → NamesInvariant n (step ∷ steps)
 
--- `SearchesAgree` holds if every allowed step of the search leaves the judge's state unchanged
+-- `SearchesAgree` holds if every allowed step of the search leaves the script state unchanged
 abbrev pub SearchesAgree : Type 0
 SearchesAgree = (n : Variables) (steps : List Step) (step : Step) → NamesInvariant n steps → IsAllowedStep (session_after steps) step → IsOfSearch n step → (j : ScriptState) (live : LiveVariables) → NamesAgree n steps j live → NamesAgree n (step ∷ steps) j live
 
 -- `UnitsPreserveNames` holds if storing the value of the unit of a variable that has an index preserves the invariant
--- of names and the judge's state
+-- of names and the script state
 abbrev pub UnitsPreserveNames : Type 0
 UnitsPreserveNames = (old new : Variables) (steps : List Step) (v x : ℕ) (value : Option Bool) → NamesInvariant old steps → solver_of old v ≡ Some x → PutsUnit old new v value → NamesInvariant new steps × ((j : ScriptState) (live : LiveVariables) → NamesAgree old steps j live → NamesAgree new steps j live)

@@ -1,4 +1,4 @@
--- What a solver stores about names, variables and indices: whether it is consistent, and whether it matches the proof and the judge.
+-- What a solver stores about names, variables and indices: whether it is consistent, and whether it matches the proof and the script state.
 use Rattle.std.specs.Prelude.{ℕ, ◌+◌, ◌<◌, ◌≤◌, ◌≡◌, ◌≢◌, Bool, true, false, not, ◌&&◌, Option, None, Some, is_some, List, length, get_or, nat_lt, if◌then◌else◌}
 use Rattle.std.specs.List.{AllByRecursion}
 use Rattle.sat_base.specs.values.Literals.{var_limit, mk_lit}
@@ -132,7 +132,7 @@ IsModeOf kept.Sample m = m ≡ Sampled
 IsModeOf kept.Witness m = m ≡ Witnessed
 IsModeOf kept.Hide m = Unit {0}
 
--- `NamesMatchState n j live` holds if the stored names match the judge's state. Name k has index k - 1.
+-- `NamesMatchState n j live` holds if the stored names match the script state. Name k has index k - 1.
 pub record NamesMatchState (n : Variables) (j : ScriptState) (live : LiveVariables) : Type 0 where
   pub first_unused : j.first_unused ≡ names_used n + 1
   pub no_zero : identity_of j 0 ≡ None
