@@ -166,7 +166,7 @@ longs_push : (s : PropagationState) (ls : List ℕ) (l : ℕ) → longs_of s (ls
 longs_push s [] l = append-nil (long_of (node s l).reason)
 longs_push s (m ∷ ms) l = ap (λ (xs : List ℕ). long_of (node s m).reason ++ xs) (longs_push s ms l) ∙ sym (append_assoc (long_of (node s m).reason) (longs_of s ms) (long_of (node s l).reason))
 
--- meeting literals changes neither the used literals nor the involved clauses
+-- seeing literals changes neither the used literals nor the antecedents
 record Same (w w' : AnalysisState) : Type 0 where
   used : w'.used ≡ w.used
   antecedents : w'.antecedents ≡ w.antecedents

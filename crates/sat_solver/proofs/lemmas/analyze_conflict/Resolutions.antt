@@ -1,4 +1,4 @@
--- Minimization and sorting preserve what resolution has met. The long clauses that were involved are live.
+-- Minimization and sorting preserve what resolution has seen. Antecedents are live.
 use Rattle.std.proofs.Common.{ℕ, ◌≡◌, ◌<◌, inl, inr, List, [], ◌∷◌, length, get_or, sym, ap, ◌∙◌, subst, arith, get_or-take, Result, Ok, Err, IfOk, OnOk}
 use Rattle.std.proofs.lemmas.Bool.{cases_lt}
 use Rattle.std.proofs.lemmas.List.Elements.{Contains-append_cases}
@@ -68,7 +68,7 @@ conflict_live words live implied s o (conflicts.Long q) h c =
     let e : 0 ≡ c.0 = omega (arith, c.1) in
     subst (λ z. Contains live z) (ap (λ k. get_or (q ∷ []) k 0) e ∙ at_place (q ∷ []) o c) h.0
 
--- every involved long clause is live
+-- every antecedent is live
 pub involved_live : (words live : List ℕ) (implied : List (List ℕ)) (s : PropagationState) (e : Conflict) (w : AnalysisState) → StateIsConsistent s → 0 < current_level s → AreUnitInTurn words live implied s (get_or s.trail.starts 0 0) → IsConflict words live implied s.values e →
     ((l : ℕ) → Contains w.used l → IsReasoned s 0 l) → IsResolution words s e w → (o : ℕ) → Contains w.antecedents o → Contains live o
 involved_live words live implied s e w a above turns conflict reasons r o c =
@@ -79,7 +79,7 @@ involved_live words live implied s e w a above turns conflict reasons r o c =
           (x.place, subst (λ z. Implies words live implied s x.place (node s z).reason) x.there (turns x.place (above_first s x.place l a x.within x.there x.above above) x.within))) y
     ]
 
--- every involved long clause is live if the analysis succeeds
+-- every antecedent is live if the analysis succeeds
 pub live_ok : {E : Type 0} (words live : List ℕ) (implied : List (List ℕ)) (s : PropagationState) (e : Conflict) (w : AnalysisState) (r : Result ℕ E) → StateIsConsistent s → 0 < current_level s → AreUnitInTurn words live implied s (get_or s.trail.starts 0 0) →
     IsConflict words live implied s.values e → IfOk r (λ back. AnalysisResult words s (falsified words e) w back) → OnOk r (IsResolution words s e w) → OnOk r ((o : ℕ) → Contains w.antecedents o → Contains live o)
 live_ok words live implied s e w (Ok back) a above turns conflict l i = λ o c.

@@ -38,7 +38,7 @@ refutes_later earlier xs ys s quiet l = record {
   quiet = quiet_both xs ys quiet l.quiet;
 }
 
--- the result of a round also holds from an earlier state, if only quiet steps came between
+-- the result of a round also holds from an earlier state, if only quiet steps were made in between
 pub round_from : (outcome : RoundOutcome) (earlier xs ys : List Step) (s : Session) (a b c : Search) → SameVarsAndAssumptions a b → TrailWordExtendsFor (assumed_indices a) a.parts b.parts → AreQuiet xs → RoundResult outcome (xs ++ earlier) ys s b c → RoundResult outcome earlier (ys ++ xs) s a c
 round_from outcomes.Learned earlier xs ys s a b c moved word quiet r = record {
   search = r.search;

@@ -60,7 +60,7 @@ module _ (p mid : SearchState) (same : SameClauses p mid) (graph : mid.graph ≡
   }
 
   module _ (q n : SearchState) (s s' : Scale) (w : AnalysisState) (header : Header) where
-    -- the involved clauses were bumped, and the learned clause was stored
+    -- the antecedents were bumped, and the learned clause was stored
     pub rated_ok : {E : Type 0} → q.db.refs ≡ mid.db.refs → BumpsClauses (clause_level_count mid) mid.db.refs w.antecedents mid.clauses s q.clauses s' → (r : Result (Unit {0}) E) → OnOk r (AddsLearnedClause q n header w.clause) → OnOk r (BumpsAntecedents p s w header n s')
     rated_ok refs take (Ok x) learnt = record {
       between = q;

@@ -1,4 +1,4 @@
--- The turns of a search.
+-- The iterations of a search.
 use Rattle.std.proofs.Common.{ℕ, ◌+◌, ◌<◌, ◌≡◌, ◌∙◌, Ok, Option, None, Some, List, length, refl, ap, arith, inl, inr, sym, subst}
 use Rattle.sat_base.specs.device.Device.{Writer}
 use Rattle.sat_checker.specs.declared.processing.ProofProcessor.{Ghosts}
@@ -130,7 +130,7 @@ module _ (s : Session) (c c' : Search) (search : SearchInvariant s c) (globals :
 
 -- A NEW LEVEL, OR THE SEARCH STOPS
 
--- the result of a turn also holds from an earlier state of the same level
+-- the result of an iteration also holds from an earlier state of the same level
 pub turned_from : (found : Option FoundConflict) (s : Session) (a b c : Search) → SameVarsAndAssumptions a b → TrailWordExtendsFor (assumed_indices a) a.parts b.parts → length b.parts.trail.starts ≡ length a.parts.trail.starts → IterationEffect found s b c → IterationEffect found s a c
 turned_from found s a b c moved word starts t = record {
   says = later found t.says;
@@ -176,9 +176,9 @@ module _ (s s' : Session) (c c' : Search) (mid : SearchState) (propagated : IsPr
       says (Some Complete) x = (search, rw d.lits x)
       says (Some (Failed l)) x = (search, rw d.lits x)
 
--- A TURN
+-- AN ITERATION
 
--- a turn: propagation, then units are written, then a level begins or the search stops
+-- an iteration: propagation, then units are written, then a level begins or the search stops
 module _ {W L : Type 0} {G : Ghosts L} (seen : W → Writer) (p q : Proof W L G) (c d e : Search) (mid : SearchState) (went : Propagation (session_of p) c d) (gs : List ℕ) (same : gs ≡ d.globals.items)
     (settles : EmitsSteps {A = Unit {0}} seen (Ok tt) p q (λ _ _. TakesUnitsOff d.parts mid (session_of q) (global_of_index gs))) (globals : e.globals ≡ d.globals) (analysis : e.analysis ≡ d.analysis) (flags : e.flags ≡ d.flags) where
   pub turned : (found : Option FoundConflict) → GoesDeeper found d.assumptions e.assumptions mid e.parts → IterationEffect found (session_of q) c e

@@ -1,4 +1,4 @@
--- Headers of clauses that were involved in an analysis.
+-- Headers of the antecedents of an analysis.
 use Rattle.std.proofs.Common.{ℕ, zero, suc, ◌+◌, ◌*◌, ◌<◌, ◌≤◌, ◌≡◌, ◌∙◌, inl, inr, Bool, true, false, cond, ltb, List, [], ◌∷◌, length, drop, get_or, refl, sym, ap, subst, arith, lt-ltb}
 use Rattle.std.proofs.lemmas.List.{drop_more}
 use Rattle.std.specs.List.{Contains}
@@ -66,7 +66,7 @@ module _ (p q : SearchState) (h : ChangesHeaders p q) (o : ℕ) (live : Contains
   pub levels_kept : clause_level_count q o ≡ clause_level_count p o
   levels_kept = rw (h.same.0.1, h.lits o live) (refl {a = clause_level_count p o})
 
--- what bumping requires of involved clauses still holds after headers change
+-- what bumping requires of antecedents still holds after headers change
 pub involved_kept : (p q : SearchState) (flags : List Bool) (os : List ℕ) → ChangesHeaders p q → AreAntecedents p flags os → AreAntecedents q flags os
 involved_kept p q flags os h x = record {
   live = λ o c. live_kept p q h o (x.live o c);
@@ -76,7 +76,7 @@ involved_kept p q flags os h x = record {
 
 -- CLAUSES, ONE AFTER ANOTHER
 
--- one more involved clause was bumped, then the rest of the list
+-- one more antecedent was bumped, then the rest of the list
 pub takes_next : (levels : ℕ → ℕ) (refs os : List ℕ) (i o : ℕ) (words mid words' : List ℕ) (s t s' : Scale) → i < length os → o ≡ get_or os i 0 → BumpsClause (levels o) words mid refs o s t → BumpsClauses levels refs (drop (i + 1) os) mid t words' s' →
     BumpsClauses levels refs (drop i os) words s words' s'
 takes_next levels refs os i o words mid words' s t s' lt at one rest =
@@ -93,7 +93,7 @@ drop_all [] (suc n) le = refl
 drop_all (o ∷ os) zero le = absurd (omega arith)
 drop_all (o ∷ os) (suc n) le = drop_all os n (omega arith)
 
--- when no involved clause is left, activities decay
+-- when no antecedent is left, activities decay
 pub takes_last : (levels : ℕ → ℕ) (refs os : List ℕ) (n : ℕ) (words words' : List ℕ) (s s' : Scale) → length os ≤ n → DecaysActivities words words' refs s s' → BumpsClauses levels refs (drop n os) words s words' s'
 takes_last levels refs os n words words' s s' le h = subst (λ ps. BumpsClauses levels refs ps words s words' s') (sym (drop_all os n le)) h
 

@@ -1,4 +1,4 @@
--- Every level of the literals of involved clauses has a flag.
+-- Every level of the literals of antecedents has a flag.
 use Rattle.std.proofs.Common.{ℕ, zero, suc, ◌*◌, ◌<◌, ◌≤◌, ◌≡◌, ◌∙◌, Bool, List, [], ◌∷◌, length, get_or, sym, ap, subst, arith, inl, inr}
 use Rattle.std.proofs.lemmas.List.Elements.{Contains-append_cases}
 use Rattle.std.specs.List.{Contains}
@@ -67,7 +67,7 @@ module _ (words live : List ℕ) (implied : List (List ℕ)) (s : PropagationSta
       let e : 0 ≡ c.0 = omega (arith, c.1) in
       subst (λ z. AreLow z) (ap (λ k. get_or (q ∷ []) k 0) e ∙ at_place (q ∷ []) o c) (λ k b. negated_low (lit_of words q k) (true_from_false s.values (lit_of words q k) (h.1 k b)))
 
--- involved clauses are live, and every level of their literals has a flag
+-- antecedents are live, and every level of their literals has a flag
 pub are_involved : (p : SearchState) (e : Conflict) (w : AnalysisState) (back : ℕ) (flags : List Bool) → IsRefuted p e → AnalysisResult p.clauses (state p) (falsified p.clauses e) w back → IsResolution p.clauses (state p) e w →
     ((o : ℕ) → Contains w.antecedents o → Contains (live_refs p.clauses p.db.refs) o) → 2 * length p.assignment.current ≤ length flags → AreClear flags → AreAntecedents p flags w.antecedents
 are_involved p e w back flags refuted learns r live le clear = record {

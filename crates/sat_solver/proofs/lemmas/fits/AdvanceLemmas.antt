@@ -139,7 +139,7 @@ module _ (p : SearchState) (e : Conflict) (w : AnalysisState) (back : ℕ) (s : 
   not_low : (l : ℕ) → level (state p) l ≡ level (state p) (get_or w.clause 0 0) → IsLow (state p) back l → ⊥
   not_low l e x = omega (arith, x.low, learns.below, learns.asserting.top)
 
-  -- a proof literal that stands for a literal of the search
+  -- a proof literal that represents a literal of the search
   record Denied (l : ℕ) : Type 0 where
     literal : ℕ
     named : IsNamed literal

@@ -53,7 +53,7 @@ quiet_writes : (names : ℕ → Option ℕ) (earlier steps : List Step) → AllB
 quiet_writes names earlier [] h = no_step
 quiet_writes names earlier (step ∷ steps) h = traces_both (quiet_writes names earlier steps h.1) (silent (unordered names step h.0) no_step)
 
--- the judge does not see these steps
+-- these steps do not change the script state
 pub nothing_after : (n : Variables) (earlier steps : List Step) → NamesInvariant n earlier → AreAllowedSteps (steps ++ earlier) → AllByRecursion (IsSearched (session_after earlier).solver_names) steps → KeepsScriptState n n earlier (steps ++ earlier)
 nothing_after n earlier steps valid may h = record {
   valid = stands_after n earlier steps valid may h;

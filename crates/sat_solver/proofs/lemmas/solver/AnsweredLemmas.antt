@@ -1,4 +1,4 @@
--- The result of a search, for names and judge.
+-- The result of a search, for names and script state.
 use Rattle.std.proofs.Common.{ℕ, zero, suc, ◌+◌, ◌<◌, ◌≡◌, ◌∙◌, Bool, Option, None, Some, List, [], ◌∷◌, ◌++◌, length, map, get_or, refl, sym, ap, subst, arith, inl, inr}
 use Rattle.std.specs.List.{AllByRecursion, Contains}
 use Rattle.sat_base.specs.device.Device.{Writer}
@@ -115,7 +115,7 @@ module _ (n : Variables) (steps : List Step) (valid : NamesInvariant n steps) (c
         each [] f = tt
         each (l ∷ ls) f = (let t = taken_from l (f 0 (omega arith)) in subst (λ m. Among m user) (sym t.is) t.among, each ls (λ k lt. f (suc k) (omega arith)))
 
-    -- it stands for the core that was written
+    -- it represents the core that was written
     pub core_spelt : SameSet (variable_of steps) (map user_literal (map (lit_over_names n) core)) (map (with_var (global_in c)) core)
     core_spelt = (there core among (λ x m. m), only core among (λ x m. m))
       where
@@ -141,7 +141,7 @@ core_none steps codes hashes may a held t = (let s = sessions_are_accepted (Fail
 
 -- STEPS OF ANSWERS
 
--- the line of a model stands for the model that was written
+-- the line of a model represents the model that was written
 pub line_spelt : (n : Variables) (steps : List Step) (values : List (Option Bool)) → NamesInvariant n steps → EachSpelt (variable_of steps) (map user_literal (named_to n values (names_used n))) (model_to n values (variables_used n))
 line_spelt n steps values valid =
     mapped_each (λ l. (code : ℕ) × Spells (variable_of steps) l code × Among code (model_to n values (variables_used n))) (named_to n values (names_used n))
@@ -185,7 +185,7 @@ module _ {W L : Type 0} {G : Ghosts L} (seen : W → Writer) (n : Variables) (a 
     shares = shares_moved n a.search b.search joined.shares moved;
   }
 
-  -- the step of a model is the one that the judge expects
+  -- the step of a model is the one that the script state expects
   pub does_shown : (b : Context W L G) → Shown seen n a b → (asked : List ℕ) → AllByRecursion (λ l. Among l (line_of_names n a)) asked →
       NamesEffect n n (steps_of a.proof) (steps_of b.proof) (λ j. j) (λ j. Shows (names_of (map user_literal (line_of_names n a))) (map user_literal asked) (map user_literal (line_of_names n a)) ∷ [])
   does_shown b shown asked among =
@@ -201,7 +201,7 @@ module _ {W L : Type 0} {G : Ghosts L} (seen : W → Writer) (n : Variables) (a 
         };
       }
 
-  -- the step of a core is the one that the judge expects
+  -- the step of a core is the one that the script state expects
   pub does_failed : (b : Context W L G) (core : List ℕ) → WritesFailedCore seen n a b core → (asked order : List ℕ) → Images n asked order → a.search.assumptions.lits.items ≡ order →
       NamesEffect n n (steps_of a.proof) (steps_of b.proof) (λ j. j) (λ j. Fails (map user_literal asked) (map user_literal core) ∷ [])
   does_failed b core f asked order images lits =

@@ -1,4 +1,4 @@
--- The open literals of a clause are moved to its front.
+-- The open literals of a clause are moved to its beginning.
 use Rattle.std.proofs.Common.{ℕ, ◌+◌, ◌≡◌, ◌≢◌, ◌<◌, ◌≤◌, ◌∙◌, inl, inr, Bool, true, false, not, Option, Some, None, List, length, get_or, set, refl, sym, ap, subst, arith, get_or-set_same, get_or-set_other, length-set}
 use Rattle.std.proofs.lemmas.Bool.{cases_eq}
 use Rattle.std.specs.List.{Contains}
@@ -119,7 +119,7 @@ module _ (p q : SearchState) (o kept at : ℕ) (g : Gathers p q o kept at) (le :
     rest = λ k a. g.rest k (omega arith);
   }
 
-  -- an open literal is moved to the front
+  -- an open literal is moved to the beginning
   module _ (r : SearchState) (there : Contains (live_refs p.clauses p.db.refs) o) (lt : at < size_of p.clauses o) (is_open : IsUnassignedLit p.assignment.current (lit_of q.clauses o at)) (s : SwapsLits q r o kept at) (holds : SearchStateInvariant r) (db : r.db ≡ q.db) (word : TrailWordExtends q r) where
     size : size_of q.clauses o ≡ size_of p.clauses o
     size = moved_size p q o g.moved there

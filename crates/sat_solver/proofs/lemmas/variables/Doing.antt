@@ -13,7 +13,7 @@ use Rattle.sat_solver.specs.declared.variables.Variables.{Variables}
 pub does_none : (n : Variables) (log : List Step) → NamesInvariant n log → KeepsScriptState n n log log
 does_none n log valid = record { valid = valid; kept = λ j live a. record { live = live; agree = a; trace = no_step } }
 
--- if names and steps match a state of the judge before a call, they match one after it
+-- if names and steps match a script state before a call, they match one after it
 pub judged_by : {old new : Variables} {from to : List Step} {f : ScriptState → ScriptState} {es : ScriptState → List Expected} → NamesEffect old new from to f es → HasScriptState old from → HasScriptState new to
 judged_by {f = f} d h = let k = d.kept h.0 h.1 h.2 in (f h.0, k.live, k.agree)
 
@@ -31,7 +31,7 @@ pub ok_both : {E : Type 0} (r : Result Unit E) (old mid new : Variables) (from m
 ok_both (Ok x) old mid new from mids to f g es fs one two = does_both old mid new from mids to f g es fs one two
 ok_both (Err e) old mid new from mids to f g es fs one two = tt
 
--- a call that changes no state of the judge, after another one
+-- a call that changes no script state, after another one
 pub ok_after : {E : Type 0} (r : Result Unit E) (old mid new : Variables) (from mids to : List Step) (f : ScriptState → ScriptState) (es : ScriptState → List Expected) → NamesEffect old mid from mids f es → OnOk r (KeepsScriptState mid new mids to) → OnOk r (NamesEffect old new from to f es)
 ok_after (Ok x) old mid new from mids to f es one two = let both = does_both old mid new from mids to f (λ j. j) es (λ j. []) one two in record {
   valid = both.valid;

@@ -34,7 +34,7 @@ use Rattle.sat_solver.proofs.lemmas.variables.Doing.{does_none}
 use Rattle.sat_checker.proofs.lemmas.matching.Bridge.{nothing_new}
 use Rattle.sat_checker.proofs.lemmas.matching.CheckerIsSound.{the_checking_sound}
 
--- the judge sees only names and data
+-- a script state depends only on names and data
 pub judged_same : (old new : Variables) (j : ScriptState) (live : LiveVariables) → new.global_from_user ≡ old.global_from_user → new.var_data ≡ old.var_data → NamesMatchState old j live → NamesMatchState new j live
 judged_same old new j live users items judged =
     let at : (v : ℕ) → data_at new v ≡ data_at old v = λ v. ap (λ d. get_or d.items v unused_variable) items in

@@ -1,4 +1,4 @@
--- The next name is the judge's lowest unused one.
+-- The next name is the lowest unused one of the script state.
 use Rattle.std.proofs.Common.{ℕ, zero, suc, ◌+◌, ◌<◌, ◌≡◌, ◌∙◌, Option, Some, None, List, refl, ap, arith}
 use Rattle.sat_base.specs.script.ScriptState.{ScriptState, identity_of}
 use Rattle.sat_base.specs.steps.Steps.{Step}
