@@ -148,12 +148,15 @@ def call(folder, words):
 def run_fault(folder, example):
     """Runs the example without proofs. Returns what is wrong, or `None`."""
     tests = len(re.findall(r'^#\[test\]$', example.code, re.M))
+    if not tests and not example.is_program:
+        # `rt try --test` compiles no crate without tests.
+        put(folder / 'src/lib.rt', example.code + '\n#[test]\nfn compiles(_rt: HostRuntime) {}\n')
     status, output, errors = call(folder, ['try'] if example.is_program else ['try', '--test'])
     if status != 0:
         return f'status {status}\n{output}{errors}'
     if example.is_program and '$ rt try\n' + output != example.printed[0]:
         return f'prints\n{output}'
-    if tests and f'ok. {tests} passed' not in output:
+    if not example.is_program and f'ok. {tests or 1} passed' not in output:
         return f'other tests than {tests}\n{output}'
     return None
 
