@@ -175,7 +175,7 @@ def main():
     given = parser.parse_args()
     found = [(crate, example) for crate in given.crate for example in examples_of(crate)]
     wrong = [f'{crate}: {fault}' for crate, example in found for fault in faults(example)]
-    wrong += [f'{crate}: no example' for crate in given.crate if crate not in [one for one, _ in found]]
+    wrong += [f'{crate}: no example' for crate in given.crate if not any(crate == name for name, _ in found)]
     if not wrong and (given.check or given.prove):
         with tempfile.TemporaryDirectory() as folder:
             for crate, example in found:
