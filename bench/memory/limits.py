@@ -102,6 +102,8 @@ def put(path, text):
 
 
 def main():
+    if len(sys.argv) not in (2, 3):
+        sys.exit("usage: limits.py PROGRAM [NAMES]")
     program = os.path.realpath(sys.argv[1])
     n = int(sys.argv[2]) if len(sys.argv) > 2 else 100_000
     within = True
