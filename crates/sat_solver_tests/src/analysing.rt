@@ -4,9 +4,7 @@
 use crate::searcher::{no_room, search};
 use sat_base::{Counted, Lit};
 use sat_solver::SolverConfig;
-use sat_solver::context::{Context, Search, new_search};
-use sat_solver::proof::Proof;
-use sat_solver::variables::Variables;
+use sat_solver::inner::{Context, Proof, Search, Variables, new_search};
 use std::alloc::Global;
 
 /// Clauses; the codes of the learned clause, beginning with the literal that it asserts; the codes of the literals

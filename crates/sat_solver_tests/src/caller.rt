@@ -3,7 +3,7 @@ ghost use Rattle.sat_solver_tests.specs.Calling.{CallAnswers, PutsOwned};
 
 use sat_base::{CountedWrite, ProofStep};
 use sat_solver::ProofFormat;
-use sat_solver::proof::{Proof, ProofError};
+use sat_solver::inner::{Proof, ProofError};
 use std::alloc::Global;
 
 /// Writes an ask without assumptions, and the last step, into `target`, and returns `target`.

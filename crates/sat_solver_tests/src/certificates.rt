@@ -4,7 +4,7 @@ use crate::calls::{Call, Kind, Part};
 use crate::scripts::text_of;
 use sat_base::{DeleteClauseProof, ProofStep, Var};
 use sat_solver::ProofFormat;
-use sat_solver::proof::drat::put_step;
+use sat_solver::inner::put_step;
 use std::alloc::Global;
 
 const TWO_BY_TWO: &[&[i64]] = &[&[1, 2], &[1, -2], &[-1, 2], &[-1, -2]];

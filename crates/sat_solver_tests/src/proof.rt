@@ -5,7 +5,7 @@ use crate::caller::write_lent;
 use crate::devices::{ByFew, by_few};
 use sat_base::{Counted, CountedWrite, Lit, ProofStep, Var};
 use sat_solver::ProofFormat;
-use sat_solver::proof::Proof;
+use sat_solver::inner::Proof;
 use std::alloc::{AllocError, Global};
 
 /// How many bytes of a piece a target accepts at most, and which call of it fails, counted from 1.

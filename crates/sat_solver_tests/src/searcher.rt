@@ -5,13 +5,10 @@ ghost use Rattle.sat_solver.specs.solver.Taking.{NamesSearchInvariantOrUnsat};
 
 use sat_base::{CountedWrite, Lit};
 use sat_parts::parts::sorting::new_sorting;
-use sat_solver::context::Context;
-use sat_solver::load::literals::MappedLits;
-use sat_solver::schedule;
-use sat_solver::schedule::restarts::Restarts;
-use sat_solver::solver::load::{Loading, take_clause};
-use sat_solver::variables::Variables;
-use sat_solver::variables::refuse::leftmost_witness;
+use sat_solver::inner;
+use sat_solver::inner::{
+    Context, Loading, MappedLits, Restarts, Variables, leftmost_witness, take_clause,
+};
 use sat_store::LubySequence;
 use std::alloc::Global;
 
@@ -99,7 +96,7 @@ fn answer<W: CountedWrite + Drop>(core: &mut Context<W>, names: &mut Variables) 
         count: 0,
     };
     let mut steps = 0;
-    match schedule::search(core, names, &mut restarts, &mut steps, u64::MAX) {
+    match inner::search(core, names, &mut restarts, &mut steps, u64::MAX) {
         Ok(found) => found.is_some(),
         Err(_) => false,
     }
