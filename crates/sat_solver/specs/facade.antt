@@ -11,3 +11,5 @@ pub mod Extending
 pub mod Formulas
 pub mod Laws
 pub mod Recording
+pub mod States
+pub mod Judged

@@ -16,3 +16,4 @@ pub mod Naming
 pub mod Formulas
 pub mod Prefixes
 pub mod Failing
+pub mod Answers

@@ -1,10 +1,12 @@
 //! An incremental solver that writes a proof. Contracts describe it by one record, `SolverView`.
+ghost use Rattle.std.specs.Result.{result_ok};
 ghost use Rattle.std.specs.Prelude.{◌≡◌, ◌≤◌, ◌+◌, true, false, Ok, Err, OnOk, IfOk, IfErr, IsErrOf, MatchOption, IfSome};
 ghost use Rattle.sat_base.specs.device.Device.{most_reads};
 ghost use Rattle.sat_base.specs.dimacs.Parsing.{StopsReading};
 ghost use Rattle.sat_solver.specs.proof.EmittedView.{ReturnsIfChecked, ReturnsNotifiedIfChecked};
 ghost use Rattle.sat_solver.specs.proof.ProofView.{GivesWriter, returned_writer};
 ghost use Rattle.sat_solver.specs.variables.NamingSteps.{IsDue, LeavesNoneIdle, IsHidingStep, IsModeStep};
+ghost use Rattle.sat_base.specs.script.ScriptState.{Sampled, Witnessed};
 ghost use Rattle.sat_solver.specs.facade.View.{IsEmpty};
 ghost use Rattle.sat_solver.specs.solver.Calls.{MakesRounds};
 ghost use Rattle.sat_solver.specs.facade.Calls.{ReachesBySteps, Writes};
@@ -17,18 +19,23 @@ ghost use Rattle.sat_solver.specs.facade.Configuring.{Configures};
 ghost use Rattle.sat_solver.specs.facade.Extending.{CallsAddClause, CallsNewVar};
 ghost use Rattle.sat_solver.specs.facade.Formulas.{AddsFormula, AddsText};
 ghost use Rattle.sat_solver.specs.facade.Inner.{Between};
-ghost use Rattle.sat_solver.specs.facade.Naming.{Hides, NamesFail, NamesNew, Observed, OnlyMakes, Samples, Witnesses};
+ghost use Rattle.sat_solver.specs.facade.Naming.{Hides, NamesFail, NamesNew, Observed, ObservesBetween, OnlyMakes};
+ghost use Rattle.sat_solver.specs.facade.Naming.{Samples, Witnesses, due_for_hiding, due_for_mode, due_for_name};
 ghost use Rattle.sat_solver.specs.facade.Proving.{AddsProcessor, ClosesProof, ClosesText, Enables, IsCertificate};
+ghost use Rattle.sat_solver.specs.facade.Proving.{MakesLast};
 ghost use Rattle.sat_solver.specs.facade.Proving.{IsDratRefutation, OpensProof, ReturnsAcceptedPrefix, writer_given};
 
+mod formulas;
+pub mod judged;
 pub mod laws;
 
+use crate::facade::judged::{Call, Change, Judged};
 use crate::proof::format::ProofFormat;
 use crate::solver::Engine;
 use crate::solver::proof::ReturnedParts;
 use crate::state::SatState;
 use crate::{Progress, SolverConfigUpdate, SolverError};
-use sat_base::{CnfFormula, CountedRead, CountedWrite, ExtendFormula, Lit, Var};
+use sat_base::{CnfFormula, CountedRead, CountedWrite, DimacsParser, ExtendFormula, Lit, Var};
 use sat_checker::{Nobody, ProofProcessor};
 use std::alloc::Global;
 use std::marker::Model;
@@ -37,18 +44,29 @@ use std::marker::Model;
 #[derive(Drop)]
 pub struct Solver<W: CountedWrite + Drop, P: ProofProcessor = Nobody> {
     inner: Engine<W, P>,
+    /// The script state, as a ghost.
+    judge: Judged,
+}
+
+/// Returns the name that `new_var` returned, if any.
+fn name_in(answer: &Result<Var, SolverError>) -> Option<Var>
+    ensures { result ≡ result_ok answer.now }
+{
+    match answer {
+        Ok(user) => Some(*user),
+        Err(_) => None,
+    }
 }
 
 impl<W: CountedWrite + Drop, P: ProofProcessor> Model for Solver<W, P> {
     ghost use Rattle.sat_solver.specs.facade.View.{SolverView};
-    ghost use Rattle.sat_solver.specs.facade.Inner.{view_of};
-    ghost use Rattle.sat_solver.specs.solver.Whole.{IsSolver};
+    ghost use Rattle.sat_solver.specs.facade.Inner.{IsJudged, view_of};
 
     ghost Value = { SolverView P };
 
-    ghost view = { λ s. view_of W.seen s.inner };
+    ghost view = { λ s. view_of W.seen s.judge.state s.inner };
 
-    ghost invariant = { λ s. IsSolver s.inner };
+    ghost invariant = { λ s. IsJudged s.inner s.judge.state };
 }
 
 impl<W: CountedWrite + Drop> Solver<W, Nobody> {
@@ -68,6 +86,7 @@ impl<W: CountedWrite + Drop, P: ProofProcessor> Solver<W, P> {
     {
         Solver {
             inner: Engine::notifying(alloc),
+            judge: Judged::new(),
         }
     }
 
@@ -107,7 +126,11 @@ impl<W: CountedWrite + Drop, P: ProofProcessor> Solver<W, P> {
         ensures text { Writes result self.old self.new }
         ensures checker { CheckerAfter P.takes result self.old self.new }
     {
-        self.inner.add_clause(lits)
+        let result = self.inner.add_clause(lits);
+        let call = Call::AddClause(lits);
+        let done = result.is_ok();
+        self.judge = self.judge.after(&Change { call, done });
+        result
     }
 
     /// Adds the clauses of a formula in order, as if by calling `add_clause` for each, and stops at the first that is
@@ -116,7 +139,13 @@ impl<W: CountedWrite + Drop, P: ProofProcessor> Solver<W, P> {
         ensures adds { AddsFormula P.takes result self.old self.new formula.now.clauses }
         ensures text { ReachesBySteps self.old self.new }
     {
-        self.inner.add_formula(formula)
+        if self.is_failed() {
+            return Err(SolverError::HasFailed);
+        }
+        for clause in formula.iter() {
+            self.add_clause(clause)?;
+        }
+        Ok(())
     }
 
     /// Adds the clauses of a text in DIMACS CNF, in order. The text is read in chunks of 4,096 bytes.
@@ -134,7 +163,11 @@ impl<W: CountedWrite + Drop, P: ProofProcessor> Solver<W, P> {
         ensures reads { (R.seen reader.new).calls ≤ (R.seen reader.old).calls + most_reads }
         ensures text { ReachesBySteps self.old self.new }
     {
-        self.inner.add_dimacs_cnf(reader)
+        if self.is_failed() {
+            return Err(SolverError::HasFailed);
+        }
+        let mut parser = DimacsParser::new(self.alloc());
+        self.add_text(&mut parser, reader)
     }
 
     /// Replaces the assumptions with `lits`, and introduces the names in `lits` from left to right.
@@ -150,7 +183,11 @@ impl<W: CountedWrite + Drop, P: ProofProcessor> Solver<W, P> {
         ensures text { Writes result self.old self.new }
         ensures checker { CheckerAfter P.takes result self.old self.new }
     {
-        self.inner.assume(lits)
+        let result = self.inner.assume(lits);
+        let call = Call::Assume(lits);
+        let done = result.is_ok();
+        self.judge = self.judge.after(&Change { call, done });
+        result
     }
 
     /// Returns `true` if the clauses and the assumptions can be satisfied, and `false` if they cannot.
@@ -215,11 +252,15 @@ impl<W: CountedWrite + Drop, P: ProofProcessor> Solver<W, P> {
     pub fn hide_var(&mut self, user: Var) -> Result<(), SolverError>
         ensures hides { Hides result self.old self.new user }
         ensures gone { OnOk result (LeavesNoneIdle self.new.steps) }
-        ensures steps { OnOk result (OnlyMakes IsHidingStep self.old self.new) }
+        ensures steps { OnOk result (OnlyMakes IsHidingStep (due_for_hiding user) self.old self.new) }
         ensures text { Writes result self.old self.new }
         ensures checker { CheckerAfter P.takes result self.old self.new }
     {
-        self.inner.hide_var(user)
+        let result = self.inner.hide_var(user);
+        let call = Call::HideVar(user);
+        let done = result.is_ok();
+        self.judge = self.judge.after(&Change { call, done });
+        result
     }
 
     /// Sets the mode of a name to witness. If the name is not in use, it is introduced first.
@@ -229,11 +270,15 @@ impl<W: CountedWrite + Drop, P: ProofProcessor> Solver<W, P> {
     /// be introduced.
     pub fn witness_var(&mut self, user: Var) -> Result<(), SolverError>
         ensures witnesses { Witnesses result self.old self.new user }
-        ensures steps { OnOk result (OnlyMakes (IsModeStep (user + 1) false) self.old self.new) }
+        ensures steps { OnOk result (OnlyMakes (IsModeStep (user + 1) false) (due_for_mode Witnessed user) self.old self.new) }
         ensures text { Writes result self.old self.new }
         ensures checker { CheckerAfter P.takes result self.old self.new }
     {
-        self.inner.witness_var(user)
+        let result = self.inner.witness_var(user);
+        let call = Call::WitnessVar(user);
+        let done = result.is_ok();
+        self.judge = self.judge.after(&Change { call, done });
+        result
     }
 
     /// Sets the mode of a name to sample, which is also the mode of new names. If the name is not in use, it is
@@ -243,11 +288,15 @@ impl<W: CountedWrite + Drop, P: ProofProcessor> Solver<W, P> {
     /// `VariableLimit` if there is no variable for a name that would be introduced.
     pub fn sample_var(&mut self, user: Var) -> Result<(), SolverError>
         ensures samples { Samples result self.old self.new user }
-        ensures steps { OnOk result (OnlyMakes (IsModeStep (user + 1) true) self.old self.new) }
+        ensures steps { OnOk result (OnlyMakes (IsModeStep (user + 1) true) (due_for_mode Sampled user) self.old self.new) }
         ensures text { Writes result self.old self.new }
         ensures checker { CheckerAfter P.takes result self.old self.new }
     {
-        self.inner.sample_var(user)
+        let result = self.inner.sample_var(user);
+        let call = Call::SampleVar(user);
+        let done = result.is_ok();
+        self.judge = self.judge.after(&Change { call, done });
+        result
     }
 
     /// Introduces a name and returns it: the lowest hidden name, or the lowest name never used if no name is hidden.
@@ -256,11 +305,14 @@ impl<W: CountedWrite + Drop, P: ProofProcessor> Solver<W, P> {
     /// proof variable is in use, and then changes nothing.
     pub fn new_var(&mut self) -> Result<Var, SolverError>
         ensures names { NamesNew result self.old self.new }
-        ensures steps { OnOk result (OnlyMakes IsDue self.old self.new) }
+        ensures steps { IfOk result (λ v. OnlyMakes IsDue (due_for_name v) self.old self.new) }
         ensures text { Writes result self.old self.new }
         ensures checker { CheckerAfter P.takes result self.old self.new }
     {
-        self.inner.new_var()
+        let result = self.inner.new_var();
+        let call = Call::NewVar(name_in(&result));
+        self.judge = self.judge.after(&Change { call, done: true });
+        result
     }
 
     /// Gives a name with the mode witness to every hidden variable that is still in use. Returns the names.
@@ -270,11 +322,14 @@ impl<W: CountedWrite + Drop, P: ProofProcessor> Solver<W, P> {
     /// out, the solver fails permanently.
     pub fn observe_internal_vars(&mut self) -> Result<Vec<Var>, SolverError>
         ensures observes { IfOk result (λ users. Observed self.old self.new users.items) }
+        ensures steps { IfOk result (λ users. ObservesBetween self.old self.new users.items) }
         ensures fails { IfErr result (λ e. NamesFail e self.old self.new) }
         ensures text { Writes result self.old self.new }
         ensures checker { CheckerAfter P.takes result self.old self.new }
     {
-        self.inner.observe_internal_vars()
+        let users = self.inner.observe_internal_vars()?;
+        self.judge = self.inner.judge_observed(&self.judge, &users);
+        Ok(users)
     }
 
     /// Opens a proof: all further steps are written to `target` in the format `format`.
@@ -317,6 +372,7 @@ impl<W: CountedWrite + Drop, P: ProofProcessor> Solver<W, P> {
     /// the solver keeps the target.
     pub fn close_proof(&mut self) -> Result<Option<W>, SolverError>
         ensures closes { ClosesProof (writer_given W.seen result) self.old self.new }
+        ensures steps { IfOk result (λ o. IfSome o (λ _. MakesLast self.old self.new)) }
         ensures text { ClosesText (writer_given W.seen result) self.old self.new }
         ensures checker { CheckerAfterClosing P.takes result self.old self.new }
         ensures certificate { IfOk result (λ o. IfSome o (λ given. IsCertificate (W.seen given) self.old self.new)) }

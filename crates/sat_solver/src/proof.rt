@@ -18,6 +18,7 @@ ghost use Rattle.sat_solver.specs.proof.ProofView.{FlushesTarget, FlushesOrFails
 ghost use Rattle.sat_solver.specs.proof.ProofView.{ClosesTarget, ReturnsListeners, ReturnsNotifiedListeners};
 ghost use Rattle.sat_solver.specs.proof.ProofView.{ReturnsTarget, HasCause, AddListenerEffect};
 ghost use Rattle.sat_solver.specs.proof.ProofView.{without_listener_error};
+ghost use Rattle.sat_solver.specs.facade.Judged.{CanBeObserved, IsObserved};
 
 pub mod checker;
 pub mod drat;
@@ -30,13 +31,15 @@ pub mod native;
 pub mod output;
 pub mod truncate;
 
+use crate::facade::judged::{Judged, Observed};
 use crate::proof::emitted::{CheckFault, EmittedSteps};
 use crate::proof::format::ProofFormat;
 use crate::proof::hash_bits::Counting;
 use crate::proof::kept::Kept;
 use crate::proof::output::{OutputError, ProofOutput};
 use crate::proof::truncate::{CutLists, has_hashes, narrow, narrow_units};
-use sat_base::{CountedWrite, ProofStep};
+use crate::variables::Variables;
+use sat_base::{CountedWrite, ProofStep, Var};
 use sat_checker::{Nobody, ProofProcessor};
 use std::alloc::Global;
 use std::{io, mem};
@@ -137,6 +140,19 @@ impl<W: CountedWrite + Drop, P: ProofProcessor> Proof<W, P> {
         ensures { result ≡ has_begun (steps_of self.now) }
     {
         self.made.has_begun()
+    }
+
+    /// Returns the script state after hidden variables got the names `users`, where `judged` is the one before. There
+    /// must be one.
+    pub fn judge_observed(&self, judged: &Judged, names: &Variables, users: &[Var]) -> Judged
+        requires { CanBeObserved judged.now.state names.now (steps_of self.now) users.now }
+        ensures { IsObserved judged.now.state result.state names.now (steps_of self.now) users.now }
+    {
+        judged.observed(&Observed {
+            names,
+            history: &self.made.history,
+            users,
+        })
     }
 
     /// Starts a checker if there is none, or restarts one that has missed a step. The checker receives all steps from

@@ -1,7 +1,9 @@
 pub mod LawLemmas
 pub mod Seen
 pub mod SeenChecker
-pub mod SeenFormula
+pub mod FormulaLemmas
+pub mod ReachedLemmas
+pub mod Agreeing
 pub mod SeenProof
 pub mod Recorded
 pub mod Steps

@@ -1,5 +1,4 @@
 pub mod StoppingLemmas
-pub mod FormulaLemmas
 pub mod SpeltLemmas
 pub mod RenamedLemmas
 pub mod AnsweredLemmas

@@ -1,8 +1,7 @@
 -- Clauses and assumptions that are added to a solver.
 use Rattle.std.specs.Prelude.{ℕ, ◌≡◌, true, false, None, Some, List, Result, Ok, Err}
-use Rattle.sat_base.specs.script.ScriptState.{ScriptState, WitnessName, introduce_all, refused_literal}
+use Rattle.sat_base.specs.script.ScriptState.{WitnessName, introduce_all, refused_literal}
 use Rattle.sat_checker.specs.matching.Expected.{Outcome}
-use Rattle.sat_checker.specs.matching.Bridge.{LiveVariables}
 use Rattle.sat_solver.specs.declared.error.SolverError.{SolverError}
 use Rattle.sat_solver.specs.declared.error.SolverError.TheVariants as errors
 use Rattle.sat_solver.specs.declared.state.SatState.TheVariants as states
@@ -13,16 +12,16 @@ use Rattle.sat_solver.specs.variables.VariableRoom.{HasVariablesFor, user_vars_i
 use Rattle.sat_solver.specs.session.AllowedSteps.{OnlyAllowedSteps}
 use Rattle.sat_solver.specs.proof.ProofView.{is_drat}
 use Rattle.sat_solver.specs.solver.Adding.{with_added, due_for_clause, due_for_asked, ForgetsAnswer}
-use Rattle.sat_solver.specs.facade.View.{SolverView, IsInState}
-use Rattle.sat_solver.specs.facade.Calls.{Effect, FailsAtNames, HasFullStore, Refuses}
+use Rattle.sat_solver.specs.facade.View.{SolverView}
+use Rattle.sat_solver.specs.facade.Calls.{Effect, FailsAtNames, HasFullStore, MakesOrdered, Refuses}
 
 -- `HasWitness v user` holds if one of the names has mode witness; the leftmost of them determines the refusal
 abbrev pub HasWitness : {L : Type 0} → SolverView L → List ℕ → Type 0
-HasWitness v user = (j : ScriptState) (live : LiveVariables) → IsInState v j live → (name : ℕ) × (refused_literal j (names_in user) ≡ Some (WitnessName name))
+HasWitness v user = (name : ℕ) × (refused_literal v.state (names_in user) ≡ Some (WitnessName name))
 
 -- `AreSampled v user` holds if the mode of no name is witness
 abbrev pub AreSampled : {L : Type 0} → SolverView L → List ℕ → Type 0
-AreSampled v user = (j : ScriptState) (live : LiveVariables) → IsInState v j live → refused_literal j (names_in user) ≡ None
+AreSampled v user = refused_literal v.state (names_in user) ≡ None
 
 -- `IsDrat v` holds if DRAT lines are written; DRAT has no assumptions
 abbrev pub IsDrat : {L : Type 0} → SolverView L → Type 0
@@ -41,9 +40,11 @@ IsBeforeDrat v = IsPastDrat v → ⊥
 abbrev pub LacksRoomForNames : {L : Type 0} → SolverView L → List ℕ → Type 0
 LacksRoomForNames v user = (v.failed ≡ false) × AreSampled v user × (HasVariablesFor v.names (user_vars_in user) → ⊥)
 
--- `StepsOfClause old new user` holds if only steps were made that adding a clause may make; the clause has its literals
--- by increasing index. Once the clauses are known to be unsatisfiable, the steps only introduce names. No ask began.
+-- `StepsOfClause old new user` holds if the ordered steps are those of the clause, and only steps were made that adding a
+-- clause may make; the clause has its literals by increasing index. Once the clauses are known to be unsatisfiable, the
+-- steps only introduce names. No ask began.
 pub record StepsOfClause {L : Type 0} (old new : SolverView L) (user : List ℕ) : Type 0 where
+  pub ordered : MakesOrdered old new (due_for_clause old.answer user old.state)
   pub comes : OnlyAllowedSteps (IsClauseStep (names_in user)) old.steps new.steps
   pub order : (old.answer ≡ states.Unsat → ⊥) → AddsInOrder old.steps new.steps
   pub left_out : old.answer ≡ states.Unsat → OnlyAllowedSteps IsDue old.steps new.steps
@@ -54,7 +55,7 @@ pub record Added {L : Type 0} (old new : SolverView L) (user : List ℕ) : Type 
   pub before_drat : IsBeforeDrat old
   pub sampled : AreSampled old user
   pub room : HasVariablesFor old.names (user_vars_in user)
-  pub did : Effect old new (with_added user) (due_for_clause old.answer user)
+  pub did : Effect old new (with_added user)
   pub assumed : new.assumptions ≡ old.assumptions
   pub clock : new.clock ≡ old.clock
   pub state : ForgetsAnswer old.answer new.answer
@@ -69,17 +70,18 @@ AddsClause (Err errors.VariableLimit) old new user = Refuses old new (IsBeforeDr
 AddsClause (Err errors.HasFailed) old new user = Refuses old new (old.failed ≡ true)
 AddsClause (Err e) old new user = (IsBeforeDrat old × AreSampled old user) × HasVariablesFor old.names (user_vars_in user) × FailsAtNames (HasFullStore new) e old new
 
--- `StepsOfAssumptions old new user` holds if only steps were made that setting assumptions may make; no ask began
+-- `StepsOfAssumptions old new user` holds if the ordered steps are those of the assumptions, whatever the answer to the
+-- ask will be, and only steps were made that setting assumptions may make; no ask began
 pub record StepsOfAssumptions {L : Type 0} (old new : SolverView L) (user : List ℕ) : Type 0 where
+  pub ordered : (o : Outcome) → MakesOrdered old new (due_for_asked o user old.state)
   pub comes : OnlyAllowedSteps (IsLiteralsStep (names_in user)) old.steps new.steps
   pub asked : new.asked ≡ old.asked
 
--- `ReplacesAssumptions old new user` holds if the assumptions `user` replaced the earlier ones, whatever the answer to
--- the ask will be
+-- `ReplacesAssumptions old new user` holds if the assumptions `user` replaced the earlier ones
 pub record ReplacesAssumptions {L : Type 0} (old new : SolverView L) (user : List ℕ) : Type 0 where
   pub sampled : AreSampled old user
   pub room : HasVariablesFor old.names (user_vars_in user)
-  pub did : (o : Outcome) → Effect old new (introduce_all (names_in user)) (due_for_asked o user)
+  pub did : Effect old new (introduce_all (names_in user))
   pub assumed : new.assumptions ≡ user
   pub clock : new.clock ≡ old.clock
   pub state : ForgetsAnswer old.answer new.answer

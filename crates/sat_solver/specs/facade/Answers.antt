@@ -1,9 +1,8 @@
 -- Answers of a solver: models and cores, and why they are correct.
 use Rattle.std.specs.Prelude.{ℕ, ◌+◌, ◌-◌, ◌*◌, ◌<◌, ◌≤◌, ◌≡◌, ◌⊎◌, ◌^◌, Bool, true, false, List, [], map, Result, Ok, Err}
 use Rattle.sat_base.specs.script.Script.{Literal}
-use Rattle.sat_base.specs.script.ScriptState.{ScriptState, IsRightModel}
+use Rattle.sat_base.specs.script.ScriptState.{IsRightModel}
 use Rattle.sat_checker.specs.matching.Expected.{Expected}
-use Rattle.sat_checker.specs.matching.Bridge.{LiveVariables}
 use Rattle.sat_solver.specs.Models.{named_to}
 use Rattle.sat_solver.specs.declared.error.SolverError.{SolverError}
 use Rattle.sat_solver.specs.declared.error.SolverError.TheVariants as errors
@@ -17,8 +16,8 @@ use Rattle.sat_solver.specs.session.AllowedSteps.{OnlyAllowedSteps, EndsAtUnsat}
 use Rattle.sat_solver.specs.solver.Calls.{due_between_states, learned_of, IsFlushed, is_answer}
 use Rattle.sat_solver.specs.solver.Lines.{IsCoreOf}
 use Rattle.sat_solver.specs.variables.Variables.{names_used}
-use Rattle.sat_solver.specs.facade.View.{SolverView, IsInState}
-use Rattle.sat_solver.specs.facade.Calls.{Effect, Fails, HasFullStore, Refuses}
+use Rattle.sat_solver.specs.facade.View.{SolverView}
+use Rattle.sat_solver.specs.facade.Calls.{Effect, Fails, HasFullStore, MakesOrdered, Refuses}
 
 -- the assumptions last accepted
 abbrev pub asked_in : {L : Type 0} → SolverView L → List Literal
@@ -37,12 +36,11 @@ abbrev pub rounds_left : {L : Type 0} → SolverView L → ℕ
 rounds_left v = round_allowance v.parameters.max_steps v.clock.rounds
 
 -- `CountsRounds old new` holds if the number of rounds did not fall, and rose by at most the rounds that the call may
--- make. It also rose by fewer than 2^(2n+3), where n is the number of identities of any script state that names and
--- steps agree with.
+-- make. It also rose by fewer than 2^(2n+3), where n is the number of identities of the script state.
 pub record CountsRounds {L : Type 0} (old new : SolverView L) : Type 0 where
   pub more : old.clock.rounds ≤ new.clock.rounds
   pub within : new.clock.rounds ≤ old.clock.rounds + rounds_left old
-  pub few : (j : ScriptState) (live : LiveVariables) → IsInState old j live → new.clock.rounds < old.clock.rounds + 2 ^ (2 * j.identity_count + 3)
+  pub few : new.clock.rounds < old.clock.rounds + 2 ^ (2 * old.state.identity_count + 3)
 
 -- `Counts old new` holds if an ask made as many rounds as it may: at least one for a new answer, and all that are
 -- allowed if there is no answer. There is an answer if 2^(2n+3) rounds are allowed, for the number n of identities.
@@ -50,7 +48,7 @@ pub record Counts {L : Type 0} (old new : SolverView L) : Type 0 where
   pub on : CountsRounds old new
   pub round : old.answer ≡ states.Unknown → (new.answer ≡ states.Unknown → ⊥) → old.clock.rounds < new.clock.rounds
   pub spent : new.answer ≡ states.Unknown → new.clock.rounds ≡ old.clock.rounds + rounds_left old
-  pub answered : (j : ScriptState) (live : LiveVariables) → IsInState old j live → 2 ^ (2 * j.identity_count + 3) ≤ rounds_left old → new.answer ≡ states.Unknown → ⊥
+  pub answered : 2 ^ (2 * old.state.identity_count + 3) ≤ rounds_left old → new.answer ≡ states.Unknown → ⊥
 
 -- `AnswersAgain old new` holds if a known answer is given again: the solver is marked as used, and at most what it has
 -- written, and its own checker, have changed otherwise
@@ -59,16 +57,17 @@ AnswersAgain old new = new ≡ record old { used = true; target = new.target; as
 
 -- `Answered old new` holds if an ask was made. Assumptions are unchanged, and the target was flushed.
 pub record Answered {L : Type 0} (old new : SolverView L) : Type 0 where
-  pub did : Effect old new (λ j. j) (λ j. due_for_answer old.answer new)
+  pub did : Effect old new (λ j. j)
   pub assumed : new.assumptions ≡ old.assumptions
   pub counts : Counts old new
   pub known : (old.answer ≡ states.Unknown → ⊥) → AnswersAgain old new
   pub flushed : IsFlushed new.target
 
--- `StepsOfAsk old new` holds if only steps were made that an ask may make; after unsat is recorded, they only change
--- the width. Every round except the answering one derived an empowering clause; no other step did. Names keep their
+-- `StepsOfAsk old new` holds if the ordered steps are those of the answer, and only steps were made that an ask may make;
+-- after unsat is recorded, they only change the width. Every round except the answering one derived an empowering clause; no other step did. Names keep their
 -- variables.
 pub record StepsOfAsk {L : Type 0} (old new : SolverView L) : Type 0 where
+  pub ordered : MakesOrdered old new (due_for_answer old.answer new)
   pub comes : OnlyAllowedSteps EndsAtUnsat old.steps new.steps
   pub times : CountsEmpoweringIn old.steps new.steps (learned_of new.answer (new.clock.rounds - old.clock.rounds))
   pub users : new.names.global_from_user ≡ old.names.global_from_user
@@ -89,15 +88,13 @@ Solves (Err e) old new = EndsInFailure e old new
 
 -- MODELS AND CORES
 
--- `IsRightLine v line` holds if the line is a correct model for the assumptions, in every script state that names and
--- steps agree with
+-- `IsRightLine v line` holds if the line is a correct model for the assumptions, in the script state
 abbrev pub IsRightLine : {L : Type 0} → SolverView L → List ℕ → Type 0
-IsRightLine v line = (j : ScriptState) (live : LiveVariables) → IsInState v j live → IsRightModel j (asked_in v) (map user_literal line)
+IsRightLine v line = IsRightModel v.state (asked_in v) (map user_literal line)
 
--- `IsRightCoreOf v core` holds if the core, in any order, is correct for the assumptions, in every script state that names
--- and steps agree with
+-- `IsRightCoreOf v core` holds if the core, in any order, is correct for the assumptions, in the script state
 abbrev pub IsRightCoreOf : {L : Type 0} → SolverView L → List ℕ → Type 0
-IsRightCoreOf v core = (j : ScriptState) (live : LiveVariables) → IsInState v j live → IsCoreOf j (asked_in v) (map user_literal core)
+IsRightCoreOf v core = IsCoreOf v.state (asked_in v) (map user_literal core)
 
 -- `IsModel v line` holds if the line is a model over names
 pub record IsModel {L : Type 0} (v : SolverView L) (line : List ℕ) : Type 0 where

@@ -3,28 +3,27 @@ use Rattle.std.specs.Prelude.{◌≡◌, ◌-◌, ◌<◌, ◌^◌, true, false,
 use Rattle.sat_base.specs.script.ScriptState.{ScriptState}
 use Rattle.sat_base.specs.steps.Steps.{Step}
 use Rattle.sat_checker.specs.matching.Expected.{Expected}
-use Rattle.sat_checker.specs.matching.Bridge.{LiveVariables}
+use Rattle.sat_checker.specs.matching.ProofChecking.{checker_rules}
+use Rattle.sat_checker.specs.matching.Traces.{HasTrace}
 use Rattle.sat_solver.specs.cdcl.StepEffects.{IsFaultOr}
 use Rattle.sat_solver.specs.declared.error.SolverError.{SolverError}
 use Rattle.sat_solver.specs.declared.error.SolverError.TheVariants as errors
 use Rattle.sat_solver.specs.proof.Prefixes.{TargetTakesPrefix}
 use Rattle.sat_solver.specs.proof.ProofView.{Target, TargetTakes, TargetFails}
-use Rattle.sat_solver.specs.variables.Calls.{ReachesScriptState}
-use Rattle.sat_solver.specs.facade.View.{SolverView, IsInState}
+use Rattle.sat_solver.specs.facade.View.{SolverView}
 
 -- `Refuses old new why` holds if the call was refused for the reason `why`, and changed nothing
 pub record Refuses {L : Type 0} (old new : SolverView L) (why : Type 0) : Type 0 where
   pub same : new ≡ old
   pub cause : why
 
--- `Effect old new judge due` holds if a call changed the script state by `judge` and made the ordered steps `due`;
--- other steps may be in between
-pub record Effect {L : Type 0} (old new : SolverView L) (judge : ScriptState → ScriptState) (due : ScriptState → List Expected) : Type 0 where
+-- `Effect old new judge` holds if a call changed the script state by `judge`
+pub record Effect {L : Type 0} (old new : SolverView L) (judge : ScriptState → ScriptState) : Type 0 where
   pub going : old.failed ≡ false
   pub failed : new.failed ≡ false
   pub used : new.used ≡ true
   pub parameters : new.parameters ≡ old.parameters
-  pub names : (j : ScriptState) (live : LiveVariables) → IsInState old j live → ReachesScriptState new.names old.steps new.steps (judge j) (due j)
+  pub state : new.state ≡ judge old.state
 
 -- `Fails full e old new` holds if a call failed for a reason that the input does not determine, and so does every later
 -- call; `StoreFull` is returned only if `full` holds
@@ -42,6 +41,12 @@ pub record FailsAtNames {L : Type 0} (full : Type 0) (e : SolverError) (old new 
 -- `HasFullStore v` holds if the clause buffer has more than 2^32-1 words, so that it can store no further clause
 abbrev pub HasFullStore : {L : Type 0} → SolverView L → Type 0
 HasFullStore v = 2 ^ 32 - 1 < v.words
+
+-- THE ORDERED STEPS
+
+-- `MakesOrdered old new due` holds if a call made the ordered steps `due`; other steps may be in between
+abbrev pub MakesOrdered : {L : Type 0} → SolverView L → SolverView L → List Expected → Type 0
+MakesOrdered old new due = HasTrace checker_rules old.steps new.steps due
 
 -- THE TEXT OF THE STEPS
 

@@ -1,5 +1,5 @@
 -- The contracts of two calls, each as one relation, for calls that stand for them.
-use Rattle.std.specs.Prelude.{ℕ, List, OnOk, Result}
+use Rattle.std.specs.Prelude.{ℕ, List, IfOk, OnOk, Result}
 use Rattle.anyhow.specs.declared.error.Error.{Error}
 use Rattle.sat_checker.specs.announcements.Announcements.{Notice}
 use Rattle.sat_solver.specs.declared.error.SolverError.{SolverError}
@@ -8,7 +8,7 @@ use Rattle.sat_solver.specs.facade.View.{SolverView}
 use Rattle.sat_solver.specs.facade.Adding.{AddsClause, StepsOfClause}
 use Rattle.sat_solver.specs.facade.Calls.{Writes}
 use Rattle.sat_solver.specs.facade.Checking.{CheckerAfter}
-use Rattle.sat_solver.specs.facade.Naming.{NamesNew, OnlyMakes}
+use Rattle.sat_solver.specs.facade.Naming.{NamesNew, OnlyMakes, due_for_name}
 
 -- `CallsAddClause takes r old new clause` holds if all clauses of `add_clause` hold for this result
 pub record CallsAddClause {L : Type 0} (takes : L → Notice → Result Unit Error → L → Type 0) (r : Result (Unit {0}) SolverError) (old new : SolverView L) (clause : List ℕ) : Type 0 where
@@ -20,6 +20,6 @@ pub record CallsAddClause {L : Type 0} (takes : L → Notice → Result Unit Err
 -- `CallsNewVar takes r old new` holds if all clauses of `new_var` hold for this result
 pub record CallsNewVar {L : Type 0} (takes : L → Notice → Result Unit Error → L → Type 0) (r : Result ℕ SolverError) (old new : SolverView L) : Type 0 where
   pub names : NamesNew r old new
-  pub steps : OnOk r (OnlyMakes IsDue old new)
+  pub steps : IfOk r (λ user. OnlyMakes IsDue (due_for_name user) old new)
   pub text : Writes r old new
   pub checker : CheckerAfter takes r old new

@@ -3,6 +3,7 @@ use Rattle.std.specs.Prelude.{ℕ, ◌≡◌, ◌⊎◌, true, false, List, [], 
 use Rattle.anyhow.specs.declared.error.Error.{Error}
 use Rattle.sat_base.specs.device.Device.{Reader, GaveEnough}
 use Rattle.sat_base.specs.dimacs.Dimacs.{Clean, IsDimacs}
+use Rattle.sat_base.specs.dimacs.Parsing.{Progress, clauses_read}
 use Rattle.sat_base.specs.declared.dimacs.error.DimacsError.{DimacsError}
 use Rattle.sat_checker.specs.announcements.Announcements.{Notice}
 use Rattle.sat_checker.specs.DimacsView.{AreRead, FailsAfter}
@@ -13,6 +14,10 @@ use Rattle.sat_solver.specs.solver.Formulas.{text_fault, is_solver_out_of_memory
 use Rattle.sat_solver.specs.facade.View.{SolverView}
 use Rattle.sat_solver.specs.facade.Calls.{Refuses}
 use Rattle.sat_solver.specs.facade.Extending.{CallsAddClause}
+
+-- the solver after an error of a text, which has failed if memory ran out
+abbrev pub with_fault : {L : Type 0} → DimacsError → SolverView L → SolverView L
+with_fault fault v = record v { failed = is_solver_out_of_memory fault }
 
 -- `takes` says how a listener changes with an announcement
 module _ {L : Type 0} (takes : L → Notice → Result Unit Error → L → Type 0) where
@@ -50,7 +55,7 @@ module _ {L : Type 0} (takes : L → Notice → Result Unit Error → L → Type
     pub fails : FailsAfter fault from to clauses
     pub mid : SolverView L
     pub added : AddsAll old clauses mid
-    pub new_is : new ≡ record mid { failed = is_solver_out_of_memory fault }
+    pub new_is : new ≡ with_fault fault mid
 
   -- `ClauseFails e old new from to` holds if one of the clauses read so far was refused, or adding it failed
   pub record ClauseFails (e : SolverError) (old new : SolverView L) (from to : Reader) : Type 0 where
@@ -73,3 +78,25 @@ module _ {L : Type 0} (takes : L → Notice → Result Unit Error → L → Type
   AddsText (Ok x) old new from to = TextAdded old new from to
   AddsText (Err errors.HasFailed) old new from to = Refuses old new (old.failed ≡ true) × (to ≡ from)
   AddsText (Err e) old new from to = TextFails e old new from to ⊎ ClauseFails e old new from to
+
+  -- INSIDE
+
+  -- `ReadStops e answer old new clauses` holds if the completed clauses were added, and the parser's error is returned
+  pub record ReadStops (e : SolverError) (answer : Result (Unit {0}) DimacsError) (old new : SolverView L) (clauses : List (List ℕ)) : Type 0 where
+    pub fault : DimacsError
+    pub answered : answer ≡ Err fault
+    pub is : e ≡ text_fault fault
+    pub mid : SolverView L
+    pub added : AddsAll old clauses mid
+    pub new_is : new ≡ with_fault fault mid
+
+  -- `AnswersFormulaRead r answer old new clauses` holds if `r` is the result of adding completed clauses: all were added
+  -- and the parser reported no error, or an error stopped the call
+  abbrev pub AnswersFormulaRead : Result (Unit {0}) SolverError → Result (Unit {0}) DimacsError → SolverView L → SolverView L → List (List ℕ) → Type 0
+  AnswersFormulaRead (Ok x) answer old new clauses = (answer ≡ Ok tt) × AddsAll old clauses new
+  AnswersFormulaRead (Err e) answer old new clauses = ReadStops e answer old new clauses ⊎ StopsAtClause e old new clauses
+
+  -- `AddsFormulaRead result answer parser old new` holds if `AnswersFormulaRead` does for the clauses that the parser has
+  -- read but not passed on yet
+  abbrev pub AddsFormulaRead : Result (Unit {0}) SolverError → Result (Unit {0}) DimacsError → Progress → SolverView L → SolverView L → Type 0
+  AddsFormulaRead result answer parser old new = (clauses : List (List ℕ)) × (clauses_read parser ≡ parser.taken ++ clauses) × AnswersFormulaRead result answer old new clauses

@@ -1,6 +1,8 @@
 -- The view of the fields of a solver. Of this file, public contracts name only `Between`.
-use Rattle.std.specs.Prelude.{◌≡◌, ◌/◌, length, is_some, Option, None, Some}
+use Rattle.std.specs.Prelude.{◌≡◌, ◌/◌, false, length, is_some, Option, None, Some}
 use Rattle.sat_base.specs.device.Device.{Writer}
+use Rattle.sat_base.specs.script.ScriptState.{ScriptState}
+use Rattle.sat_checker.specs.matching.Bridge.{LiveVariables}
 use Rattle.sat_checker.specs.CheckerView.{kernel_of}
 use Rattle.sat_checker.specs.declared.processing.ProofProcessor.{Ghosts}
 use Rattle.sat_store.specs.declared.clause.tier.Tier.TheVariants as tiers
@@ -11,6 +13,8 @@ use Rattle.sat_solver.specs.declared.progress.Progress.{Progress}
 use Rattle.sat_solver.specs.declared.proof.Proof.{Proof}
 use Rattle.sat_solver.specs.declared.proof.checker.Checked.{Checked}
 use Rattle.sat_solver.specs.declared.solver.Engine.{Engine}
+use Rattle.sat_solver.specs.solver.View.{EngineIsInState}
+use Rattle.sat_solver.specs.solver.Whole.{IsSolver}
 use Rattle.sat_solver.specs.facade.View.{SolverView, Checking, OwnChecker}
 
 -- the numbers that `progress` returns
@@ -35,12 +39,13 @@ own_checker (Some own) = Some (record { width = own.bits; has_conflict = is_some
 abbrev pub checking_of : {W L : Type 0} {G : Ghosts L} → Proof W L G → Checking
 checking_of p = record { width = p.counting.bits; own = own_checker p.made.own }
 
--- the fields of the engine, as callers see them
-abbrev pub view_of : {W L : Type 0} {G : Ghosts L} → (W → Writer) → Engine W L G → SolverView L
-view_of seen s = record {
+-- the fields of the engine and the script state, as callers see them
+abbrev pub view_of : {W L : Type 0} {G : Ghosts L} → (W → Writer) → ScriptState → Engine W L G → SolverView L
+view_of seen j s = record {
   failed = s.failed;
   used = s.used;
   answer = s.state;
+  state = j;
   names = s.names;
   values = s.context.search.parts.assignment.current;
   assumptions = s.assumed.items;
@@ -59,6 +64,15 @@ view_of seen s = record {
   checking = checking_of s.context.proof;
 }
 
+-- `MatchesEngine s j` holds if names and steps of the engine agree with the script state `j`, unless a call failed
+abbrev pub MatchesEngine : {W L : Type 0} {G : Ghosts L} → Engine W L G → ScriptState → Type 0
+MatchesEngine s j = s.failed ≡ false → (live : LiveVariables) × EngineIsInState s j live
+
+-- `IsJudged s j` holds if a call may be made on the engine, and `j` is its script state
+pub record IsJudged {W L : Type 0} {G : Ghosts L} (s : Engine W L G) (j : ScriptState) : Type 0 where
+  pub solver : IsSolver s
+  pub matches : MatchesEngine s j
+
 -- `Between G seen R old new` holds if `R` holds for some fields which callers see as the views `old` and `new`
 abbrev pub Between : {W L : Type 0} (G : Ghosts L) → (W → Writer) → (Engine W L G → Engine W L G → Type 0) → SolverView L → SolverView L → Type 0
-Between {W} {L} G seen R old new = (a : Engine W L G) × (b : Engine W L G) × (view_of seen a ≡ old) × (view_of seen b ≡ new) × R a b
+Between {W} {L} G seen R old new = (a : Engine W L G) × (b : Engine W L G) × (view_of seen old.state a ≡ old) × (view_of seen new.state b ≡ new) × R a b

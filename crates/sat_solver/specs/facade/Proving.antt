@@ -2,9 +2,7 @@
 use Rattle.std.specs.Prelude.{◌≡◌, ◌⊎◌, true, false, Option, None, Some, List, [], ◌∷◌, ◌++◌, Result, Ok, Err}
 use Rattle.sat_base.specs.device.Device.{Writer}
 use Rattle.sat_base.specs.device.Sink.{empty_sink}
-use Rattle.sat_base.specs.script.ScriptState.{ScriptState}
 use Rattle.sat_base.specs.steps.Steps.{Step, End}
-use Rattle.sat_checker.specs.matching.Bridge.{LiveVariables}
 use Rattle.sat_checker.specs.matching.Expected.{Finish}
 use Rattle.sat_solver.specs.declared.error.SolverError.{SolverError}
 use Rattle.sat_solver.specs.declared.error.SolverError.TheVariants as errors
@@ -16,9 +14,8 @@ use Rattle.sat_solver.specs.proof.Drat.{IsDratDerivation, RefutesByUnits, presen
 use Rattle.sat_solver.specs.proof.Prefixes.{PrefixSince}
 use Rattle.sat_solver.specs.proof.ProofTexts.{TookAcceptedSteps}
 use Rattle.sat_solver.specs.proof.ProofView.{ClosesAfter, Open, TakesAll, TargetTakes, is_open}
-use Rattle.sat_solver.specs.variables.Calls.{ReachesScriptState}
-use Rattle.sat_solver.specs.facade.View.{SolverView, IsInState}
-use Rattle.sat_solver.specs.facade.Calls.{BreaksOff, ReachesBySteps, Refuses}
+use Rattle.sat_solver.specs.facade.View.{SolverView}
+use Rattle.sat_solver.specs.facade.Calls.{BreaksOff, MakesOrdered, ReachesBySteps, Refuses}
 
 -- the solver, with a target that was just opened
 abbrev pub with_target : {L : Type 0} → ProofFormat → Writer → SolverView L → SolverView L
@@ -93,9 +90,12 @@ pub record WroteSince {L : Type 0} (f : ProofFormat) (from : Writer) (before : L
 -- `CloseReturnsTarget old new` holds if the target is returned, with the last step
 pub record CloseReturnsTarget {L : Type 0} (old new : SolverView L) : Type 0 where
   pub going : old.failed ≡ false
-  pub names : (j : ScriptState) (live : LiveVariables) → IsInState old j live → ReachesScriptState new.names old.steps new.steps j (Finish ∷ [])
   pub target : ClosesAfter old.target (End ∷ []) new.target
   pub same : new ≡ record old { steps = End ∷ old.steps; target = new.target; checking = new.checking }
+
+-- `MakesLast old new` holds if the last step was made
+abbrev pub MakesLast : {L : Type 0} → SolverView L → SolverView L → Type 0
+MakesLast old new = MakesOrdered old new (Finish ∷ [])
 
 -- `CloseWithoutTarget old new` holds if no target was open
 pub record CloseWithoutTarget {L : Type 0} (old new : SolverView L) : Type 0 where

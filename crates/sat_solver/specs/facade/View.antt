@@ -1,11 +1,9 @@
--- What callers see of a solver: one record. Public contracts are stated in terms of it and of the script state.
+-- What callers see of a solver: one record. Public contracts are stated in terms of it.
 use Rattle.std.specs.Prelude.{◌≡◌, ℕ, Bool, false, Option, None, List, []}
 use Rattle.sat_base.specs.script.ScriptState.{ScriptState, initial_state}
 use Rattle.sat_base.specs.steps.Steps.{Step}
-use Rattle.sat_checker.specs.matching.Bridge.{LiveVariables}
 use Rattle.sat_solver.specs.proof.Counting.{nothing_counted}
 use Rattle.sat_solver.specs.proof.ProofView.{Target, Closed}
-use Rattle.sat_solver.specs.variables.Calls.{HasScriptState, NamesAgree}
 use Rattle.sat_solver.specs.Configs.{defaults}
 use Rattle.sat_solver.specs.declared.config.SolverConfig.{SolverConfig}
 use Rattle.sat_solver.specs.declared.progress.Progress.{Progress}
@@ -29,6 +27,7 @@ pub record SolverView (L : Type 0) : Type 0 where
   pub failed : Bool  -- whether a call failed; then every later call fails
   pub used : Bool  -- whether a clause, a name, assumptions or an ask came before; then no proof can be opened
   pub answer : SatState  -- what is known about the answer
+  pub state : ScriptState  -- the script state: the names in use, their modes, and the accepted clauses
   pub names : Variables  -- the names, and the variables that they refer to
   pub values : List (Option Bool)  -- the values of the variables in the search
   pub assumptions : List ℕ  -- as codes of literals over names
@@ -46,14 +45,6 @@ pub record SolverView (L : Type 0) : Type 0 where
   pub lost : Bool  -- whether its own checker has missed a step
   pub checking : Checking  -- the width of hashes, and its own checker
 
--- `IsInState v j live` holds if names and steps agree with the script state `j` and its live variables `live`
-abbrev pub IsInState : {L : Type 0} → SolverView L → ScriptState → LiveVariables → Type 0
-IsInState v j live = NamesAgree v.names v.steps j live
-
--- `MatchesSomeState v` holds if names and steps agree with some script state
-abbrev pub MatchesSomeState : {L : Type 0} → SolverView L → Type 0
-MatchesSomeState v = HasScriptState v.names v.steps
-
 -- `IsEmpty v` holds if the solver is in its initial state
 pub record IsEmpty {L : Type 0} (v : SolverView L) : Type 0 where
   pub failed : v.failed ≡ false
@@ -67,4 +58,4 @@ pub record IsEmpty {L : Type 0} (v : SolverView L) : Type 0 where
   pub target : v.target ≡ Closed nothing_counted
   pub listeners : v.listeners ≡ None
   pub asked : v.asked ≡ false
-  pub state : IsInState v initial_state []
+  pub state : v.state ≡ initial_state

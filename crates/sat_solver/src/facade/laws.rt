@@ -2,7 +2,7 @@
 ghost use Rattle.std.specs.Prelude.{◌≡◌, false};
 ghost use Rattle.sat_solver.specs.facade.Laws.{CallsGoOn, FlushedIsText};
 ghost use Rattle.sat_solver.specs.facade.Recording.{RecordsAnswer};
-ghost use Rattle.sat_solver.specs.facade.View.{MatchesSomeState};
+ghost use Rattle.sat_solver.specs.facade.States.{MatchesState};
 ghost use Rattle.sat_solver.specs.session.Session.{AreAllowedSteps};
 
 use crate::facade::Solver;
@@ -17,10 +17,10 @@ pub fn calls_go_on<W: CountedWrite + Drop, P: ProofProcessor>(
     ensures { CallsGoOn _old.now _new.now }
 {}
 
-/// States that the names and the steps of a solver that has not failed match some state of the judge. Therefore,
-/// whatever contracts state for every matching state holds for at least one state. Its own checker has missed no step.
+/// States that the names and the steps of a solver that has not failed agree with its script state, and that its own
+/// checker has missed no step.
 pub fn solvers_are_judged<W: CountedWrite + Drop, P: ProofProcessor>(solver: &Solver<W, P>)
-    ensures judged { solver.now.failed ≡ false → MatchesSomeState solver.now }
+    ensures judged { solver.now.failed ≡ false → MatchesState solver.now }
     ensures checked { solver.now.failed ≡ false → solver.now.lost ≡ false }
 {
     // The invariant of the fields says so.

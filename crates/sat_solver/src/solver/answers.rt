@@ -1,8 +1,7 @@
 //! The model or the core of the last answer.
 ghost use Rattle.std.specs.Prelude.{◌≡◌, false, IfOk, IfErr, MatchOption};
 ghost use Rattle.sat_solver.specs.declared.error.SolverError.TheVariants as errors;
-ghost use Rattle.sat_solver.specs.facade.Answers.{HasNone, HasNoCore, IsCore, IsModel, ModelFails};
-ghost use Rattle.sat_solver.specs.facade.Inner.{view_of};
+ghost use Rattle.sat_solver.specs.solver.Answers.{EngineHasNone, EngineHasNoCore, EngineIsCore, EngineIsModel, EngineModelFails};
 ghost use Rattle.sat_solver.specs.solver.Whole.{IsSolver, engine_line};
 
 use crate::SolverError;
@@ -29,9 +28,8 @@ impl<W: CountedWrite + Drop, P: ProofProcessor> Engine<W, P> {
     /// Returns a model, or `None` if there is none. A model has one literal for every name in use, in increasing order.
     pub fn model(&self) -> Result<Option<Vec<Lit>>, SolverError>
         requires { IsSolver self.now }
-        ensures model { IfOk result (λ o. MatchOption o (HasNone (view_of W.seen self.now))
-            (λ lits. IsModel (view_of W.seen self.now) lits.items)) }
-        ensures fails { IfErr result (λ e. ModelFails e (view_of W.seen self.now)) }
+        ensures model { IfOk result (λ o. MatchOption o (EngineHasNone self.now) (λ lits. EngineIsModel self.now lits.items)) }
+        ensures fails { IfErr result (λ e. EngineModelFails e self.now) }
     {
         if self.failed {
             return Err(SolverError::HasFailed);
@@ -47,7 +45,7 @@ impl<W: CountedWrite + Drop, P: ProofProcessor> Engine<W, P> {
     /// Returns a list of assumptions that together contradict the clauses, or `None` if no such list is known.
     pub fn failed_core(&self) -> Option<&[Lit]>
         requires { IsSolver self.now }
-        ensures { MatchOption result (HasNoCore (view_of W.seen self.now)) (λ core. IsCore (view_of W.seen self.now) core.now) }
+        ensures { MatchOption result (EngineHasNoCore self.now) (λ core. EngineIsCore self.now core.now) }
     {
         if self.failed {
             return None;

@@ -3,9 +3,11 @@ ghost use Rattle.std.specs.Prelude.{◌≡◌, ◌==◌, ◌||◌, not, length, 
 ghost use Rattle.sat_solver.specs.solver.Naming.{EngineHides, EngineWitnesses, EngineSamples, SetsMode, EngineNamesNew, EngineNamesFail, EngineObserved};
 ghost use Rattle.sat_solver.specs.variables.NamingSteps.{LeavesNoneIdle};
 ghost use Rattle.sat_solver.specs.solver.Whole.{IsSolver, steps_in};
+ghost use Rattle.sat_solver.specs.facade.Judged.{CanBeObserved, IsObserved};
 
 use crate::SolverError;
 use crate::cdcl::fault::Fault;
+use crate::facade::judged::Judged;
 use crate::solver::Engine;
 use crate::variables::error::NameError;
 use crate::variables::modes::{hide_var, set_sampling_mode};
@@ -145,5 +147,16 @@ impl<W: CountedWrite + Drop, P: ProofProcessor> Engine<W, P> {
             }
             Err(error) => Err(self.fail(Fault::from(error))),
         }
+    }
+
+    /// Returns the script state after `observe_internal_vars` returned `users`, where `judged` is the one before. There
+    /// must be one.
+    pub fn judge_observed(&self, judged: &Judged, users: &[Var]) -> Judged
+        requires { CanBeObserved judged.now.state self.now.names (steps_in self.now) users.now }
+        ensures { IsObserved judged.now.state result.state self.now.names (steps_in self.now) users.now }
+    {
+        self.context
+            .proof
+            .judge_observed(judged, &self.names, users)
     }
 }

@@ -3,6 +3,7 @@ use Rattle.std.proofs.Common.{ℕ, ◌≡◌, ◌∙◌, inl, inr, refl, sym, ap
 use Rattle.std.proofs.Math.Logic.{∥∥₁_elim, ∥∥₁_prop}
 use Rattle.std.specs.Prelude.{IfOk, IfSome}
 use Rattle.sat_base.specs.device.Device.{Writer}
+use Rattle.sat_base.specs.script.ScriptState.{ScriptState}
 use Rattle.sat_base.specs.steps.Steps.{Step, End}
 use Rattle.sat_checker.specs.declared.processing.ProofProcessor.{Ghosts}
 use Rattle.sat_solver.specs.proof.Prefixes.{PrefixSince, TargetTakesPrefix}
@@ -28,12 +29,12 @@ use Rattle.sat_solver.specs.solver.Proving as proving
 use Rattle.sat_solver.specs.solver.Whole.{IsSolver}
 use Rattle.sat_solver.specs.facade.Answers.{IsOngoing}
 use Rattle.sat_solver.specs.facade.View.{Checking, SolverView}
-use Rattle.sat_solver.specs.facade.Inner.{progress_of}
+use Rattle.sat_solver.specs.facade.Inner.{MatchesEngine, progress_of}
 use Rattle.sat_solver.specs.facade.Configuring.{Configures, decay_after}
-use Rattle.sat_solver.specs.facade.Proving.{AddsProcessor, listed, ClosesProof, ClosesText, Enables, IsCertificate, IsDratRefutation, OpensProof, ReturnsAcceptedPrefix, writer_given}
+use Rattle.sat_solver.specs.facade.Proving.{AddsProcessor, listed, ClosesProof, ClosesText, Enables, IsCertificate, IsDratRefutation, MakesLast, OpensProof, ReturnsAcceptedPrefix, writer_given}
 use Rattle.sat_solver.proofs.lemmas.session.PrefixLemmas.{fronts_are_accepted}
 use Rattle.sat_solver.proofs.lemmas.session.ProofLemmas.{carries_none}
-use Rattle.sat_solver.proofs.lemmas.facade.Seen.{v, refused, differs}
+use Rattle.sat_solver.proofs.lemmas.facade.Seen.{v, w, refused, differs}
 use Rattle.sat_solver.proofs.lemmas.facade.SeenChecker.{begun_seen}
 
 -- a view in which only what the proof shows is replaced
@@ -46,45 +47,46 @@ numbers : {a b c d e f g h a' b' c' d' e' f' g' h' : ℕ} → a ≡ a' → b ≡
     let r' : Progress = record { conflicts = a'; restarts = b'; vars = c'; binary = d'; irred = e'; core = f'; mid = g'; local = h' } in r ≡ r'
 numbers p1 p2 p3 p4 p5 p6 p7 p8 = rw (p1, p2, p3, p4, p5, p6, p7, p8) refl
 
-module _ {W L : Type 0} {G : Ghosts L} (seen : W → Writer) where
+-- `i` is the script state before a call, and `k` the one after it
+module _ {W L : Type 0} {G : Ghosts L} (seen : W → Writer) (i k : ScriptState) where
   -- OPENING
 
-  pub opened : (r : Result (Unit {0}) SolverError) (format : ProofFormat) (target : W) (a b : Engine W L G) → proving.EngineOpensProof seen r format target a b → OpensProof r format (seen target) (v seen a) (v seen b)
-  opened (Ok x) format target a b h = record {
+  pub opened : (r : Result (Unit {0}) SolverError) (format : ProofFormat) (target : W) (a b : Engine W L G) → k ≡ i → proving.EngineOpensProof seen r format target a b → OpensProof r format (seen target) (v seen i k a) (w seen i k b)
+  opened (Ok x) format target a b e h = record {
     going = h.going;
     first = h.first;
     shut = h.shut;
-    same = differs seen a b h.same ∙ proved_alike (v seen a) h.steps h.target_is h.asked h.checker.listening h.checker.taking;
+    same = differs seen i k a b e h.same ∙ proved_alike (v seen i k a) h.steps h.target_is h.asked h.checker.listening h.checker.taking;
   }
-  opened (Err errors.HasFailed) format target a b h = refused seen a b _ h
-  opened (Err errors.TooLate) format target a b h = refused seen a b _ h
-  opened (Err e) format target a b h = absurd h
+  opened (Err errors.HasFailed) format target a b e h = refused seen i k a b _ e h
+  opened (Err errors.TooLate) format target a b e h = refused seen i k a b _ e h
+  opened (Err x) format target a b e h = absurd h
 
   -- the listeners of a checker that is begun by a solver that has not failed
   begun_with : (a : Engine W L G) (begun more : List L) → IsSolver a → a.failed ≡ false → proofs.ListenersAtRestart a.context.proof begun → Some (begun ++ more) ≡ Some (listed (proof_listeners a.context.proof) ++ more)
   begun_with a begun more solver going h = ap (λ (begun : List L). Some (begun ++ more)) (begun_seen (has_missed_step a.context.proof) a.context.proof.made (proof_listeners a.context.proof) begun (solver going).taking h)
 
-  pub enabled : (r : Result (Unit {0}) SolverError) (a b : Engine W L G) → IsSolver a → proving.EngineEnables seen r a b → Enables r (v seen a) (v seen b)
-  enabled (Ok x) a b solver h = record {
+  pub enabled : (r : Result (Unit {0}) SolverError) (a b : Engine W L G) → IsSolver a → k ≡ i → proving.EngineEnables seen r a b → Enables r (v seen i k a) (w seen i k b)
+  enabled (Ok x) a b solver e h = record {
     going = h.going;
     first = h.first;
     begun = h.begun;
-    same = differs seen a b h.same ∙ proved_alike (v seen a) h.checks.steps h.target h.asked (h.checks.listening ∙ ap Some (sym (append-nil h.checks.begun)) ∙ begun_with a h.checks.begun [] solver h.going h.checks.listed) (h.checks.taking ∙ sym (solver h.going).taking);
+    same = differs seen i k a b e h.same ∙ proved_alike (v seen i k a) h.checks.steps h.target h.asked (h.checks.listening ∙ ap Some (sym (append-nil h.checks.begun)) ∙ begun_with a h.checks.begun [] solver h.going h.checks.listed) (h.checks.taking ∙ sym (solver h.going).taking);
   }
-  enabled (Err errors.HasFailed) a b solver h = refused seen a b _ h
-  enabled (Err errors.TooLate) a b solver h = refused seen a b _ h
-  enabled (Err e) a b solver h = absurd h
+  enabled (Err errors.HasFailed) a b solver e h = refused seen i k a b _ e h
+  enabled (Err errors.TooLate) a b solver e h = refused seen i k a b _ e h
+  enabled (Err x) a b solver e h = absurd h
 
-  pub listened : (r : Result (Unit {0}) SolverError) (processor : L) (a b : Engine W L G) → IsSolver a → proving.EngineAddsProcessor seen r processor a b → AddsProcessor r processor (v seen a) (v seen b)
-  listened (Ok x) processor a b solver h = record {
+  pub listened : (r : Result (Unit {0}) SolverError) (processor : L) (a b : Engine W L G) → IsSolver a → k ≡ i → proving.EngineAddsProcessor seen r processor a b → AddsProcessor r processor (v seen i k a) (w seen i k b)
+  listened (Ok x) processor a b solver e h = record {
     going = h.going;
     first = h.first;
     begun = h.begun;
-    same = differs seen a b h.same ∙ proved_alike (v seen a) h.steps h.target h.asked (h.listens.0.listening ∙ begun_with a h.listens.0.before (processor ∷ []) solver h.going h.listens.0.listed) (h.listens.1 ∙ sym (solver h.going).taking);
+    same = differs seen i k a b e h.same ∙ proved_alike (v seen i k a) h.steps h.target h.asked (h.listens.0.listening ∙ begun_with a h.listens.0.before (processor ∷ []) solver h.going h.listens.0.listed) (h.listens.1 ∙ sym (solver h.going).taking);
   }
-  listened (Err errors.HasFailed) processor a b solver h = refused seen a b _ h
-  listened (Err errors.TooLate) processor a b solver h = refused seen a b _ h
-  listened (Err errors.OutOfMemory) processor a b solver h = record {
+  listened (Err errors.HasFailed) processor a b solver e h = refused seen i k a b _ e h
+  listened (Err errors.TooLate) processor a b solver e h = refused seen i k a b _ e h
+  listened (Err errors.OutOfMemory) processor a b solver e h = record {
     going = h.going;
     first = h.first;
     begun = h.begun;
@@ -94,30 +96,34 @@ module _ {W L : Type 0} {G : Ghosts L} (seen : W → Writer) where
     listeners = h.listens.listening ∙ begun_with a h.listens.before [] solver h.going h.listens.listed ∙ ap Some (append-nil (listed (proof_listeners a.context.proof)));
     clock = h.clock;
   }
-  listened (Err e) processor a b solver h = absurd h
+  listened (Err x) processor a b solver e h = absurd h
 
   -- CLOSING
 
-  pub closed : (r : Result (Option W) SolverError) (a b : Engine W L G) → proving.EngineClosesProof seen r a b → ClosesProof (writer_given seen r) (v seen a) (v seen b)
-  closed (Ok None) a b h = record {
+  pub closed : (r : Result (Option W) SolverError) (a b : Engine W L G) → k ≡ i → proving.EngineClosesProof seen r a b → ClosesProof (writer_given seen r) (v seen i k a) (w seen i k b)
+  closed (Ok None) a b e h = record {
     going = h.going;
     shut = h.closes.shut;
-    same = differs seen a b h.same ∙ proved_alike (v seen a) h.closes.history h.closes.target h.closes.asked h.closes.listening h.closes.taking;
+    same = differs seen i k a b e h.same ∙ proved_alike (v seen i k a) h.closes.history h.closes.target h.closes.asked h.closes.listening h.closes.taking;
   }
-  closed (Ok (Some given)) a b h = record {
+  closed (Ok (Some given)) a b e h = record {
     going = h.going;
-    names = h.does.kept;
     target = h.closes.target;
-    same = differs seen a b h.same ∙ proved_alike (v seen a) h.closes.history refl h.closes.asked h.closes.listening h.closes.taking;
+    same = differs seen i k a b e h.same ∙ proved_alike (v seen i k a) h.closes.history refl h.closes.asked h.closes.listening h.closes.taking;
   }
-  closed (Err errors.HasFailed) a b h = refused seen a b _ h
-  closed (Err (errors.ProofIoError cause)) a b h = record { going = h.going; failed = h.failed; clock = h.clock }
-  closed (Err errors.OutOfMemory) a b h = record { going = h.going; failed = h.failed; clock = h.clock }
-  closed (Err errors.CounterEnd) a b h = record { going = h.going; failed = h.failed; clock = h.clock }
-  closed (Err (errors.ProofProcessorError cause)) a b h = record { going = h.going; failed = h.failed; clock = h.clock }
-  closed (Err e) a b h = absurd h
+  closed (Err errors.HasFailed) a b e h = refused seen i k a b _ e h
+  closed (Err (errors.ProofIoError cause)) a b e h = record { going = h.going; failed = h.failed; clock = h.clock }
+  closed (Err errors.OutOfMemory) a b e h = record { going = h.going; failed = h.failed; clock = h.clock }
+  closed (Err errors.CounterEnd) a b e h = record { going = h.going; failed = h.failed; clock = h.clock }
+  closed (Err (errors.ProofProcessorError cause)) a b e h = record { going = h.going; failed = h.failed; clock = h.clock }
+  closed (Err x) a b e h = absurd h
 
-  pub closed_text : (r : Result (Option W) SolverError) (a b : Engine W L G) → proving.EngineClosesProof seen r a b → ClosesText (writer_given seen r) (v seen a) (v seen b)
+  pub last_made : (r : Result (Option W) SolverError) (a b : Engine W L G) → MatchesEngine a i → proving.EngineClosesProof seen r a b → IfOk r (λ o. IfSome o (λ _. MakesLast (v seen i k a) (w seen i k b)))
+  last_made (Ok None) a b m h = tt
+  last_made (Ok (Some given)) a b m h = let x = m h.going in (h.does.kept i x.0 x.1).trace
+  last_made (Err x) a b m h = tt
+
+  pub closed_text : (r : Result (Option W) SolverError) (a b : Engine W L G) → proving.EngineClosesProof seen r a b → ClosesText (writer_given seen r) (v seen i k a) (w seen i k b)
   closed_text (Ok None) a b h = tt
   closed_text (Ok (Some given)) a b h = h.closes.takes
   closed_text (Err errors.HasFailed) a b h = record {
@@ -129,12 +135,12 @@ module _ {W L : Type 0} {G : Ghosts L} (seen : W → Writer) where
     last = refl;
   }
   closed_text (Err errors.OutOfMemory) a b h = elim h.adds [
-    | inl k ↦ record {
-      breaks = record { steps = []; history = k.history; listening = k.listening; target = k.target };
+    | inl x ↦ record {
+      breaks = record { steps = []; history = x.history; listening = x.listening; target = x.target };
       last = inl refl;
     }
-    | inr k ↦ record {
-      breaks = record { steps = End ∷ []; history = k.adds.history; listening = k.adds.listening; target = k.adds.target };
+    | inr x ↦ record {
+      breaks = record { steps = End ∷ []; history = x.adds.history; listening = x.adds.listening; target = x.adds.target };
       last = inr refl;
     }
   ]
@@ -148,23 +154,23 @@ module _ {W L : Type 0} {G : Ghosts L} (seen : W → Writer) where
   }
   closed_text (Err e) a b h = absurd h
 
-  pub certificate : (given : W) (a b : Engine W L G) → proving.EngineClosesProof seen (Ok (Some given)) a b → IsCertificate (seen given) (v seen a) (v seen b)
+  pub certificate : (given : W) (a b : Engine W L G) → proving.EngineClosesProof seen (Ok (Some given)) a b → IsCertificate (seen given) (v seen i k a) (w seen i k b)
   certificate given a b h f from before begun wrote = h.certificate f from before begun (record { steps = wrote.steps; following = wrote.following; target = wrote.target })
 
-  pub refutes : (given : W) (a b : Engine W L G) → proving.EngineClosesProof seen (Ok (Some given)) a b → IsDratRefutation (v seen a) (v seen b)
+  pub refutes : (given : W) (a b : Engine W L G) → proving.EngineClosesProof seen (Ok (Some given)) a b → IsDratRefutation (v seen i k a) (w seen i k b)
   refutes given a b h = record { derives = h.derives; refutes = h.refutes }
 
-  pub certified : (r : Result (Option W) SolverError) (a b : Engine W L G) → proving.EngineClosesProof seen r a b → IfOk r (λ o. IfSome o (λ given. IsCertificate (seen given) (v seen a) (v seen b)))
+  pub certified : (r : Result (Option W) SolverError) (a b : Engine W L G) → proving.EngineClosesProof seen r a b → IfOk r (λ o. IfSome o (λ given. IsCertificate (seen given) (v seen i k a) (w seen i k b)))
   certified (Ok None) a b h = tt
   certified (Ok (Some given)) a b h = certificate given a b h
   certified (Err e) a b h = tt
 
-  pub drat_refuted : (r : Result (Option W) SolverError) (a b : Engine W L G) → proving.EngineClosesProof seen r a b → IfOk r (λ o. IfSome o (λ _. IsDratRefutation (v seen a) (v seen b)))
+  pub drat_refuted : (r : Result (Option W) SolverError) (a b : Engine W L G) → proving.EngineClosesProof seen r a b → IfOk r (λ o. IfSome o (λ _. IsDratRefutation (v seen i k a) (w seen i k b)))
   drat_refuted (Ok None) a b h = tt
   drat_refuted (Ok (Some given)) a b h = refutes given a b h
   drat_refuted (Err e) a b h = tt
 
-  pub returns_front : (s : Engine W L G) (returned : Option W) → GivesWriter (target_of seen s.context.proof) (returned_writer seen returned) → ReturnsAcceptedPrefix (returned_writer seen returned) (v seen s)
+  pub returns_front : (s : Engine W L G) (returned : Option W) → GivesWriter (target_of seen s.context.proof) (returned_writer seen returned) → ReturnsAcceptedPrefix (returned_writer seen returned) (v seen i k s)
   returns_front s returned g opened f from given is open_then begun went =
       let follows = subst (λ (t : Target). TargetTakesPrefix t went.steps (target_of seen s.context.proof)) open_then went.target in
       let gives = subst (λ (o : Option Writer). GivesWriter (target_of seen s.context.proof) o) is g in
@@ -174,34 +180,34 @@ module _ {W L : Type 0} {G : Ghosts L} (seen : W → Writer) where
 
   -- PARAMETERS
 
-  alike : (parts : SearchState) (decay : ℕ) (u : SolverConfigUpdate) (a b : Engine W L G) → configuring.EngineConfigured u a b → b.context.search.parts ≡ record a.context.search.parts { vsids = parts.vsids } → b.context.search.activity.decay ≡ decay
-      → v seen b ≡ record (v seen a) { parameters = updated u a.context.config; clock = configuring.at_scale u.luby_restart_interval_scale a.clock; decay = parts.vsids.decay; clause_decay = decay }
-  alike parts decay u a b h parts_are decay_is =
+  alike : (parts : SearchState) (decay : ℕ) (u : SolverConfigUpdate) (a b : Engine W L G) → configuring.EngineConfigured u a b → b.context.search.parts ≡ record a.context.search.parts { vsids = parts.vsids } → b.context.search.activity.decay ≡ decay → k ≡ i
+      → w seen i k b ≡ record (v seen i k a) { parameters = updated u a.context.config; clock = configuring.at_scale u.luby_restart_interval_scale a.clock; decay = parts.vsids.decay; clause_decay = decay }
+  alike parts decay u a b h parts_are decay_is e =
       let assumed = ap (λ (t : Vec ℕ). t.items) h.same.assumed in
-      rw (h.failed ∙ sym h.going, h.same.used, h.same.state, h.same.names, parts_are, decay_is, assumed, h.same.reported, h.clock, h.config, h.same.proof) refl
+      rw (h.failed ∙ sym h.going, h.same.used, h.same.state, h.same.names, parts_are, decay_is, assumed, h.same.reported, h.clock, h.config, h.same.proof, e) refl
 
-  passed : (u : SolverConfigUpdate) (a b : Engine W L G) → configuring.EngineConfigured u a b → configuring.SetsDecays (record a.context { config = updated u a.context.config }) b.context
-      → v seen b ≡ record (v seen a) { parameters = updated u a.context.config; clock = configuring.at_scale u.luby_restart_interval_scale a.clock; decay = (updated u a.context.config).vsids_decay; clause_decay = (updated u a.context.config).clause_activity_decay }
-  passed u a b h k =
-      alike b.context.search.parts (updated u a.context.config).clause_activity_decay u a b h (k.parts ∙ ap (λ (q : SearchState). record a.context.search.parts { vsids = q.vsids }) (sym k.parts)) (ap (λ (q : Scale). q.decay) k.activity)
-      ∙ ap (λ (q : SearchState). record (v seen a) { parameters = updated u a.context.config; clock = configuring.at_scale u.luby_restart_interval_scale a.clock; decay = q.vsids.decay; clause_decay = (updated u a.context.config).clause_activity_decay }) k.parts
+  passed : (u : SolverConfigUpdate) (a b : Engine W L G) → configuring.EngineConfigured u a b → configuring.SetsDecays (record a.context { config = updated u a.context.config }) b.context → k ≡ i
+      → w seen i k b ≡ record (v seen i k a) { parameters = updated u a.context.config; clock = configuring.at_scale u.luby_restart_interval_scale a.clock; decay = (updated u a.context.config).vsids_decay; clause_decay = (updated u a.context.config).clause_activity_decay }
+  passed u a b h p e =
+      alike b.context.search.parts (updated u a.context.config).clause_activity_decay u a b h (p.parts ∙ ap (λ (q : SearchState). record a.context.search.parts { vsids = q.vsids }) (sym p.parts)) (ap (λ (q : Scale). q.decay) p.activity) e
+      ∙ ap (λ (q : SearchState). record (v seen i k a) { parameters = updated u a.context.config; clock = configuring.at_scale u.luby_restart_interval_scale a.clock; decay = q.vsids.decay; clause_decay = (updated u a.context.config).clause_activity_decay }) p.parts
 
-  changed : (st : SatState) (u : SolverConfigUpdate) (a b : Engine W L G) → configuring.EngineConfigured u a b → configuring.PassesToSearch st (record a.context { config = updated u a.context.config }) b.context
-      → v seen b ≡ record (v seen a) { parameters = updated u a.context.config; clock = configuring.at_scale u.luby_restart_interval_scale a.clock; decay = decay_after st a.context.search.parts.vsids.decay (updated u a.context.config).vsids_decay; clause_decay = decay_after st a.context.search.activity.decay (updated u a.context.config).clause_activity_decay }
-  changed states.Unsat u a b h k = alike a.context.search.parts a.context.search.activity.decay u a b h (ap (λ (c : Context W L G). c.search.parts) k) (ap (λ (c : Context W L G). c.search.activity.decay) k)
-  changed states.Unknown u a b h k = passed u a b h k
-  changed states.Sat u a b h k = passed u a b h k
-  changed states.UnsatUnderAssumptions u a b h k = passed u a b h k
+  changed : (st : SatState) (u : SolverConfigUpdate) (a b : Engine W L G) → configuring.EngineConfigured u a b → configuring.PassesToSearch st (record a.context { config = updated u a.context.config }) b.context → k ≡ i
+      → w seen i k b ≡ record (v seen i k a) { parameters = updated u a.context.config; clock = configuring.at_scale u.luby_restart_interval_scale a.clock; decay = decay_after st a.context.search.parts.vsids.decay (updated u a.context.config).vsids_decay; clause_decay = decay_after st a.context.search.activity.decay (updated u a.context.config).clause_activity_decay }
+  changed states.Unsat u a b h p e = alike a.context.search.parts a.context.search.activity.decay u a b h (ap (λ (c : Context W L G). c.search.parts) p) (ap (λ (c : Context W L G). c.search.activity.decay) p) e
+  changed states.Unknown u a b h p e = passed u a b h p e
+  changed states.Sat u a b h p e = passed u a b h p e
+  changed states.UnsatUnderAssumptions u a b h p e = passed u a b h p e
 
-  pub configured : (r : Result (Unit {0}) SolverError) (u : SolverConfigUpdate) (a b : Engine W L G) → configuring.EngineConfigures r u a b → Configures r u (v seen a) (v seen b)
-  configured (Ok x) u a b h = record { going = h.going; range = h.range; same = changed a.state u a b h h.decays }
-  configured (Err errors.HasFailed) u a b h = refused seen a b _ h
-  configured (Err errors.OutOfRange) u a b h = refused seen a b _ h
-  configured (Err e) u a b h = absurd h
+  pub configured : (r : Result (Unit {0}) SolverError) (u : SolverConfigUpdate) (a b : Engine W L G) → k ≡ i → configuring.EngineConfigures r u a b → Configures r u (v seen i k a) (w seen i k b)
+  configured (Ok x) u a b e h = record { going = h.going; range = h.range; same = changed a.state u a b h h.decays e }
+  configured (Err errors.HasFailed) u a b e h = refused seen i k a b _ e h
+  configured (Err errors.OutOfRange) u a b e h = refused seen i k a b _ e h
+  configured (Err x) u a b e h = absurd h
 
   -- NUMBERS
 
-  pub progressed : (s : Engine W L G) → IsSolver s → (r : Progress) → r.conflicts ≡ s.clock.rounds → r.restarts ≡ s.clock.restarts.count → (IsSolver s → s.failed ≡ false → r.vars ≡ progressing.solver_unassigned_count s) → (progressing.EngineIsOngoing s → progressing.CountsClausesIn r s) → IsOngoing (v seen s) → r ≡ progress_of s
+  pub progressed : (s : Engine W L G) → IsSolver s → (r : Progress) → r.conflicts ≡ s.clock.rounds → r.restarts ≡ s.clock.restarts.count → (IsSolver s → s.failed ≡ false → r.vars ≡ progressing.solver_unassigned_count s) → (progressing.EngineIsOngoing s → progressing.CountsClausesIn r s) → IsOngoing (v seen i k s) → r ≡ progress_of s
   progressed s solver r conflicts restarts vars clauses on =
       let c = clauses (record { solver = solver; going = on.going; left = on.left }) in
       numbers conflicts restarts (vars solver on.going) c.binary c.irred c.core c.mid c.local

@@ -5,7 +5,7 @@ pub returns-clause-target : goal.returns-clause-target
 returns-clause-target g c = rw (← c.solver.view_is) c.into_processors.ensures.target
 
 pub returns-clause-front : goal.returns-clause-front
-returns-clause-front g c = rw (← c.solver.view_is) (returns_front g.W.CountedWrite.seen c.solver.inside.inner c.into_processors.result.target c.into_processors.ensures.target)
+returns-clause-front g c = rw (← c.solver.view_is) (returns_front g.W.CountedWrite.seen c.solver.inside.judge.state c.solver.inside.judge.state c.solver.inside.inner c.into_processors.result.target c.into_processors.ensures.target)
 
 pub returns-clause-processors : goal.returns-clause-processors
 returns-clause-processors g c = rw (← c.solver.view_is) c.into_processors.ensures.processors

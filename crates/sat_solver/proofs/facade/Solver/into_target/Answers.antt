@@ -5,4 +5,4 @@ pub returns-clause-gives : goal.returns-clause-gives
 returns-clause-gives g c = rw (← c.solver.view_is) c.into_target.ensures.gives
 
 pub returns-clause-front : goal.returns-clause-front
-returns-clause-front g c = rw (← c.solver.view_is) (returns_front g.W.CountedWrite.seen c.solver.inside.inner c.into_target.result c.into_target.ensures.gives)
+returns-clause-front g c = rw (← c.solver.view_is) (returns_front g.W.CountedWrite.seen c.solver.inside.judge.state c.solver.inside.judge.state c.solver.inside.inner c.into_target.result c.into_target.ensures.gives)

@@ -26,8 +26,11 @@ returns-clause-view g c = record {
   target = c.new.ensures.target;
   listeners = none_of (proof_listeners c.new.result) c.new.ensures.checked;
   asked = c.new.ensures.asked;
-  state = subst (λ ss. NamesAgree c.new-2.result ss initial_state []) (sym c.new.ensures.steps) (agree_first c.new-2.result c.new-2.ensures.tidy c.new-2.ensures.none);
+  state = refl;
 }
+
+pub returns-clause-agree : goal.returns-clause-agree
+returns-clause-agree g c = subst (λ ss. NamesAgree c.new-2.result ss initial_state []) (sym c.new.ensures.steps) (agree_first c.new-2.result c.new-2.ensures.tidy c.new-2.ensures.none)
 
 pub returns-clause-whole : goal.returns-clause-whole
 returns-clause-whole g c =

@@ -3,21 +3,19 @@ use Rattle.sat_base.specs.device.Device.{GavePrefix}
 use Rattle.sat_base.specs.dimacs.Dimacs.{dimacs, up_to_last_blank}
 use Rattle.sat_base.specs.dimacs.Parsing.{IsSoundSoFar, EndsInLastPiece}
 use Rattle.sat_base.proofs.lemmas.dimacs.Parsed.{HasAccepted as HasFed}
-use Rattle.sat_solver.specs.solver.Formulas.{EngineAddsAll}
-use Rattle.sat_solver.specs.solver.Whole.{IsSolver}
-use Rattle.sat_solver.proofs.solver.Engine.add_text.Given as goal
+use Rattle.sat_solver.specs.facade.Formulas.{AddsAll}
+use Rattle.sat_solver.proofs.facade.Solver.add_text.Given as goal
 
 -- this much of the text was read, and its clauses were added
 abbrev pub invariant-loop : goal.invariant-loop
 invariant-loop g l = record {
   was : l.fn.self.failed ≡ false;
   going : l.self.failed ≡ false;
-  solver : IsSolver l.self;
   bytes : (text : List ℕ) × HasFed text l.parser × GavePrefix (g.R.CountedRead.seen l.fn.reader) (g.R.CountedRead.seen l.reader) text × (l.counter ≤ length text)
       × (l.parser.taken ≡ (dimacs (up_to_last_blank text)).clauses) × (l.counter ≡ 0 → text ≡ []) × EndsInLastPiece text;
   sound : IsSoundSoFar l.parser;
   open_yet : 0 < l.counter → (g.R.CountedRead.seen l.reader).ended ≡ false;
   failures : (g.R.CountedRead.seen l.reader).failures ≡ (g.R.CountedRead.seen l.fn.reader).failures;
   calls : (g.R.CountedRead.seen l.reader).calls ≡ (g.R.CountedRead.seen l.fn.reader).calls + l.counter;
-  added : EngineAddsAll g.W.CountedWrite.seen l.fn.self l.parser.taken l.self;
+  added : AddsAll g.P.ProofProcessor.takes l.fn.self l.parser.taken l.self;
 }

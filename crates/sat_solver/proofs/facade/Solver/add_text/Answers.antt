@@ -8,12 +8,12 @@ use Rattle.sat_base.proofs.lemmas.device.Given.{gave_none, gave_more, gave_still
 use Rattle.sat_base.proofs.lemmas.dimacs.Parsed.{stands_of, piece_given, sound_none}
 use Rattle.sat_base.proofs.lemmas.dimacs.ReadToEnd.{ReadToEnd, some_read, next_kept, next_within, read_to_end, read_front, stops_none, stops_after, short_piece}
 use Rattle.sat_checker.proofs.lemmas.checker.Texts.{fed_of, goes_fed, no_clauses, sound_after}
-use Rattle.sat_solver.specs.solver.Formulas.{EngineAddsAll}
-use Rattle.sat_solver.proofs.lemmas.solver.FormulaLemmas.{adds_going, piece_added, piece_answers, end_answers, read_answers}
+use Rattle.sat_solver.specs.facade.Formulas.{AddsAll}
+use Rattle.sat_solver.proofs.lemmas.facade.FormulaLemmas.{adds_going, piece_added, piece_answers, end_answers, read_answers}
 use Rattle.sat_solver.proofs.lemmas.solver.StoppingLemmas.{read_before}
-use Rattle.sat_solver.proofs.solver.Engine.add_text.Given.{Over}
-use Rattle.sat_solver.proofs.solver.Engine.add_text.Goals as goal
-use Rattle.sat_solver.proofs.solver.Engine.add_text.Goals.{In-Ok, In-Ok-eq0, In-Err}
+use Rattle.sat_solver.proofs.facade.Solver.add_text.Given.{Over}
+use Rattle.sat_solver.proofs.facade.Solver.add_text.Goals as goal
+use Rattle.sat_solver.proofs.facade.Solver.add_text.Goals.{In-Ok, In-Ok-eq0, In-Err}
 
 -- the end was read
 module _ (g : Over) (c : In-Ok-eq0 g) where
@@ -57,13 +57,12 @@ pub loop-init : goal.loop-init
 loop-init g c = record {
   was = c.requires.going;
   going = c.requires.going;
-  solver = c.requires.solver;
   bytes = ([], stands_of [] c.args.parser.now c.requires.fresh, gave_none _, omega arith, ap (λ (z : Progress). z.taken) c.requires.fresh ∙ sym no_clauses, λ e. refl, stops_none);
   sound = subst IsSoundSoFar (sym c.requires.fresh) sound_none;
   open_yet = λ h. absurd (omega arith);
   failures = refl;
   calls = omega arith;
-  added = subst (λ cs. EngineAddsAll g.W.CountedWrite.seen c.args.self.now cs c.args.self.now) (sym (ap (λ (z : Progress). z.taken) c.requires.fresh)) refl;
+  added = subst (λ cs. AddsAll g.P.ProofProcessor.takes c.args.self.now cs c.args.self.now) (sym (ap (λ (z : Progress). z.taken) c.requires.fresh)) refl;
 }
 
 pub loop-preserved : goal.loop-preserved
@@ -71,11 +70,10 @@ loop-preserved g c =
     let r = (goal.at.loop-preserved g c).In-Ok in
     let b = c.loop.invariant.bytes in
     let a = c.in_ok-add_read-in-Ok.ensures.adds in
-    let more = piece_added g.W.CountedWrite.seen c.args.self.now c.loop.self c.add_read-in-Ok.new.self b.0 (piece g r) c.loop.parser c.feed-answer.new.self c.add_read-in-Ok.new.parser c.feed-answer.result b.1 c.feed-answer.ensures.answer c.in_ok-add_read-in-Ok.ensures.taken a c.loop.invariant.added in
+    let more = piece_added g.P.ProofProcessor.takes c.args.self.now c.loop.self c.add_read-in-Ok.new.self b.0 (piece g r) c.loop.parser c.feed-answer.new.self c.add_read-in-Ok.new.parser c.feed-answer.result b.1 c.feed-answer.ensures.answer c.in_ok-add_read-in-Ok.ensures.taken a c.loop.invariant.added in
     record {
       was = c.loop.invariant.was;
-      going = adds_going g.W.CountedWrite.seen c.args.self.now c.add_read-in-Ok.new.self c.add_read-in-Ok.new.parser.taken c.loop.invariant.was more.2;
-      solver = c.in_ok-add_read-in-Ok.ensures.solver;
+      going = adds_going g.P.ProofProcessor.takes c.args.self.now c.add_read-in-Ok.new.self c.add_read-in-Ok.new.parser.taken c.loop.invariant.was more.2;
       bytes = (b.0 ++ piece g r, more.0, more_read g r, omega (arith, b.3, length-append b.0 (piece g r), piece_given c.in-Ok.count c.read_next.new.room (search rules) (search rules)), more.1, λ e. absurd (omega arith), stops g r);
       sound = sound_after c.feed-answer.result c.feed-answer.new.self c.add_read-in-Ok.new.parser a.2.0 c.feed-answer.ensures.sound c.in_ok-add_read-in-Ok.ensures.taken;
       open_yet = λ h. unended g r;
@@ -88,7 +86,7 @@ pub returns-in-Ok-eq0-clause-adds : goal.returns-in-Ok-eq0-clause-adds
 returns-in-Ok-eq0-clause-adds g c =
     let r = (goal.at.returns-in-Ok-eq0-clause-adds g c).In-Ok-eq0 in
     let b = c.loop.invariant.bytes in
-    end_answers g.W.CountedWrite.seen c.add_read.result c.finish-answer.result c.args.self.now c.loop.self c.add_read.new.self _ _ b.0 c.loop.parser c.finish-answer.new.self c.loop.invariant.was b.1 c.finish-answer.ensures
+    end_answers g.P.ProofProcessor.takes c.add_read.result c.finish-answer.result c.args.self.now c.loop.self c.add_read.new.self _ _ b.0 c.loop.parser c.finish-answer.new.self c.loop.invariant.was b.1 c.finish-answer.ensures
     (none_failed g r) (all_read g r) c.loop.invariant.added c.add_read.ensures.adds
 
 pub returns-in_err-add_read-in-Ok-clause-adds : goal.returns-in_err-add_read-in-Ok-clause-adds
@@ -96,7 +94,7 @@ returns-in_err-add_read-in-Ok-clause-adds g c =
     let p = err_from_is_err_and c.from_residual.result c.from_residual.ensures.1 in
     let r = (goal.at.returns-in_err-add_read-in-Ok-clause-adds g c).In-Ok in
     let b = c.loop.invariant.bytes in
-    rw (p.1, p.2) (piece_answers g.W.CountedWrite.seen c.in_err-add_read-in-Ok.field-0.0 c.feed-answer.result c.args.self.now c.loop.self c.add_read-in-Ok.new.self _ _ b.0 (piece g r) c.loop.parser c.feed-answer.new.self c.loop.invariant.was b.1 c.feed-answer.ensures.answer
+    rw (p.1, p.2) (piece_answers g.P.ProofProcessor.takes c.in_err-add_read-in-Ok.field-0.0 c.feed-answer.result c.args.self.now c.loop.self c.add_read-in-Ok.new.self _ _ b.0 (piece g r) c.loop.parser c.feed-answer.new.self c.loop.invariant.was b.1 c.feed-answer.ensures.answer
     (none_failed_yet g r)
     (more_read g r)
     (unended g r)
@@ -108,7 +106,7 @@ returns-in-Err-clause-adds g c =
     let b = c.loop.invariant.bytes in
     let failed = c.in-Err.ensures.reads in
     let front = still_read g (goal.at.returns-in-Err-clause-adds g c).In-Err in
-    read_answers g.W.CountedWrite.seen c.args.self.now c.loop.self _ _ b.0 c.loop.parser c.loop.invariant.was b.1
+    read_answers g.P.ProofProcessor.takes c.args.self.now c.loop.self _ _ b.0 c.loop.parser c.loop.invariant.was b.1
     (inl (failed.failures.0 ∙ ap (λ (n : ℕ). n + 1) c.loop.invariant.failures, failed.failures.1), few_front _ _ b.0 front (omega (arith, failed.calls, c.loop.invariant.calls, b.3)))
     front c.loop.invariant.sound b.4 c.loop.invariant.added
 
