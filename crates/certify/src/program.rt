@@ -11,6 +11,7 @@ mod call;
 mod fault;
 mod hint_line;
 pub(crate) mod keeping;
+mod kept_error;
 pub mod opened;
 mod overlap;
 mod printing;
@@ -141,25 +142,25 @@ fn make_call<F: Read, G: Write, I: CountedRead, O: CountedWrite, E: CountedWrite
         OpenCall::Standard => answer(alloc, input, output, errors),
         OpenCall::Run(run) => run_text(
             alloc,
-            &mut run.script.device,
-            &mut run.answers.device,
-            &mut run.certificate.device,
+            &mut run.script,
+            &mut run.answers,
+            &mut run.certificate,
             run.budget,
             errors,
         ),
         OpenCall::Confirm(texts) => confirm_given(
             alloc,
-            &mut texts.script.device,
-            &mut texts.answers.device,
-            &mut texts.certificate.device,
+            &mut texts.script,
+            &mut texts.answers,
+            &mut texts.certificate,
             output,
         ),
         OpenCall::Hints(files) => write_hints(
             alloc,
-            &mut files.certificate.device,
-            &mut files.hints.device,
+            &mut files.certificate,
+            &mut files.hints,
             errors,
         ),
-        OpenCall::Check(hints) => check_text(alloc, &mut hints.device, output),
+        OpenCall::Check(hints) => check_text(alloc, hints, output),
     }
 }

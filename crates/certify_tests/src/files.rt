@@ -158,7 +158,8 @@ type End<'a> = (u8, &'a str, &'a str);
 type Fault<'a> = (&'a str, &'a str, &'a str);
 
 /// What is written to standard error when standard output fails.
-const NOT_PRINTED: &str = "certify: AnswersWrite\ncertify: standard output: a write failed\n";
+const NOT_PRINTED: &str =
+    "certify: AnswersWrite\ncertify: standard output: operation interrupted\n";
 
 /// An action in a folder, or a check of a file or a call.
 #[derive(Drop)]
@@ -319,8 +320,12 @@ const RUN: &[&[Action<'static>]] = &[
     ],
 ];
 
-/// The system's reason for a missing file.
+/// The system's reasons for a missing file, for reading a folder, and for a full device.
 const MISSING: &str = "No such file or directory (os error 2)";
+
+const NOT_A_FILE: &str = "Is a directory (os error 21)";
+
+const NO_SPACE: &str = "No space left on device (os error 28)";
 
 /// Calls with the file `s`, a missing file, and a file in a missing folder.
 const UNOPENED: &[&[Action<'static>]] = &[&[
@@ -352,7 +357,25 @@ const UNOPENED: &[&[Action<'static>]] = &[&[
         ("confirm", &["s", "s", "n"], ""),
         ("CertificateRead", "n", MISSING),
     ),
-    Action::Breaks(("check", &["."], ""), ("Read", ".", "a read failed")),
+    Action::Breaks(("check", &["."], ""), ("Read", ".", NOT_A_FILE)),
+    Action::Breaks(("hints", &[".", "h"], ""), ("Read", ".", NOT_A_FILE)),
+    Action::Breaks(
+        ("run", &[".", "a", "c"], ""),
+        ("ScriptRead", ".", NOT_A_FILE),
+    ),
+    Action::Breaks(
+        ("confirm", &[".", "s", "s"], ""),
+        ("ScriptRead", ".", NOT_A_FILE),
+    ),
+    Action::Put("m", b"1 2"),
+    Action::Breaks(
+        ("confirm", &["m", ".", "s"], ""),
+        ("AnswersRead", ".", NOT_A_FILE),
+    ),
+    Action::Breaks(
+        ("confirm", &["s", "s", "."], ""),
+        ("CertificateRead", ".", NOT_A_FILE),
+    ),
 ]];
 
 /// The usage, printed for a call that would overwrite its input, or write a file twice.
@@ -405,12 +428,14 @@ const FULL: &[&[Action<'static>]] = &[&[
     Action::Link("/dev/full", "full"),
     Action::Breaks(
         ("run", &["s", "full", "c"], ""),
-        ("AnswersWrite", "full", "a write failed"),
+        ("AnswersWrite", "full", NO_SPACE),
     ),
     Action::Breaks(
         ("run", &["s", "a", "full"], ""),
-        ("CertificateWrite", "full", "a write failed"),
+        ("CertificateWrite", "full", NO_SPACE),
     ),
+    Action::Put("c", REFUTED),
+    Action::Breaks(("hints", &["c", "full"], ""), ("Write", "full", NO_SPACE)),
 ]];
 
 const TABLES: &[&[&[Action<'static>]]] = &[HINTED, CHECKED, RUN, UNOPENED];

@@ -214,7 +214,7 @@ fn standard_input_fails(rt: HostRuntime) {
     let wanted = (
         3,
         "",
-        "certify: ScriptRead\ncertify: standard input: a read failed\n",
+        "certify: ScriptRead\ncertify: standard input: operation interrupted\n",
     );
     for failing in 1..12 {
         let mut input = fails_at(b"1 2 0\na 0\n", failing);
@@ -243,7 +243,7 @@ static TAKEN: [(u64, usize); 3] = [(1, 0), (2, 23), (3, 35)];
 
 /// Standard error when the output fails after a run with the binary clause 1 2.
 const NOT_PRINTED: &str =
-    "[INFO  certify] progress conflicts=1 restarts=1 vars=2 binary=1 irred=0 core=0 mid=0 local=0\ncertify: AnswersWrite\ncertify: standard output: a write failed\n";
+    "[INFO  certify] progress conflicts=1 restarts=1 vars=2 binary=1 irred=0 core=0 mid=0 local=0\ncertify: AnswersWrite\ncertify: standard output: operation interrupted\n";
 
 /// The calls that fail are the write of the answers, the write of the last line, and the flush. Nothing more is written
 /// after the failure.
@@ -287,6 +287,7 @@ fn file<'a>(path: &'a str, text: &'a [u8]) -> OpenFile<'a, FailsAt<'a>> {
     OpenFile {
         path,
         device: fails_at(text, 0),
+        error: None,
     }
 }
 

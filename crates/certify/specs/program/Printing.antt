@@ -64,6 +64,8 @@ abbrev pub fault_text : ProgramFault → List ℕ
 fault_text (fault.Run f) = run_fault_text f
 fault_text (fault.Confirm f) = confirm_fault_text f
 fault_text (fault.Hints f) = hints_fault_text f
+fault_text (fault.Input error) = codes "ScriptRead"
+fault_text (fault.Output error) = codes "AnswersWrite"
 
 -- the ask and the reason of a `No`, with LF
 abbrev pub no_text : ℕ → Why → List ℕ

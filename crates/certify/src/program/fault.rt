@@ -6,6 +6,7 @@ use crate::fault::RunFault;
 use crate::verdict::ConfirmFault;
 use sat_hints::HintFault;
 use std::alloc::AllocError;
+use std::io;
 use thiserror::Error;
 
 /// Why the program failed.
@@ -17,6 +18,11 @@ pub(super) enum ProgramFault {
     Confirm(ConfirmFault),
     #[error("{0}")]
     Hints(HintCallFault),
+    /// Standard input can't be read. There is no error after 2^48 reads.
+    #[error("standard input can't be read")]
+    Input(Option<io::Error>),
+    #[error("standard output can't be written")]
+    Output(io::Error),
 }
 
 /// Why a hint text was not written or checked.
@@ -41,6 +47,8 @@ impl ProgramFault {
             ProgramFault::Run(fault) => run_fault_name(fault),
             ProgramFault::Confirm(fault) => confirm_fault_name(fault),
             ProgramFault::Hints(fault) => hints_fault_name(fault),
+            ProgramFault::Input(_) => run_fault_name(RunFault::ScriptRead),
+            ProgramFault::Output(_) => run_fault_name(RunFault::AnswersWrite),
         }
     }
 }

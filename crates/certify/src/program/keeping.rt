@@ -5,6 +5,7 @@ ghost use Rattle.std.specs.Io.KnownBytes.{ReadConsumes};
 ghost use Rattle.sat_base.specs.device.Device.{AppendsPrefix, ReadsOnce};
 ghost use Rattle.certify.specs.program.Copies.{IsCopy, kept_reader, refusal_count};
 
+use crate::program::kept_error::keep_error;
 use sat_base::{Counted, CountedRead};
 use std::alloc::Global;
 use std::io::{ErrorKind, Read};
@@ -52,6 +53,8 @@ pub(crate) struct Keeping<R: CountedRead> {
     pub(crate) refusals: Counted<Refusing>,
     /// Whether memory has run out.
     pub(crate) is_refused: bool,
+    /// The error of the last read of `reader` that failed, or `None` if none did.
+    pub(crate) error: Option<io::Error>,
     pub(crate) ghost copies: { IsCopy (R.seen reader).given kept.items },
     pub(crate) ghost none: { is_refused ≡ false → refusal_count refusals ≡ 0 },
 }
@@ -69,6 +72,7 @@ impl<R: CountedRead> Keeping<R> {
             kept: Vec::new(alloc),
             refusals: Counted::new(Refusing),
             is_refused: false,
+            error: None,
         }
     }
 
@@ -82,6 +86,7 @@ impl<R: CountedRead> Keeping<R> {
             kept: _kept,
             refusals: _refusals,
             is_refused: _is_refused,
+            error: _error,
         } = self;
         reader
     }
@@ -123,6 +128,7 @@ impl<R: CountedRead> Keeping<R> {
             append(&mut kept, &buf[..*count]);
         }
         self.kept = kept;
+        keep_error(&mut self.error, &result);
         result
     }
 }

@@ -1,22 +1,102 @@
 //! Opens the files of a call, in the order of the arguments.
-ghost use Rattle.std.specs.Prelude.{IfOk, MatchOption, MatchResult};
+ghost use Rattle.std.specs.Prelude.{IfOk, MatchOption, MatchResult, refl};
+ghost use Rattle.std.specs.Io.{ReadsAtMost, WritesAtMost};
+ghost use Rattle.std.specs.Io.KnownBytes.{Keeps, ReadConsumes, WriteAppends};
+ghost use Rattle.sat_base.specs.device.Counting.{device_of, reader_of, writer_of};
+ghost use Rattle.sat_base.specs.device.Device.{FlushesOnce, ReadsOnce, WritesOnce};
 ghost use Rattle.certify.specs.program.Calls.{Check, Hints, NamesFiles, WritesFiles, confirming, request_of, running};
 ghost use Rattle.certify.specs.program.FileCalls.{IsOpenedFor, IsUnread, IsUnwritten};
 
 use crate::fault::RunFault;
 use crate::program::call::{Call, RunFiles};
 use crate::program::fault::{HintCallFault, ProgramFault};
+use crate::program::kept_error::keep_error;
 use crate::program::overlap::{is_one_file, overlaps};
 use crate::verdict::ConfirmFault;
-use sat_base::Counted;
+use sat_base::{Counted, CountedRead, CountedWrite};
 use std::fs::{File, Files};
 use std::io;
+use std::io::{Read, Write};
 
-/// A file that was opened or created, and the path that led to it.
+/// A file that was opened or created, and the path that led to it. It is read or written through its device.
 #[derive(Drop)]
 pub struct OpenFile<'a, F> {
     pub path: &'a str,
     pub device: Counted<F>,
+    /// The error of the last call that failed, or `None` if none did.
+    pub error: Option<io::Error>,
+}
+
+impl<F: Read> Read for OpenFile<'_, F> {
+    ghost remaining = { λ f. F.remaining (device_of f.device) };
+
+    fn read(&mut self, buf: &mut [u8]) -> io::Result<usize>
+        ensures bound { ReadsAtMost result buf.new }
+        ensures bytes { ReadConsumes (F.remaining (device_of self.old.device)) (F.remaining (device_of self.new.device))
+            result buf.new }
+        ensures once { ReadsOnce result buf.new (reader_of F.remaining self.old.device)
+            (reader_of F.remaining self.new.device) }
+    {
+        self.read_counted(buf)
+    }
+}
+
+impl<F: Read> CountedRead for OpenFile<'_, F> {
+    ghost seen = { λ f. reader_of F.remaining f.device };
+
+    ghost known_bytes = { λ f. refl };
+
+    fn read_counted(&mut self, buf: &mut [u8]) -> io::Result<usize> {
+        let result = self.device.read_counted(buf);
+        keep_error(&mut self.error, &result);
+        result
+    }
+}
+
+impl<F: Write> Write for OpenFile<'_, F> {
+    ghost contents = { λ f. F.contents (device_of f.device) };
+
+    fn write(&mut self, piece: &[u8]) -> io::Result<usize>
+        ensures bound { WritesAtMost result piece.now }
+        ensures bytes { WriteAppends (F.contents (device_of self.old.device)) (F.contents (device_of self.new.device))
+            result piece.now }
+        ensures once { WritesOnce result piece.now (writer_of F.contents self.old.device)
+            (writer_of F.contents self.new.device) }
+    {
+        self.write_counted(piece)
+    }
+
+    fn flush(&mut self) -> io::Result<()>
+        ensures bytes { Keeps (F.contents (device_of self.old.device)) (F.contents (device_of self.new.device)) }
+        ensures once { FlushesOnce result (writer_of F.contents self.old.device)
+            (writer_of F.contents self.new.device) }
+    {
+        self.flush_counted()
+    }
+}
+
+impl<F: Write> CountedWrite for OpenFile<'_, F> {
+    ghost seen = { λ f. writer_of F.contents f.device };
+
+    ghost known_bytes = { λ f. refl };
+
+    fn write_counted(&mut self, piece: &[u8]) -> io::Result<usize> {
+        let result = self.device.write_counted(piece);
+        keep_error(&mut self.error, &result);
+        result
+    }
+
+    fn flush_counted(&mut self) -> io::Result<()> {
+        let result = self.device.flush_counted();
+        keep_error(&mut self.error, &result);
+        result
+    }
+
+    fn write_all_counted(&mut self, piece: &[u8]) -> io::Result<()> {
+        let result = self.device.write_all_counted(piece);
+        keep_error(&mut self.error, &result);
+        result
+    }
 }
 
 /// The files of a confirmation.
@@ -79,6 +159,7 @@ fn open<'a, R: Files>(
         Ok(file) => Ok(OpenFile {
             path,
             device: Counted::new(file),
+            error: None,
         }),
         Err(error) => Err(OpenFault { fault, path, error }),
     }
@@ -96,6 +177,7 @@ fn make<'a, R: Files>(
         Ok(file) => Ok(OpenFile {
             path,
             device: Counted::new(file),
+            error: None,
         }),
         Err(error) => Err(OpenFault { fault, path, error }),
     }

@@ -2,7 +2,6 @@
 ghost use Rattle.std.specs.Prelude.{◌≡◌, [], OnErr, OnOk, true};
 ghost use Rattle.sat_base.specs.device.Device.{WriterFails, WriterAccepts};
 
-use crate::fault::RunFault;
 use crate::program::fault::ProgramFault;
 use sat_base::CountedWrite;
 
@@ -46,14 +45,14 @@ pub(super) fn failed<E: CountedWrite>(errors: &mut E, fault: ProgramFault) -> u8
     FAILED
 }
 
-/// Writes to standard output. If that fails, the fault is `AnswersWrite`, whatever is written.
+/// Writes to standard output. If that fails, the fault is named `AnswersWrite`, whatever is written.
 pub(super) fn write_out<O: CountedWrite>(output: &mut O, bytes: &[u8]) -> Result<(), ProgramFault>
     ensures takes { OnOk result (WriterAccepts (O.seen output.old) (O.seen output.new) bytes.now) }
     ensures breaks { OnErr result (WriterFails (O.seen output.old) (O.seen output.new) bytes.now) }
 {
     match output.write_all_counted(bytes) {
         Ok(()) => Ok(()),
-        Err(_) => Err(ProgramFault::Run(RunFault::AnswersWrite)),
+        Err(error) => Err(ProgramFault::Output(error)),
     }
 }
 
@@ -65,7 +64,7 @@ pub(super) fn flush_out<O: CountedWrite>(output: &mut O) -> Result<(), ProgramFa
 {
     match output.flush_counted() {
         Ok(()) => Ok(()),
-        Err(_) => Err(ProgramFault::Run(RunFault::AnswersWrite)),
+        Err(error) => Err(ProgramFault::Output(error)),
     }
 }
 

@@ -17,6 +17,7 @@ use crate::program::progress::report_progress;
 use crate::program::verdict_line::{confirm_texts, status};
 use sat_base::{CountedRead, CountedWrite};
 use std::alloc::Global;
+use std::io;
 
 /// Writes the answers to a script to `output`, and then the line for the verdict on them, which is `Yes`. Returns
 /// the status.
@@ -45,12 +46,18 @@ fn print_confirmed<O: CountedWrite>(
 }
 
 /// Returns the fault of a run in memory. If a write to memory failed, or memory for a copy of the script ran out, it is
-/// `OutOfMemory`.
-fn fault_in_memory(fault: RunFault, is_refused: bool) -> ProgramFault {
-    if is_refused || matches!(fault, RunFault::AnswersWrite | RunFault::CertificateWrite) {
+/// `OutOfMemory`. `error` is the error of the read that failed, if one did.
+fn fault_in_memory(fault: RunFault, is_refused: bool, error: Option<io::Error>) -> ProgramFault {
+    if is_refused {
         return ProgramFault::Run(RunFault::OutOfMemory);
     }
-    ProgramFault::Run(fault)
+    match fault {
+        RunFault::ScriptRead => ProgramFault::Input(error),
+        RunFault::AnswersWrite | RunFault::CertificateWrite => {
+            ProgramFault::Run(RunFault::OutOfMemory)
+        }
+        _ => ProgramFault::Run(fault),
+    }
 }
 
 /// Answers a script, with at most 2^64-1 rounds for each ask, and keeps the bytes that are read.
@@ -69,7 +76,7 @@ fn run_kept<R: CountedRead>(alloc: Global, script: &mut Keeping<R>) -> Result<Wr
             }
             Ok(written)
         }
-        Err(fault) => Err(fault_in_memory(fault, script.is_refused)),
+        Err(fault) => Err(fault_in_memory(fault, script.is_refused, script.error)),
     }
 }
 
