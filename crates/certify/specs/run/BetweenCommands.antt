@@ -6,7 +6,7 @@ use Rattle.sat_base.specs.script.ScriptState.{ScriptState, Refusal, state_after_
 use Rattle.sat_checker.specs.matching.Bridge.{LiveVariables}
 use Rattle.sat_solver.specs.facade.Calls.{HasFullStore, MakesSteps}
 use Rattle.sat_solver.specs.facade.Recording.{BreaksWriting}
-use Rattle.sat_solver.specs.facade.View.{IsInState}
+use Rattle.sat_solver.specs.facade.States.{IsInState}
 use Rattle.certify.specs.Devices.{NoneFailed, OneFailed}
 use Rattle.certify.specs.answers.AnswerForms.{named_literals}
 use Rattle.certify.specs.answers.Answers.{refused_line}

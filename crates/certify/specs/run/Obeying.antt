@@ -10,7 +10,7 @@ use Rattle.sat_checker.specs.matching.Expected.{Expected, hiding, setting}
 use Rattle.sat_checker.specs.matching.Bridge.{LiveVariables}
 use Rattle.sat_solver.specs.facade.Calls.{MakesSteps}
 use Rattle.sat_solver.specs.facade.Naming.{ChangesMode}
-use Rattle.sat_solver.specs.facade.View.{IsInState}
+use Rattle.sat_solver.specs.facade.States.{IsInState}
 use Rattle.certify.specs.declared.judge.NameState.{NameState}
 use Rattle.certify.specs.declared.judge.NameState.TheVariants as state
 use Rattle.certify.specs.run.SolverCalls.{IsReadySolver}
@@ -37,7 +37,7 @@ may_to state.Witnessed name = IsModeStep name false
 
 -- `ChangesName r old new user st` holds if the call introduces a name and gives it this state, as in `ChangesMode`.
 abbrev pub ChangesName : Result (Unit {0}) SolverError → Solver → Solver → ℕ → NameState → Type 0
-ChangesName r old new user st = ChangesMode r old new user (state_after_accepted (command_to st ((user + 1) ∷ []))) (due_to st ((user + 1) ∷ []))
+ChangesName r old new user st = ChangesMode r old new user (state_after_accepted (command_to st ((user + 1) ∷ [])))
 
 -- `Obeyed c old new` holds if the command, which is not an ask, was carried out.
 pub record Obeyed (c : Command) (old new : Solver) : Type 0 where

@@ -18,7 +18,7 @@ use Rattle.sat_solver.specs.facade.Answers.{Answered, StepsOfAsk}
 use Rattle.sat_solver.specs.facade.Calls.{MakesSteps}
 use Rattle.sat_solver.specs.facade.Checking.{CheckerAfter}
 use Rattle.sat_solver.specs.facade.Recording.{BreaksWriting, RecordsAnswer}
-use Rattle.sat_solver.specs.facade.View.{IsInState}
+use Rattle.sat_solver.specs.facade.States.{IsInState}
 use Rattle.certify.specs.declared.fault.RunFault.{RunFault}
 use Rattle.certify.specs.declared.fault.RunFault.TheVariants as fault
 use Rattle.certify.specs.declared.summary.Answer.{Answer}

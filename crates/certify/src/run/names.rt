@@ -4,7 +4,7 @@ ghost use Rattle.sat_solver.specs.facade.Calls.{Writes};
 ghost use Rattle.sat_solver.specs.facade.Naming.{OnlyMakes};
 ghost use Rattle.sat_solver.specs.variables.Refusing.{names_in};
 ghost use Rattle.certify.specs.run.SolverCalls.{AgreesWithChecker, FailsIf, IsCaused, IsReadySolver, LacksFor, RefusedForRoom};
-ghost use Rattle.certify.specs.run.Obeying.{ChangesName, Obeyed, command_to, may_to};
+ghost use Rattle.certify.specs.run.Obeying.{ChangesName, Obeyed, command_to, due_to, may_to};
 
 use super::faults::fault_of;
 use crate::fault::RunFault;
@@ -20,7 +20,7 @@ fn change_name<C: CountedWrite + Drop>(
     state: NameState,
 ) -> Result<(), SolverError>
     ensures changes { ChangesName result solver.old solver.new user state }
-    ensures steps { OnOk result (OnlyMakes (may_to state (user + 1)) solver.old solver.new) }
+    ensures steps { OnOk result (OnlyMakes (may_to state (user + 1)) (due_to state ((user + 1) ∷ [])) solver.old solver.new) }
     ensures text { Writes result solver.old solver.new }
     ensures checker { AgreesWithChecker result solver.old solver.new }
 {

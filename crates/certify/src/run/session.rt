@@ -2,7 +2,6 @@
 ghost use Rattle.std.specs.Prelude.{◌≡◌, [], ◌+◌};
 ghost use Rattle.sat_base.specs.device.Sink.{empty_sink};
 ghost use Rattle.sat_base.specs.script.ScriptState.{initial_state};
-ghost use Rattle.sat_solver.specs.facade.View.{IsInState};
 ghost use Rattle.sat_solver.specs.proof.Counting.{nothing_counted as uncounted};
 ghost use Rattle.sat_solver.specs.proof.ProofView.{Open};
 ghost use Rattle.certify.specs.run.SolverCalls.{IsReadySolver};
@@ -39,7 +38,7 @@ pub struct RunState<C: CountedWrite + Drop> {
 /// Returns a solver that writes its proof steps to `certificate`.
 fn solver_into<C: CountedWrite + Drop>(alloc: Global, certificate: C) -> Solver<C>
     ensures ready { IsReadySolver result }
-    ensures agree { IsInState result initial_state [] }
+    ensures state { result.state ≡ initial_state }
     ensures steps { result.steps ≡ [] }
     ensures target { result.target ≡ Open ProofFormat.Varisat uncounted (empty_sink (C.seen certificate)) }
     ensures rounds { result.clock.rounds ≡ 0 }

@@ -2,7 +2,7 @@
 use Rattle.std.proofs.Common.{ℕ, ◌+◌, ◌*◌, ◌^◌, ◌-◌, ◌<◌, ◌≡◌, ◌∙◌, Bool, true, false, None, List, [], ◌∷◌, ◌++◌, map, refl, sym, ap, subst, arith, inl, inr, ◌⊎◌}
 use Rattle.std.proofs.lemmas.Bool.{both_ways}
 use Rattle.sat_base.specs.script.Script.{Literal, Ask, names_of}
-use Rattle.sat_base.specs.script.ScriptState.{ScriptState, state_after_accepted, introduce_all, refusal_of}
+use Rattle.sat_base.specs.script.ScriptState.{IsRightModel, ScriptState, state_after_accepted, introduce_all, refusal_of}
 use Rattle.sat_base.specs.steps.Steps.{Step}
 use Rattle.sat_checker.specs.LiteralSets.{canonical}
 use Rattle.sat_checker.specs.matching.Checking.{variable_of}
@@ -10,17 +10,17 @@ use Rattle.sat_checker.specs.matching.Expected.{Outcome, Unsat, Unknown, Expecte
 use Rattle.sat_checker.specs.matching.ProofChecking.{checker_rules}
 use Rattle.sat_solver.specs.declared.state.SatState.{SatState}
 use Rattle.sat_solver.specs.declared.state.SatState.TheVariants as states
-use Rattle.sat_solver.specs.variables.Calls as solver
 use Rattle.sat_solver.specs.variables.NamingSteps.{IsLiteralsStep}
 use Rattle.sat_checker.specs.matching.Bridge.{LiveVariables}
 use Rattle.sat_solver.specs.variables.Refusing.{names_in}
 use Rattle.sat_solver.specs.schedule.Solving.{CountsEmpoweringIn}
 use Rattle.sat_solver.specs.session.AllowedSteps.{OnlyAllowedSteps, EndsAtUnsat}
-use Rattle.sat_solver.specs.solver.Adding.{ForgetsAnswer}
+use Rattle.sat_solver.specs.solver.Adding.{ForgetsAnswer, due_for_asked}
 use Rattle.sat_solver.specs.solver.Calls.{learned_of, due_between_states}
-use Rattle.sat_solver.specs.facade.Answers.{core_for, line_in}
+use Rattle.sat_solver.specs.solver.Lines.{IsCoreOf}
+use Rattle.sat_solver.specs.facade.Answers.{IsRightCoreOf, IsRightLine, core_for, line_in}
 use Rattle.sat_solver.specs.facade.Recording.{RecordsAnswer}
-use Rattle.sat_solver.specs.facade.View.{IsInState}
+use Rattle.sat_solver.specs.facade.States.{IsInState}
 use Rattle.certify.specs.answers.AnswerForms.{named_literals}
 use Rattle.certify.specs.answers.RightAnswers.{IsRight}
 use Rattle.certify.specs.declared.summary.Answer.{Answer}
@@ -35,6 +35,7 @@ use Rattle.sat_checker.specs.matching.Traces.{HasTrace, no_step, silent, visible
 use Rattle.certify.specs.run.Stretches.{AskStretches, LearnsBetween, LearnsEachRound, showing_if}
 use Rattle.certify.specs.run.Reporting.{outcome_for, IsReportedRight}
 use Rattle.certify.proofs.lemmas.run.NamesIn.{names_same}
+use Rattle.certify.proofs.lemmas.run.Reaching.{makes_from, reaches}
 use Rattle.certify.proofs.lemmas.run.Cores.{right_in_order, spelt_in_order}
 use Rattle.certify.proofs.lemmas.run.Recorded.{unsat_known}
 use Rattle.certify.specs.run.Quiet.{Solver}
@@ -53,13 +54,19 @@ sorted_core es ask core {t = t} (visible {s = s} {step = step} {e = x} {es = ys}
 
 -- the outcome of an ask, given the solver after it
 module _ (now : Solver) (ask : List Literal) (asked : named_literals now.assumptions ≡ ask) (j : ScriptState) (live : LiveVariables) (agree : IsInState now j live) where
+  model_at : IsRightLine now (line_in now) → IsRightModel j (named_literals now.assumptions) (named_literals (line_in now))
+  model_at right = subst (λ (i : ScriptState). IsRightModel i (named_literals now.assumptions) (named_literals (line_in now))) agree.state right
+
+  core_at : IsRightCoreOf now (core_for now.answer now) → IsCoreOf j (named_literals now.assumptions) (named_literals (core_for now.answer now))
+  core_at right = subst (λ (i : ScriptState). IsCoreOf i (named_literals now.assumptions) (named_literals (core_for now.answer now))) agree.state right
+
   line_listed : IsReportedRight kind.Sat now → names_of (named_literals (line_in now)) ≡ map (λ n. n.name) j.in_use
-  line_listed right = (right j live agree).names
+  line_listed right = (model_at right).names
 
   reported_right : (a : Answer) → IsReportedRight a now → IsRight j ask (outcome_for a now)
-  reported_right kind.Sat right = subst (λ q. IsRight j q (outcome_for kind.Sat now)) asked (right j live agree)
+  reported_right kind.Sat right = subst (λ q. IsRight j q (outcome_for kind.Sat now)) asked (model_at right)
   reported_right kind.Unsat right =
-      subst (λ q. IsRight j q (outcome_for kind.Unsat now)) asked (right_in_order j (named_literals now.assumptions) (core_for now.answer now) (right j live agree).among (right j live agree).none)
+      subst (λ q. IsRight j q (outcome_for kind.Unsat now)) asked (right_in_order j (named_literals now.assumptions) (core_for now.answer now) (core_at right).among (core_at right).none)
   reported_right kind.Unknown right = tt
 
 -- the reported kind is that of the outcome
@@ -239,46 +246,49 @@ module _ (old mid now : Solver) (user : List ℕ) (budget : ℕ) (report : AskRe
   ask_spent = subst (λ (n : ℕ). SpendsWithinBudget budget n report) (ap (λ (x : _). x.rounds) opened.replaced.clock) searched.spent
 
   module _ (j : ScriptState) (live : LiveVariables) (means : AgreesWithState old j live) (free : refusal_of j (Ask (named_literals user)) ≡ None) where
-    first : solver.ReachesScriptState mid.names old.steps mid.steps (introduce_all (names_in user) j) (introducing (names_in user) j ++ (Opens (named_literals user) (outcome_for report.answer now) ∷ []))
-    first = (opened.replaced.did (outcome_for report.answer now)).names j live means.agree
+    first : (then : LiveVariables) × IsInState mid (introduce_all (names_in user) j) then
+    first = reaches old mid (introduce_all (names_in user)) opened.replaced.did opened.ready.records.state j live means.agree
 
-    agree_mid : IsInState mid (state_after_accepted (Ask (named_literals user)) j) first.live
-    agree_mid = subst (λ ns. IsInState mid (introduce_all ns j) first.live) (sym (names_same user)) first.agree
+    first_trace : HasTrace checker_rules old.steps mid.steps (introducing (names_in user) j ++ (Opens (named_literals user) (outcome_for report.answer now) ∷ []))
+    first_trace = makes_from old mid (due_for_asked (outcome_for report.answer now) user) (opened.steps.ordered (outcome_for report.answer now)) j live means.agree
 
-    agree_at : IsInState searched.mid (state_after_accepted (Ask (named_literals user)) j) first.live
-    agree_at = subst (λ m. IsInState m (state_after_accepted (Ask (named_literals user)) j) first.live) (sym searched.limited.same) agree_mid
+    agree_mid : IsInState mid (state_after_accepted (Ask (named_literals user)) j) first.0
+    agree_mid = subst (λ ns. IsInState mid (introduce_all ns j) first.0) (sym (names_same user)) first.1
 
-    second : solver.ReachesScriptState now.names searched.mid.steps now.steps (state_after_accepted (Ask (named_literals user)) j) (due_between_states searched.mid.answer now.answer (line_in now) now.assumptions now.core)
-    second = searched.solved.answered.did.names (state_after_accepted (Ask (named_literals user)) j) first.live agree_at
+    agree_at : IsInState searched.mid (state_after_accepted (Ask (named_literals user)) j) first.0
+    agree_at = subst (λ m. IsInState m (state_after_accepted (Ask (named_literals user)) j) first.0) (sym searched.limited.same) agree_mid
+
+    second : (then : LiveVariables) × IsInState now (state_after_accepted (Ask (named_literals user)) j) then
+    second = reaches searched.mid now (λ i. i) searched.solved.answered.did searched.solved.ready.records.state (state_after_accepted (Ask (named_literals user)) j) first.0 agree_at
 
     named : HasTrace checker_rules old.steps mid.steps (introducing (names_of (named_literals user)) j ++ (Opens (named_literals user) (outcome_for report.answer now) ∷ []))
-    named = subst (λ ns. HasTrace checker_rules old.steps mid.steps (introducing ns j ++ (Opens (named_literals user) (outcome_for report.answer now) ∷ []))) (sym (names_same user)) first.trace
+    named = subst (λ ns. HasTrace checker_rules old.steps mid.steps (introducing ns j ++ (Opens (named_literals user) (outcome_for report.answer now) ∷ []))) (sym (names_same user)) first_trace
 
     listed : report.answer ≡ kind.Sat → names_of (named_literals (line_in now)) ≡ map (λ n. n.name) (state_after_accepted (Ask (named_literals user)) j).in_use
-    listed e = line_listed now (named_literals user) assumed_is (state_after_accepted (Ask (named_literals user)) j) second.live second.agree (subst (λ a. IsReportedRight a now) e right)
+    listed e = line_listed now (named_literals user) assumed_is (state_after_accepted (Ask (named_literals user)) j) second.0 second.1 (subst (λ a. IsReportedRight a now) e right)
 
     shown : HasTrace checker_rules mid.steps now.steps (showing_if (checker_rules.unsat now.steps) (state_after_accepted (Ask (named_literals user)) j) (named_literals user) (outcome_for report.answer now))
     shown = answer_shown now searched.solved.ready.records (named_literals user) assumed_is (state_after_accepted (Ask (named_literals user)) j) searched.mid.answer mid.steps report.answer searched.solved.answer_is was_unknown listed
-        (subst (λ ss. HasTrace checker_rules ss now.steps (due_between_states searched.mid.answer now.answer (line_in now) now.assumptions now.core)) same_steps second.trace)
+        (subst (λ ss. HasTrace checker_rules ss now.steps (due_between_states searched.mid.answer now.answer (line_in now) now.assumptions now.core)) same_steps searched.solved.steps.ordered)
 
     pub ask_right : IsRight (state_after_accepted (Ask (named_literals user)) j) (named_literals user) (outcome_for report.answer now)
-    ask_right = reported_right now (named_literals user) assumed_is (state_after_accepted (Ask (named_literals user)) j) second.live second.agree report.answer right
+    ask_right = reported_right now (named_literals user) assumed_is (state_after_accepted (Ask (named_literals user)) j) second.0 second.1 report.answer right
 
     -- the bound on rounds, by the number of identities
     pub ask_bounded : IsBounded (state_after_accepted (Ask (named_literals user)) j).identity_count budget old.clock.rounds report
     ask_bounded =
         let most : ℕ = 2 ^ (2 * (state_after_accepted (Ask (named_literals user)) j).identity_count + 3) in
-        let counted : now.clock.rounds < searched.mid.clock.rounds + most = searched.solved.answered.counts.on.few (state_after_accepted (Ask (named_literals user)) j) first.live agree_at in
+        let counted : now.clock.rounds < searched.mid.clock.rounds + most = subst (λ (i : ScriptState). now.clock.rounds < searched.mid.clock.rounds + 2 ^ (2 * i.identity_count + 3)) agree_at.state searched.solved.answered.counts.on.few in
         let r = searched.rounds in let l = searched.limited.rounds in
         let few : report.steps < most = omega arith in
         record { few = few; answered = λ left unknown. let all = ask_spent.unknown unknown in omega arith }
 
     module _ (new : Solver) (closed : AssumptionsAccepted now new []) where
-      third : solver.ReachesScriptState new.names now.steps new.steps (state_after_accepted (Ask (named_literals user)) j) (Opens [] Unknown ∷ [])
-      third = (closed.replaced.did Unknown).names (state_after_accepted (Ask (named_literals user)) j) second.live second.agree
+      third : (then : LiveVariables) × IsInState new (state_after_accepted (Ask (named_literals user)) j) then
+      third = reaches now new (introduce_all (names_in [])) closed.replaced.did closed.ready.records.state (state_after_accepted (Ask (named_literals user)) j) second.0 second.1
 
       shut : HasTrace checker_rules now.steps new.steps (Closes ∷ [])
-      shut = closed_by_none Unknown third.trace
+      shut = closed_by_none Unknown (closed.steps.ordered Unknown)
 
       pub ask_steps : AskStretches j (named_literals user) (outcome_for report.answer now) report.steps old.steps new.steps
       ask_steps = record {
@@ -293,7 +303,7 @@ module _ (old mid now : Solver) (user : List ℕ) (budget : ℕ) (report : AskRe
       }
 
       pub ask_then : (then : LiveVariables) × IsInState new (state_after_accepted (Ask (named_literals user)) j) then
-      ask_then = (third.live, third.agree)
+      ask_then = third
 
   pub ask_rounds : (new : Solver) → AssumptionsAccepted now new [] → old.clock.rounds + report.steps ≡ new.clock.rounds
   ask_rounds new closed =

@@ -63,7 +63,7 @@ module _ (a b : Solver) where
 
   module _ (user : List ℕ) (ready : IsReadySolver a) (allowed : IsAllowed a user) where
     named : HasWitness a user → ⊥
-    named h = (let w = h allowed.0 allowed.1 allowed.2 in none_some _ (sym allowed.3 ∙ w.1))
+    named h = none_some _ (sym allowed.3 ∙ ap (λ (i : ScriptState). refused_literal i (names_in user)) (sym allowed.2.state) ∙ h.1)
 
     pub clause_fault : (e : SolverError) → AddsClause (Err e) a b user → IsSolverFault e
     clause_fault errors.WitnessVariable h = absurd (named h.cause.1)
@@ -97,14 +97,14 @@ module _ (a b : Solver) where
   none_asked : (user : ℕ) → a.assumptions ≡ [] → IsAsked a user → ⊥
   none_asked user free h = subst (Among h.0) free h.1
 
-  module _ (user : ℕ) (judge : ScriptState → ScriptState) (due : ScriptState → List Expected) (ready : IsReadySolver a) (free : a.assumptions ≡ []) where
-    pub name_fault : (e : SolverError) → ChangesMode (Err e) a b user judge due → IsSolverFault e
+  module _ (user : ℕ) (judge : ScriptState → ScriptState) (ready : IsReadySolver a) (free : a.assumptions ≡ []) where
+    pub name_fault : (e : SolverError) → ChangesMode (Err e) a b user judge → IsSolverFault e
     name_fault errors.AssumedVariable h = absurd (none_asked user free h.cause.1)
     name_fault errors.HasFailed h = absurd (apart (sym h.cause ∙ ready.going))
     name_fault errors.VariableLimit h = inr refl
     name_fault e h = inl (fault_so ⊥ e h.2.fails.fault)
 
-    pub name_caused : (e : SolverError) → ChangesMode (Err e) a b user judge due → BreaksOff e a b → CheckerAfterError ghosts.takes e a b → IsCaused (fault_for e) ⊥ (RefusedForRoom a b (user ∷ []))
+    pub name_caused : (e : SolverError) → ChangesMode (Err e) a b user judge → BreaksOff e a b → CheckerAfterError ghosts.takes e a b → IsCaused (fault_for e) ⊥ (RefusedForRoom a b (user ∷ []))
     name_caused errors.AssumedVariable h t w = absurd (none_asked user free h.cause.1)
     name_caused errors.HasFailed h t w = absurd (apart (sym h.cause ∙ ready.going))
     name_caused errors.VariableLimit h t w = (h.cause.2, h.same)

@@ -6,7 +6,6 @@ use Rattle.sat_checker.specs.matching.Expected.{Expected, Adds, introducing}
 use Rattle.sat_checker.specs.matching.ProofChecking.{checker_rules}
 use Rattle.sat_solver.specs.declared.state.SatState.{SatState}
 use Rattle.sat_solver.specs.declared.state.SatState.TheVariants as states
-use Rattle.sat_solver.specs.variables.Calls as solver
 use Rattle.sat_solver.specs.variables.NamingSteps.{IsClauseStep}
 use Rattle.sat_checker.specs.matching.Bridge.{LiveVariables}
 use Rattle.sat_solver.specs.variables.Refusing.{names_in}
@@ -14,19 +13,23 @@ use Rattle.sat_solver.specs.session.AllowedSteps.{OnlyAllowedSteps}
 use Rattle.sat_solver.specs.solver.Adding.{due_for_clause, with_added}
 use Rattle.sat_solver.specs.facade.Adding.{Added, StepsOfClause}
 use Rattle.sat_solver.specs.facade.Recording.{RecordsAnswer}
-use Rattle.sat_solver.specs.facade.View.{IsInState}
+use Rattle.sat_solver.specs.facade.States.{IsInState}
 use Rattle.certify.specs.answers.AnswerForms.{named_literals}
 use Rattle.sat_checker.specs.matching.Traces.{HasTrace}
 use Rattle.certify.specs.run.Stretches.{IsCommandStep, Stretch, due_for}
 use Rattle.certify.proofs.lemmas.run.NamesIn.{names_same}
+use Rattle.certify.proofs.lemmas.run.Reaching.{makes_from, reaches}
 use Rattle.certify.specs.run.Quiet.{Solver}
 
-module _ (old new : Solver) (user : List ℕ) (records : RecordsAnswer old) (added : Added old new user) (steps : StepsOfClause old new user) (j : ScriptState) (live : LiveVariables) (agree : IsInState old j live) where
-  kept : solver.ReachesScriptState new.names old.steps new.steps (with_added user j) (due_for_clause old.answer user j)
-  kept = added.did.names j live agree
+module _ (old new : Solver) (user : List ℕ) (records : RecordsAnswer old) (added : Added old new user) (steps : StepsOfClause old new user) (after : RecordsAnswer new) (j : ScriptState) (live : LiveVariables) (agree : IsInState old j live) where
+  kept : (then : LiveVariables) × IsInState new (with_added user j) then
+  kept = reaches old new (with_added user) added.did after.state j live agree
+
+  trace : HasTrace checker_rules old.steps new.steps (due_for_clause old.answer user j)
+  trace = makes_from old new (due_for_clause old.answer user) steps.ordered j live agree
 
   pub clause_agrees : (then : LiveVariables) × IsInState new (state_after_accepted (Clause (named_literals user)) j) then
-  clause_agrees = (kept.live, subst (λ ns. IsInState new (with_clause (named_literals user) (introduce_all ns j)) kept.live) (sym (names_same user)) kept.agree)
+  clause_agrees = (kept.0, subst (λ ns. IsInState new (with_clause (named_literals user) (introduce_all ns j)) kept.0) (sym (names_same user)) kept.1)
 
   abbrev Due : Bool → Type 0
   Due unsat = HasTrace checker_rules old.steps new.steps (due_for unsat (Clause (named_literals user)) j)
@@ -55,6 +58,6 @@ module _ (old new : Solver) (user : List ℕ) (records : RecordsAnswer old) (add
   -- the names are introduced, and the clause is written, or left out once unsat is recorded
   pub clause_stretch : Stretch (IsCommandStep (Clause (named_literals user))) old.steps new.steps (due_for (checker_rules.unsat old.steps) (Clause (named_literals user)) j)
   clause_stretch = record {
-    due = due_by old.answer refl kept.trace;
+    due = due_by old.answer refl trace;
     comes = subst (λ ns. OnlyAllowedSteps (IsClauseStep ns) old.steps new.steps) (sym (names_same user)) steps.comes;
   }

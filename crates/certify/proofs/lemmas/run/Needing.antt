@@ -19,7 +19,7 @@ use Rattle.sat_solver.specs.variables.Live.{given, given_of}
 use Rattle.sat_solver.specs.variables.Refusing.{names_in}
 use Rattle.sat_solver.specs.variables.VariableRoom.{HasVariablesFor, introduced_count, is_hidden_name, is_listed, live_count, reach, user_vars_in}
 use Rattle.sat_solver.specs.variables.Variables.{global_of, names_used, variables_used}
-use Rattle.sat_solver.specs.facade.View.{IsInState}
+use Rattle.sat_solver.specs.facade.States.{IsInState}
 use Rattle.sat_solver.proofs.lemmas.variables.Counts.{count_le, count_longer, count_more, count_part, count_same, count_suc, count_zero}
 use Rattle.sat_solver.proofs.lemmas.variables.RoomLemmas.{is_live, reach_low}
 use Rattle.certify.specs.answers.AnswerForms.{named_literals}
@@ -283,8 +283,8 @@ module _ (s t : Solver) where
   both_need : (users : List ℕ) → RefusedForRoom s t users → (j : ScriptState) (live : LiveVariables) → IsInState s j live
       → (var_limit < (introduce_all (map (λ u. u + 1) users) j).identity_count) × LacksVariables t.steps (introduced_for (map (λ u. u + 1) users) j)
   both_need users h j live agree = (
-    all_need s.names s.steps j live users agree h.0,
-    subst (λ steps. LacksVariables steps (introduced_for (map (λ u. u + 1) users) j)) (steps_same h.1) (lacks_variables s.names s.steps j live users agree h.0),
+    all_need s.names s.steps j live users agree.agree h.0,
+    subst (λ steps. LacksVariables steps (introduced_for (map (λ u. u + 1) users) j)) (steps_same h.1) (lacks_variables s.names s.steps j live users agree.agree h.0),
   )
 
   literals_need : (ls : List ℕ) → RefusedForRoom s t (user_vars_in ls) → (j : ScriptState) (live : LiveVariables) → IsInState s j live

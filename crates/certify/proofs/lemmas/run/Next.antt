@@ -4,8 +4,8 @@ use Rattle.std.proofs.lemmas.List.{append-nil}
 use Rattle.sat_base.specs.device.Device.{Writer}
 use Rattle.sat_base.specs.script.Script.{Command}
 use Rattle.sat_base.specs.script.ScriptState.{ScriptState, Refusal, state_after_accepted, after_command, refusal_of, initial_state}
+use Rattle.sat_solver.specs.variables.Calls.{NamesAgree}
 use Rattle.sat_solver.specs.facade.Calls.{MakesSteps}
-use Rattle.sat_solver.specs.facade.View.{IsInState}
 use Rattle.sat_solver.proofs.lemmas.facade.Steps.{makes_none}
 use Rattle.certify.specs.declared.run.session.RunState.{RunState}
 use Rattle.certify.specs.answers.Answers.{refused_line}
@@ -22,8 +22,14 @@ abbrev pub counted : {C : Type 0} → RunState C → RunState C
 counted s = record s { commands = s.commands + 1 }
 
 -- before the first command
-pub starts_at : {C : Type 0} (s : RunState C) → IsInState s.solver initial_state [] → NamesHaveState s.names initial_state → HasStateBetweenCommands s initial_state
-starts_at s agree names = record { live = []; means = record { agree = agree; kept = start_kept }; names = names }
+pub starts_at : {C : Type 0} (s : RunState C) → IsReadySolver s.solver → s.solver.state ≡ initial_state → NamesHaveState s.names initial_state → HasStateBetweenCommands s initial_state
+starts_at s ready is names =
+    let m = ready.records.state in
+    record {
+      live = m.0;
+      means = record { agree = record { state = is; agree = subst (λ (i : ScriptState). NamesAgree s.solver.names s.solver.steps i m.0) is m.1 }; kept = start_kept };
+      names = names;
+    }
 
 pub after_accepted : (j : ScriptState) (c : Command) → refusal_of j c ≡ None → after_command c j ≡ state_after_accepted c j
 after_accepted j c e = rw e refl

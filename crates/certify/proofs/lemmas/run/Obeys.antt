@@ -10,7 +10,7 @@ use Rattle.sat_checker.specs.matching.ProofChecking.{checker_rules}
 use Rattle.sat_solver.specs.variables.Refusing.{names_in}
 use Rattle.sat_solver.specs.facade.Calls.{MakesSteps}
 use Rattle.sat_solver.specs.facade.Naming.{NameCallEffect, OnlyMakes}
-use Rattle.sat_solver.specs.facade.View.{IsInState}
+use Rattle.sat_solver.specs.facade.States.{IsInState}
 use Rattle.sat_solver.proofs.lemmas.facade.Steps.{makes_more, makes_none}
 use Rattle.sat_solver.proofs.lemmas.session.ComingLemmas.{comes_both, comes_map, comes_none}
 use Rattle.certify.specs.answers.AnswerForms.{named_literals}
@@ -21,6 +21,7 @@ use Rattle.certify.specs.run.Obeying.{Obeyed, command_to, due_to, may_to}
 use Rattle.sat_checker.specs.matching.Traces.{HasTrace, no_step}
 use Rattle.certify.specs.run.Stretches.{IsNoAsk, IsCommandStep, due_for}
 use Rattle.certify.proofs.lemmas.run.ClauseServed.{clause_agrees, clause_stretch}
+use Rattle.certify.proofs.lemmas.run.Reaching.{makes_from, reaches}
 use Rattle.sat_checker.proofs.lemmas.matching.Traces.{traces_both}
 use Rattle.certify.specs.run.Quiet.{Solver}
 
@@ -108,21 +109,21 @@ name_more codes k code v within at e =
     ap (λ (x : ℕ). names_in (take k codes) ++ ((x + 1) ∷ [])) e ∙ sym (map-append (λ (l : ℕ). variable l + 1) (take k codes) (code ∷ [])) ∙ ap names_in (sym cut)
 
 -- a name was hidden, or its mode was set
-pub name_obeyed : (st : NameState) (name : ℕ) (a b : Solver) → IsReadySolver b → MakesSteps a b → NameCallEffect a b (state_after_accepted (command_to st (name ∷ []))) (due_to st (name ∷ [])) → OnlyMakes (may_to st name) a b → Obeyed (command_to st (name ∷ [])) a b
+pub name_obeyed : (st : NameState) (name : ℕ) (a b : Solver) → IsReadySolver b → MakesSteps a b → NameCallEffect a b (state_after_accepted (command_to st (name ∷ []))) → OnlyMakes (may_to st name) (due_to st (name ∷ [])) a b → Obeyed (command_to st (name ∷ [])) a b
 name_obeyed st name a b ready took r steps = record {
   ready = ready;
   took = took;
   assumed = r.same.assumed;
   clock = r.same.clock;
   keeps = λ j live agree.
-      let k = r.did.names j live agree in
+      let k = reaches a b (state_after_accepted (command_to st (name ∷ []))) r.did ready.records.state j live agree in
       let u = checker_rules.unsat a.steps in
       let c = command_to st (name ∷ []) in (
-        k.live,
-        k.agree,
+        k.0,
+        k.1,
         record {
-          due = subst (HasTrace checker_rules a.steps b.steps) (due_same st u (name ∷ []) j) k.trace;
-          comes = comes_map (may_to st name) (IsCommandStep c) (may_one st name) a.steps b.steps steps;
+          due = subst (HasTrace checker_rules a.steps b.steps) (due_same st u (name ∷ []) j) (makes_from a b (due_to st (name ∷ [])) steps.ordered j live agree);
+          comes = comes_map (may_to st name) (IsCommandStep c) (may_one st name) a.steps b.steps steps.comes;
         },
       );
 }
@@ -171,6 +172,6 @@ clause_obeyed user a b before accepted = record {
   assumed = accepted.added.assumed;
   clock = accepted.added.clock;
   keeps = λ j live agree.
-      let then = clause_agrees a b user before.records accepted.added accepted.steps j live agree in
-      (then.0, then.1, clause_stretch a b user before.records accepted.added accepted.steps j live agree);
+      let then = clause_agrees a b user before.records accepted.added accepted.steps accepted.ready.records j live agree in
+      (then.0, then.1, clause_stretch a b user before.records accepted.added accepted.steps accepted.ready.records j live agree);
 }

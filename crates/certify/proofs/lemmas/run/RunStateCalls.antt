@@ -6,11 +6,10 @@ use Rattle.sat_base.specs.script.Language.{Reading, prepend_commands}
 use Rattle.sat_base.specs.steps.Steps.{Step}
 use Rattle.sat_base.specs.script.ScriptState.{ScriptState, state_after_accepted, introduce_all, refusal_of}
 use Rattle.sat_checker.specs.matching.Bridge.{LiveVariables}
-use Rattle.sat_checker.specs.matching.Expected.{Unknown}
 use Rattle.sat_solver.specs.variables.Refusing.{names_in}
 use Rattle.sat_solver.specs.facade.Calls.{MakesSteps}
 use Rattle.sat_solver.specs.facade.Recording.{BreaksWriting}
-use Rattle.sat_solver.specs.facade.View.{IsInState}
+use Rattle.sat_solver.specs.facade.States.{IsInState}
 use Rattle.sat_solver.proofs.lemmas.facade.Steps.{breaks_later, makes_more, makes_none}
 use Rattle.sat_solver.proofs.lemmas.session.ProofLemmas.{carries_none}
 use Rattle.certify.specs.Devices.{NoneFailed, OneFailed}
@@ -27,6 +26,7 @@ use Rattle.certify.specs.run.BetweenCommands.{CarriedOut, AgreesWithState, Stops
 use Rattle.certify.specs.run.Reporting.{outcome_for}
 use Rattle.certify.proofs.lemmas.run.AskServed.{ask_bounded, ask_steps, ask_right, ask_then, ask_spent, ask_rounds, kind_reported}
 use Rattle.certify.proofs.lemmas.run.Carried.{place_following}
+use Rattle.certify.proofs.lemmas.run.Reaching.{reaches}
 use Rattle.certify.proofs.lemmas.run.ServedOnce.{serves_ask}
 use Rattle.certify.proofs.lemmas.run.Stopping.{stops_cut, stops_none, stops_served}
 use Rattle.certify.specs.run.Quiet.{Solver}
@@ -52,10 +52,9 @@ ask_took a b c user budget report opened s = makes_more a b c opened.took (searc
 pub agree_still : (a b c : Solver) (user : List ℕ) (budget : ℕ) (report : AskReport) → AssumptionsAccepted a b user → Searched budget report b c
     → (j : ScriptState) (live : LiveVariables) → IsInState a j live → (then : LiveVariables) × IsInState c (introduce_all (names_in user) j) then
 agree_still a b c user budget report opened s j live agree =
-    let k = (opened.replaced.did Unknown).names j live agree in
-    let at = subst (λ m. IsInState m (introduce_all (names_in user) j) k.live) (sym s.limited.same) k.agree in
-    let n = s.solved.answered.did.names (introduce_all (names_in user) j) k.live at in
-    (n.live, n.agree)
+    let k = reaches a b (introduce_all (names_in user)) opened.replaced.did opened.ready.records.state j live agree in
+    let at = subst (λ m. IsInState m (introduce_all (names_in user) j) k.0) (sym s.limited.same) k.1 in
+    reaches s.mid c (λ i. i) s.solved.answered.did s.solved.ready.records.state (introduce_all (names_in user) j) k.0 at
 
 -- after an ask, setting no assumptions is allowed
 pub allowed_still : (a b c : Solver) (user : List ℕ) (budget : ℕ) (report : AskReport) → IsAllowed a user → AssumptionsAccepted a b user → Searched budget report b c → IsAllowed c []

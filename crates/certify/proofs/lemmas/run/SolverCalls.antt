@@ -25,7 +25,7 @@ limited u budget old new at ready h = record {
     going = ready.going;
     no_lines = ready.no_lines;
     unchecked = ready.unchecked;
-    records = record { allowed = ready.records.allowed; recorded = ready.records.recorded; unrecorded = ready.records.unrecorded };
+    records = record { allowed = ready.records.allowed; state = ready.records.state; recorded = ready.records.recorded; unrecorded = ready.records.unrecorded };
   });
   limit = ap (λ (s : Solver). s.parameters.max_steps) h.same ∙ ap (λ o. unwrap_or o old.parameters.max_steps) at;
   same = subst (λ (s : Solver). s ≡ record old { parameters = s.parameters; clock = s.clock; decay = s.decay; clause_decay = s.clause_decay }) (sym h.same) refl;

@@ -1,6 +1,4 @@
-use Rattle.std.proofs.Common.{◌∙◌, [], ap, sym, subst}
-use Rattle.sat_base.specs.script.ScriptState.{initial_state}
-use Rattle.sat_solver.specs.facade.View.{IsInState}
+use Rattle.std.proofs.Common.{◌∙◌, ap}
 use Rattle.sat_solver.specs.proof.ProofView.{is_drat}
 use Rattle.certify.proofs.run.session.solver_into.Goals as goal
 use Rattle.certify.specs.run.Quiet.{Solver}
@@ -17,11 +15,11 @@ returns-clause-ready g c =
       records = c.steps_record_answers.ensures.records going;
     }
 
-pub returns-clause-agree : goal.returns-clause-agree
-returns-clause-agree g c =
+pub returns-clause-state : goal.returns-clause-state
+returns-clause-state g c =
     let opened = rw c.unwrap-2.ensures at c.write_proof.ensures in
     let k = rw c.unwrap.ensures at c.config.ensures in
-    subst (λ (s : Solver). IsInState s initial_state []) (sym opened.same) (subst (λ (s : Solver). IsInState s initial_state []) (sym k.same) c.new-solver.ensures.state)
+    ap (λ (s : Solver). s.state) opened.same ∙ ap (λ (s : Solver). s.state) k.same ∙ c.new-solver.ensures.state
 
 pub returns-clause-steps : goal.returns-clause-steps
 returns-clause-steps g c =

@@ -1,6 +1,5 @@
 use Rattle.certify.proofs.lemmas.run.CallFaults.{assume_caused, assume_fault, call_fails}
 use Rattle.certify.proofs.lemmas.run.NoLines.{ready_still}
-use Rattle.sat_checker.specs.matching.Expected.{Unknown}
 use Rattle.certify.proofs.run.solver.assume.Goals as goal
 
 pub returns-in-Ok-clause-assumed : goal.returns-in-Ok-clause-assumed
@@ -8,7 +7,7 @@ returns-in-Ok-clause-assumed g c = record {
   replaced = c.in-Ok.ensures.assumes;
   steps = c.in-Ok.ensures.steps;
   took = c.in-Ok.ensures.text;
-  ready = ready_still c.args.solver.now c.assume.new.self c.requires.ready c.in-Ok.ensures.text (c.in-Ok.ensures.assumes.did Unknown).failed c.steps_record_answers.ensures.records;
+  ready = ready_still c.args.solver.now c.assume.new.self c.requires.ready c.in-Ok.ensures.text c.in-Ok.ensures.assumes.did.failed c.steps_record_answers.ensures.records;
 }
 
 pub fault_of-requires : goal.fault_of-requires
