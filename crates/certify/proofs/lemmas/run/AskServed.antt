@@ -256,7 +256,7 @@ module _ (old mid now : Solver) (user : List ℕ) (budget : ℕ) (report : AskRe
     agree_mid = subst (λ ns. IsInState mid (introduce_all ns j) first.0) (sym (names_same user)) first.1
 
     agree_at : IsInState searched.mid (state_after_accepted (Ask (named_literals user)) j) first.0
-    agree_at = subst (λ m. IsInState m (state_after_accepted (Ask (named_literals user)) j) first.0) (sym searched.limited.same) agree_mid
+    agree_at = subst (λ m. IsInState m (state_after_accepted (Ask (named_literals user)) j) first.0) (sym searched.limited.same) (record { state = agree_mid.state; agree = agree_mid.agree })
 
     second : (then : LiveVariables) × IsInState now (state_after_accepted (Ask (named_literals user)) j) then
     second = reaches searched.mid now (λ i. i) searched.solved.answered.did searched.solved.ready.records.state (state_after_accepted (Ask (named_literals user)) j) first.0 agree_at

@@ -1,8 +1,8 @@
 -- Why the calls of a run's solver fail.
-use Rattle.std.proofs.Common.{◌≡◌, ◌∙◌, inl, inr, true, false, Option, None, Some, List, [], ◌∷◌, Err, refl, sym, subst}
+use Rattle.std.proofs.Common.{◌≡◌, ◌∙◌, inl, inr, true, false, Option, None, Some, List, [], ◌∷◌, Err, refl, sym, ap, subst}
 use Rattle.std.specs.Prelude.{ℕ, MatchOption}
 use Rattle.sat_base.specs.script.Script.{Among}
-use Rattle.sat_base.specs.script.ScriptState.{ScriptState, Refusal}
+use Rattle.sat_base.specs.script.ScriptState.{ScriptState, Refusal, refused_literal}
 use Rattle.sat_checker.specs.contracts.processing.NobodyProofProcessor.TheImpl.{ghosts}
 use Rattle.sat_checker.specs.declared.processing.Nobody.{Nobody}
 use Rattle.sat_checker.specs.matching.Expected.{Expected}
@@ -12,6 +12,7 @@ use Rattle.sat_solver.specs.declared.error.SolverError.TheVariants as errors
 use Rattle.sat_solver.specs.declared.proof.emitted.CheckFault.{CheckFault}
 use Rattle.sat_solver.specs.declared.proof.emitted.CheckFault.TheVariants as checks
 use Rattle.sat_solver.specs.proof.EmittedView.{HasListeners}
+use Rattle.sat_solver.specs.variables.Refusing.{names_in}
 use Rattle.sat_solver.specs.variables.VariableRoom.{user_vars_in}
 use Rattle.sat_solver.specs.facade.Adding.{AddsClause, AssumesOrRefuses, HasWitness}
 use Rattle.sat_solver.specs.facade.Answers.{Solves}

@@ -53,7 +53,7 @@ pub agree_still : (a b c : Solver) (user : List ℕ) (budget : ℕ) (report : As
     → (j : ScriptState) (live : LiveVariables) → IsInState a j live → (then : LiveVariables) × IsInState c (introduce_all (names_in user) j) then
 agree_still a b c user budget report opened s j live agree =
     let k = reaches a b (introduce_all (names_in user)) opened.replaced.did opened.ready.records.state j live agree in
-    let at = subst (λ m. IsInState m (introduce_all (names_in user) j) k.0) (sym s.limited.same) k.1 in
+    let at = subst (λ m. IsInState m (introduce_all (names_in user) j) k.0) (sym s.limited.same) (record { state = k.1.state; agree = k.1.agree }) in
     reaches s.mid c (λ i. i) s.solved.answered.did s.solved.ready.records.state (introduce_all (names_in user) j) k.0 at
 
 -- after an ask, setting no assumptions is allowed
