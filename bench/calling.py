@@ -1,9 +1,9 @@
 #!/usr/bin/env python3
 """Runs the examples of every CALLING.md as a new user would: calling.py [--check | --prove] [CRATE..]
 
-    calling.py            only compares the examples with the crates of tests, which takes a second
+    calling.py            only compares the examples with the test crates, which takes a second
     calling.py --check    also runs them, without proofs (`rt try`): half a minute to two minutes each, or ten minutes without CRATE
-    calling.py --prove    also proves them (`rt check`), and first the crates below, unless a checkout on this machine has
+    calling.py --prove    also proves them (`rt check`), and first the crates below, unless they were proved on this machine
 
 An example is a block that begins with `#![tactic(auto)]`. The text after it says where to save it (`crates/NAME/src/lib.rt`, or main.rt for a
 program), its line of crates.txt (`NAME: DEPS`), and what a program prints: a block that begins with `$ rt try`. If the text also says

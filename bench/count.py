@@ -4,9 +4,9 @@
 bench/count.py [--crate CRATE] [--each] [--cut NAME,..] [--list CALL] [--root CHECKOUT]
 
 CRATE is `sat_solver`, unless it is given, or `sat_checker`. A level is one definition below another. --each counts
-each clause by itself, --cut does not look into these definitions, and --list prints what a call reaches. What lies
-below `SolverView` is counted; its `view` and `invariant`, which no reader of a contract needs, are not. CHECKOUT can be
-one of before `facade` was there.
+each clause by itself, --cut does not look into these definitions, and --list prints what a call reaches. What
+`SolverView` reaches is counted; its `view` and `invariant`, which no reader of a contract needs, are not. CHECKOUT may
+be older than `facade`.
 """
 import argparse
 import re

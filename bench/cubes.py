@@ -1,27 +1,27 @@
 #!/usr/bin/env python3
 """Solves a formula by cubes, on one machine or a cluster, and confirms the result from its files: cubes.py [--confirm] FORMULA FOLDER [PROGRAM]
 
-    cubes.py [--engine processes|parallel|slurm] [--jobs N] [--steps N] [--batch N] FORMULA FOLDER [PROGRAM]    solves, or goes on
+    cubes.py [--engine processes|parallel|slurm] [--jobs N] [--steps N] [--batch N] FORMULA FOLDER [PROGRAM]    solves, or continues
     cubes.py --confirm [--jobs N] FORMULA FOLDER [PROGRAM]    answers nothing, and confirms the result that FOLDER has
     cubes.py try [PROGRAM]    tries all of this on small formulas, with every engine that this machine has, and on damaged files
 
 A cube is a list of literals; the first one is empty. If a cube isn't answered in `--steps` rounds (50000), it is split: a further name is true
-in one half and false in the other. So cubes become as long as they are difficult. The name is the one that occurs most often in the clauses
-that the cube and unit propagation leave, where an occurrence in a clause of k literals counts 2^-k. A model of one cube is a model of the
-formula. If no cube has one, the negation of each core follows from the formula, and a last script, which has these clauses, is unsatisfiable.
+in one half and false in the other. So difficult cubes become longer. The name is the one that occurs most often in the
+clauses that the cube and unit propagation leave, where an occurrence in a clause of k literals counts 2^-k. A model of one cube is a model of
+the formula. If no cube has one, the negation of each core follows from the formula, and a last script, which has these clauses, is unsatisfiable.
 
 A script has the clauses of the formula, and an ask for each of at most `--batch` cubes (8): what the solver learns from one serves the next.
 The scripts of a wave are answered at the same time, up to `--jobs` of them (one for each processor), and confirmed where they were answered.
-The cubes that are still open are split, and make the next wave. `--engine` says who answers:
+The cubes that are still open are split, and make the next wave. `--engine` selects what answers them:
 
     processes    processes of this machine
     parallel     GNU parallel; `--sshlogin` is passed on, and `--jobs` holds for each host
     slurm        Slurm, with an array job for each wave; `--sbatch` has further options for `sbatch`
 
-Hosts see FOLDER and PROGRAM under the same paths. A run that was interrupted goes on when it is called again, with any engine.
+Hosts must see FOLDER and PROGRAM under the same paths. A run that was interrupted continues when it is called again, with any engine.
 
 `--confirm` reads only FORMULA and FOLDER: it makes each script again, and `certify confirm` has to accept its answers. PROGRAM is by default
-the proved program, crates/certify_cli/out/certify_cli. The status is 0 if there is a result; else the last line is `refused: REASON`, and the
+the proved program, crates/certify_cli/out/certify_cli. The status is 0 if there is a result; otherwise the last line is `refused: REASON`, and the
 status is 1.
 
 FOLDER has wave-N.cubes, with the number of a script and a cube on each line; K.script, K.answers, K.certificate; K.said, which `confirm` said;

@@ -3,7 +3,7 @@
 #
 # PROGRAM is the path of the program, such as crates/certify_cli/out/certify_cli. First some of its standard streams are closed: what is
 # meant for them must not be written into a file. Then memory runs out in a run, after an answer: nothing may be printed. A line says what
-# went wrong; the last one counts the checks. It takes seconds.
+# went wrong; the last line counts the checks. Takes seconds.
 set -euo pipefail
 [ $# -eq 1 ] || { echo "usage: bench/descriptors.sh PROGRAM" >&2; exit 2; }
 program=$(realpath "$1")

@@ -6,7 +6,7 @@
 The documents are README.md, CONTRIBUTING.md, docs/*.md and crates/*/CALLING.md.
 
     names     every word in backticks is a word of a source, a script, an edit or a path of the repository. varisat's own names, in the
-              first column of a table in docs/DIFFERENCES.md, are known, too; other words of elsewhere are listed in ELSEWHERE
+              first column of a table in docs/DIFFERENCES.md, are known, too; other words from elsewhere are listed in ELSEWHERE
     links     a link leads to a file of the repository, and its anchor to a heading of that file
     commands  a line of a block that begins with `rt`, `certify` or a path, perhaps after `$`, calls a command, a request or a script that
               exists

@@ -1,5 +1,5 @@
 #!/usr/bin/env python3
-"""Runs and confirms each script of examples/, and compares the answers with those that are kept there: examples.py [PROGRAM]
+"""Runs and confirms each script of examples/, and compares the answers with those that are stored there: examples.py [PROGRAM]
 
     examples.py --rows [PROGRAM]    prints rows for tests: script, printed text, status and standard error; or script, answers and budget
     examples.py --check FILE        checks that FILE, a source with such rows, has each script and its answers without a budget

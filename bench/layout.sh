@@ -1,8 +1,8 @@
 #!/usr/bin/env bash
 # Checks that every source has the layout that `rt fmt` gives it: bench/layout.sh
 #
-# `rt ci` refuses a crate with another layout, but only when it comes to prove it; `rt check` does not look. The script formats a copy, prints
-# the files that would change, and exits with 1 if there are any. Takes ten seconds.
+# `rt ci` refuses a crate with another layout, but only when it proves the crate; `rt check` ignores the layout. The script formats a copy,
+# prints the files that would change, and exits with 1 if there are any. Takes ten seconds.
 set -euo pipefail
 top=$(cd "$(dirname "$0")/.." && pwd)
 work=$(mktemp -d)

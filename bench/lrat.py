@@ -5,9 +5,9 @@
     lrat.py verify FORMULA PROOF [PROGRAM]    does both, compares the `i` lines with the formula, and prints `verified by certify`
     lrat.py convert HINTS CNF PROOF           writes the clauses of the `i` lines as DIMACS CNF, and the derivation as an LRAT proof
     lrat.py check CNF PROOF                   prints `verified`: a small checker of LRAT proofs, which shares no code with certify
-    lrat.py try [PROGRAM [CADICAL]]           tries all of this on forty formulas and damaged proofs, and with a CaDiCaL that has `--lrat`
+    lrat.py try [PROGRAM [CADICAL]]           tries all of this on 42 formulas and damaged proofs, and with a CaDiCaL that has `--lrat`
 
-A proof that is not accepted gets the line `refused: REASON`, with the number of the line or step where there is one, and status 1.
+A proof that is not accepted gets the line `refused: REASON`, with the number of the line or step if there is one, and status 1.
 
 `import` reads text, and the binary form that CaDiCaL and drat-trim write. Its memory grows with the number of clauses that are present at a
 time. The clauses of the formula get the ids 1 to n, as in LRAT, and every other clause keeps its id. A step with the RAT property (it has

@@ -1,7 +1,7 @@
 #!/usr/bin/env bash
 # Prints what each crate adds to the gate: bench/minutes.sh [CRATE..]
 #
-# In a copy of the repository, proves each crate from nothing, or each that is named, then its tests, and then tries the edits of its
+# In a copy of the repository, proves each crate from scratch, or each that is named, then its tests, and then tries the edits of its
 # must-fail/. A line has the processor minutes of each of the three, and the minutes by the clock; the last line has the sums. The crates that
 # a crate depends on are built first, and not counted. Nor is the extra proof of the crate that the gate makes before it tries edits. All crates
 # together take as long as the gate.

@@ -3,8 +3,8 @@
 
     speed.py [--keep FOLDER] [--only PART] [--busy] [--beside WORDS] [--checker CHECKS FOLLOWER PLAIN FOLDER] [PROGRAM]
 
-It measures the proved program, crates/certify_cli/out/certify_cli, which `rt run` in crates/certify_cli leaves, and refuses if a source is
-newer. If PROGRAM is given, it measures that, and the document states that it was not proved. The document names the commit of this checkout,
+It measures the proved program, crates/certify_cli/out/certify_cli, which `rt run` in crates/certify_cli leaves, and refuses to do so if a
+source is newer. If PROGRAM is given, it measures that, and the document states that it was not proved. The document names the commit of this checkout,
 the processors that the program may use, and what else ran, if WORDS say so.
 
 Figures are of an otherwise idle machine: before each part, a load average above 1.5 ends the script, except with --busy. Then the document

@@ -12,7 +12,7 @@ Lines of bench/statement.md and bench/program_statement.md that begin with `@`:
     @print WORD..                  prints definitions, in this order: by name, or all others of the modules that match a pattern, with types first,
                                    and then each after those that use it
     @stops, @counts                print a table of what is not printed, and of sizes; @count CRATE FUNCTION NAME.. adds a row to it
-    @notation, @library            stand above a table that has a row for each operator, or each name of the standard library, that is used
+    @notation, @library            precede a table that has a row for each operator, or each name of the standard library, that is used
     @earlier                       prints a table of the definitions that only the first page prints
 
 A definition that the clauses reach is printed by the first `@print` that has its name, or else by the first with its module; so is an enum

@@ -1,9 +1,10 @@
 #!/usr/bin/env python3
-"""Checks that the definitions of docs/STATEMENT.md stand alone: writes them as a crate into a temporary folder, and runs `rt check` there: statement_alone.py [-k]
+"""Checks that docs/STATEMENT.md lacks no definition, by `rt check` of a crate of its definitions: statement_alone.py [-k]
 
-The crate has the definitions that the clauses of the page reach, and the types of the code that these name. So the prover refuses it if
-`statement.py` misses a definition that another one uses. What the page does not print (`@stop`) is included with all that it uses, unless
-that names further types of the code: then it is a definition with the same arguments that always holds. With -k, the folder is kept.
+The crate is in a temporary folder. It has the definitions that the clauses of the page reach, and the types of the code that these name. So
+the prover refuses it if `statement.py` misses a definition that another one uses. What the page does not print (`@stop`) is included with all
+that it uses. If that names further types of the code, the crate has instead a definition with the same arguments that always holds. With -k,
+the folder is kept.
 Takes about a minute; not part of the gate.
 """
 import re

@@ -1,13 +1,13 @@
 #!/usr/bin/env python3
 """Lists what nothing cites, crate by crate, and fails if there is any: uncited.py [CRATE..]
 
-In .antt files these are definitions and lemmas that neither a contract nor an answer to the prover leads to. In .rt files they are functions,
-types and constants that no library exports, directly or indirectly, and no program or test uses. What only dead items cite is dead. A library
-exports the `pub use` of its root file, with public methods.
+In .antt files these are definitions and lemmas that no contract and no answer to the prover uses, directly or indirectly. In .rt files they are
+functions, types and constants that no library exports, directly or indirectly, and no program or test uses. What only dead items cite is dead. A
+library exports the `pub use` of its root file, with public methods.
 
 Never dead are answers in proofs/FUNCTION/, functions that state laws, what a trait requires, rows that are computed, and lemmas that a
-CALLING.md names with their file. Names are followed through `use` lines. A variable with a lemma's name counts as citing it, so something
-dead may be missing here. Not part of the gate. Takes some seconds.
+CALLING.md names with their file. Names are followed through `use` lines. A variable with a lemma's name counts as citing it, so the list
+may miss something dead. Not part of the gate. Takes some seconds.
 """
 import collections
 import os

@@ -1,4 +1,4 @@
-# For scripts that measure two programs in turn, with their working folder in `work`. Needs GNU time.
+# Functions for scripts that measure two programs in turn; `work` is their working folder. Needs GNU time.
 
 # Prints the median of the numbers on standard input.
 median() {

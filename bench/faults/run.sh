@@ -14,9 +14,9 @@
 #   solves.rt.txt, over a solver with a checker of its own: every later call reports that the solver has failed.
 #   refusals.rt.txt: refused steps are refused, whatever allocation fails while they are judged. So is a bad line, whatever allocation fails.
 #
-# For the first four, a line says for each N which call was out of memory. There is no line if only notes on a step's check were lost that no
-# listener reads, or if a check of a hint text or a reader of steps reads a single byte first instead of a chunk. The last three report by their status. Not part
-# of the gate. Takes some minutes.
+# For the first four, a line says for each N which call was out of memory. There is no line if only notes on a step's check were lost that
+# no listener reads, or if a check of a hint text or a reader of steps then read a single byte instead of a chunk. The last three report by their
+# status. Not part of the gate. Takes some minutes.
 #
 # `rt try --fail-alloc N` refuses the Nth allocation. Since a build takes longer than a run, one build serves for every N: it always refuses
 # the `most`th allocation, and the program first makes most - N useless ones, as the first byte of its standard input says (in the last three,

@@ -4,7 +4,7 @@
 PROGRAM is a built `certify_cli`; the texts have NAMES names each, 100,000 if it isn't given. Each call reads each text under limits on its
 address space: in steps of half a megabyte, from the first limit under which it starts to four megabytes above the first under which it succeeds.
 A line has the call, the text, the processor seconds without a limit, the first limit that suffices, and the slowest run with its limit. The
-status is 1 if a run takes more than twice as long as without a limit and 20 ms, is killed, or fails for another reason than want of memory.
+status is 1 if a run takes more than twice as long as without a limit and 20 ms, is killed, or fails without running out of memory.
 """
 import os
 import random

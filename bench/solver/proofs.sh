@@ -1,13 +1,13 @@
 #!/usr/bin/env bash
-# Checks the solver's DRAT proofs, and measures the cost of proofs and self checking: bench/solver/proofs.sh CHECKER [FOLDER]
+# Checks the solver's DRAT proofs, and measures the cost of proofs and self-checking: bench/solver/proofs.sh CHECKER [FOLDER]
 #
 # CHECKER is a program that is called as `CHECKER NAME.cnf NAME.drat`, with a binary DRAT proof. It prints `s VERIFIED` if the proof shows that
 # the formula is unsatisfiable. The script builds proofs.rt.txt over the crates of this checkout, in a folder of its own, and uses the formulas
 # of formulas.py and FOLDER/*.cnf. For each unsatisfiable one, CHECKER has to verify the binary proof, and the proof in words has to have the
 # same lines.
 #
-# Each formula is solved RUNS times (3 by default), in turn: without a proof, with one in each format, and with the solver's own checker and no
-# proof. Prints the medians of processor seconds. The last lines are the geometric means of their ratios to the first, over formulas that take
+# Each formula is solved RUNS times (3 by default), in turn: without a proof, with a proof in each format, and with the solver's own checker but
+# no proof. Prints the medians of processor seconds. The last lines are the geometric means of their ratios to the first, over formulas that take
 # at least half a second. Not part of the gate. Needs python3 and GNU time.
 set -euo pipefail
 here=$(cd "$(dirname "$0")" && pwd)
