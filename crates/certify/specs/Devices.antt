@@ -2,20 +2,20 @@
 use Rattle.std.specs.Prelude.{◌+◌, ◌≡◌, true}
 use Rattle.sat_base.specs.device.Device.{Reader, Writer}
 
--- the state of a reader, before and after a call
+-- the pair of a reader's states before (`old`) and after (`new`) a call, as `seen` shows them
 abbrev pub reader_before_after : {D : Type 0} → (D → Reader) → D → D → Reader × Reader
 reader_before_after seen old new = (seen old, seen new)
 
--- the state of a writer, before and after a call
+-- the pair of a writer's states before (`old`) and after (`new`) a call, as `seen` shows them
 abbrev pub writer_before_after : {D : Type 0} → (D → Writer) → D → D → Writer × Writer
 writer_before_after seen old new = (seen old, seen new)
 
--- `NoneFailed old new` holds if no call of the writer failed between `old` and `new`, and it is lent through the same
--- borrows.
-abbrev pub NoneFailed : Writer → Writer → Type 0
-NoneFailed old new = (new.failures ≡ old.failures) × (new.loans ≡ old.loans)
+-- `NoWriterCallFailed old new` holds if no call of the writer failed between `old` and `new`, and it is lent through
+-- the same borrows.
+abbrev pub NoWriterCallFailed : Writer → Writer → Type 0
+NoWriterCallFailed old new = (new.failures ≡ old.failures) × (new.loans ≡ old.loans)
 
--- `OneFailed old new` holds if exactly one call of the writer failed between `old` and `new`, which was the last, and
--- it is lent through the same borrows.
-abbrev pub OneFailed : Writer → Writer → Type 0
-OneFailed old new = (new.failures ≡ old.failures + 1) × (new.failed ≡ true) × (new.loans ≡ old.loans)
+-- `OneWriterCallFailed old new` holds if exactly one call of the writer failed between `old` and `new`, which was the
+-- last, and it is lent through the same borrows.
+abbrev pub OneWriterCallFailed : Writer → Writer → Type 0
+OneWriterCallFailed old new = (new.failures ≡ old.failures + 1) × (new.failed ≡ true) × (new.loans ≡ old.loans)

@@ -5,4 +5,4 @@ pub mod run
 pub mod laws
 pub mod program
 pub mod script
-pub mod judge
+pub mod refusals

@@ -1,5 +1,5 @@
 pub mod Feeding
-pub mod Walks
+pub mod FedSteps
 pub mod Matches
 pub mod LeftToMatch
 pub mod VerdictPromises
@@ -11,11 +11,11 @@ pub mod SpeltLiterals
 pub mod Stepping
 pub mod Variables
 pub mod Comparing
-pub mod Following
+pub mod NamesAfterStep
 pub mod Awaiting
 pub mod Naming
 pub mod Confirming
-pub mod Stopping
+pub mod CallResults
 pub mod Lines
 pub mod ConfirmStates
 pub mod ConfirmedScript

@@ -1,10 +1,11 @@
 //! Confirms that a script, answers and a certificate match.
 ghost use Rattle.std.specs.Prelude.{◌≡◌, ◌+◌, ◌≤◌, ◌⊎◌, IfOk, IsErrOf};
-ghost use Rattle.sat_base.specs.device.Device.{most_reads, ReadFails};
-ghost use Rattle.sat_base.specs.dimacs.Parsing.{StopsReading};
+ghost use Rattle.sat_base.specs.device.Device.{max_reads, ReadFails};
+ghost use Rattle.sat_base.specs.dimacs.Parsing.{MakesNoReadAfterEnd};
 ghost use Rattle.certify.specs.Devices.{reader_before_after};
-ghost use Rattle.certify.specs.confirm.VerdictPromises.{GaveRightAnswers, IsExact, ConfirmGuarantee, ReadsKept};
-ghost use Rattle.certify.specs.confirm.VerdictPromises.{TakesLooks};
+ghost use Rattle.certify.specs.confirm.VerdictPromises.{GaveRightAnswers, ResultIsExact, ConfirmGuarantee};
+ghost use Rattle.certify.specs.confirm.VerdictPromises.{KeepsReadFailures};
+ghost use Rattle.certify.specs.confirm.VerdictPromises.{LooksAreBounded};
 ghost use Rattle.certify.specs.confirm.ConfirmedScript.{confirm_result};
 
 pub(crate) mod answers;
@@ -59,8 +60,8 @@ fn compare<S: CountedRead, A: CountedRead, C: CountedRead>(
 ) -> (Result<(), Stop>, u64)
     ensures promised { ConfirmGuarantee (confirm_result result.0 result.1) (reader_before_after S.seen script.old script.new)
         (reader_before_after A.seen answers.old answers.new) (reader_before_after C.seen certificate.old certificate.new) }
-    ensures looks { TakesLooks (C.seen certificate.old) (C.seen certificate.new) looks.old looks.new }
-    ensures stops { StopsReading (S.seen script.old) (S.seen script.new) }
+    ensures looks { LooksAreBounded (C.seen certificate.old) (C.seen certificate.new) looks.old looks.new }
+    ensures stops { MakesNoReadAfterEnd (S.seen script.old) (S.seen script.new) }
 {
     let mut confirmation = Confirmation {
         script: CommandStream::new(alloc),
@@ -74,7 +75,7 @@ fn compare<S: CountedRead, A: CountedRead, C: CountedRead>(
     (ended, asks)
 }
 
-/// Compares a script, answers and a certificate, and returns `Yes` exactly when they match. The texts are read in
+/// Compares a script, answers and a certificate. The verdict is `Yes` exactly when they match. The texts are read in
 /// chunks of at most 4,096 bytes, no further than the next decision needs, and no text is held in memory as a whole.
 /// The looks of the checker that receives the certificate's steps are added to `looks`, whatever is returned.
 pub fn confirm<S: CountedRead, A: CountedRead, C: CountedRead>(
@@ -86,7 +87,7 @@ pub fn confirm<S: CountedRead, A: CountedRead, C: CountedRead>(
 ) -> Result<Verdict, ConfirmFault>
     // The verdict is `Yes` exactly when the bytes given by the three readers match, whatever bytes might follow them. So
     // `No` means that they do not match, whatever might follow.
-    ensures exact { IsExact result S.seen A.seen C.seen (script.old, answers.old, certificate.old)
+    ensures exact { ResultIsExact result S.seen A.seen C.seen (script.old, answers.old, certificate.old)
         (script.new, answers.new, certificate.new) }
     // `Yes` means that the answers are correct, whoever wrote the answers and the certificate.
     ensures sound { IfOk result (λ v. v ≡ Verdict.Yes → GaveRightAnswers (reader_before_after S.seen script.old script.new)
@@ -103,20 +104,19 @@ pub fn confirm<S: CountedRead, A: CountedRead, C: CountedRead>(
     ensures counter_end { IsErrOf result ConfirmFault.CounterEnd → ⊥ }
     // If the certificate's reader gave n bytes, `looks` rises by at most 16 (n + 1)^2: by at most the sum of the bounds
     // for the accepted steps and for at most one step that is not accepted.
-    ensures looks { TakesLooks (C.seen certificate.old) (C.seen certificate.new) looks.old looks.new }
+    ensures looks { LooksAreBounded (C.seen certificate.old) (C.seen certificate.new) looks.old looks.new }
 
     // A read has failed only if the fault of its reader is returned: no verdict follows a failed read.
-    ensures kept_script { IsErrOf result ConfirmFault.ScriptRead ⊎ ReadsKept S.seen script.old script.new }
-    ensures kept_answers { IsErrOf result ConfirmFault.AnswersRead ⊎ ReadsKept A.seen answers.old answers.new }
+    ensures kept_script { IsErrOf result ConfirmFault.ScriptRead ⊎ KeepsReadFailures S.seen script.old script.new }
+    ensures kept_answers { IsErrOf result ConfirmFault.AnswersRead ⊎ KeepsReadFailures A.seen answers.old answers.new }
     ensures kept_certificate { IsErrOf result ConfirmFault.CertificateRead
-        ⊎ ReadsKept C.seen certificate.old certificate.new }
+        ⊎ KeepsReadFailures C.seen certificate.old certificate.new }
     // At most 2^48 reads are made of each text.
-    ensures script_reads { (S.seen script.new).calls ≤ (S.seen script.old).calls + most_reads }
-    ensures answers_reads { (A.seen answers.new).calls ≤ (A.seen answers.old).calls + most_reads }
-    ensures certificate_reads { (C.seen certificate.new).calls ≤ (C.seen certificate.old).calls + most_reads }
-    // After a chunk with a line that begins with `%`, no chunk of the script is read: fewer bytes were given after that
-    // line than one read can give.
-    ensures stops { StopsReading (S.seen script.old) (S.seen script.new) }
+    ensures script_reads { (S.seen script.new).calls ≤ (S.seen script.old).calls + max_reads }
+    ensures answers_reads { (A.seen answers.new).calls ≤ (A.seen answers.old).calls + max_reads }
+    ensures certificate_reads { (C.seen certificate.new).calls ≤ (C.seen certificate.old).calls + max_reads }
+    // Once a line that begins with `%` has ended the script, no read of it is made.
+    ensures stops { MakesNoReadAfterEnd (S.seen script.old) (S.seen script.new) }
 {
     let (ended, asks) = compare(alloc, script, answers, certificate, looks);
     conclude(ended, asks)

@@ -2,11 +2,11 @@
 //! the script.
 ghost use Rattle.std.specs.Prelude.{◌≡◌, ◌≤◌, ◌+◌, IfOk, OnOk};
 ghost use Rattle.sat_base.specs.device.Device.{GaveEnough};
-ghost use Rattle.sat_base.specs.dimacs.Parsing.{StopsReading};
+ghost use Rattle.sat_base.specs.dimacs.Parsing.{MakesNoReadAfterEnd};
 ghost use Rattle.certify.specs.Devices.{reader_before_after};
-ghost use Rattle.certify.specs.laws.EndToEnd.{Certified, VerdictGuarantee, most_looks_over};
+ghost use Rattle.certify.specs.laws.EndToEnd.{CertifyGuarantee, VerdictGuarantee, most_looks_for};
 ghost use Rattle.certify.specs.laws.Headline.{Headline};
-ghost use Rattle.certify.specs.program.Failures.{ReadsToFailure};
+ghost use Rattle.certify.specs.program.Failures.{ReadsStopAtFailure};
 ghost use Rattle.certify.specs.run.FinishedRun.{CertificateGuarantee, rounds_of_asks};
 
 use crate::confirm::confirm;
@@ -53,8 +53,8 @@ pub(crate) fn run_in_memory<S: CountedRead>(
     ensures wrote { IfOk result (λ w. GaveEnough (S.seen script.old) (S.seen script.new)
         (λ text. CertificateGuarantee text budget w.summary w.answers.items w.certificate.items)) }
     ensures kept { OnOk result ((S.seen script.new).failures ≡ (S.seen script.old).failures) }
-    ensures reads { ReadsToFailure (reader_before_after S.seen script.old script.new) }
-    ensures stops { StopsReading (S.seen script.old) (S.seen script.new) }
+    ensures reads { ReadsStopAtFailure (reader_before_after S.seen script.old script.new) }
+    ensures stops { MakesNoReadAfterEnd (S.seen script.old) (S.seen script.new) }
 {
     let mut answers = Counted::new(Vec::new(alloc));
     let mut certificate = Counted::new(Vec::new(alloc));
@@ -84,7 +84,7 @@ pub(crate) fn confirm_over(
     looks: &mut Looks,
 ) -> Result<Verdict, ConfirmFault>
     ensures says { IfOk result (VerdictGuarantee script.now answers.now certificate.now) }
-    ensures looks { looks.new ≤ looks.old + most_looks_over certificate.now }
+    ensures looks { looks.new ≤ looks.old + most_looks_for certificate.now }
 {
     let mut script = Counted::new(script);
     let mut answers = Counted::new(answers);
@@ -104,7 +104,7 @@ fn verdicts_over(
     ensures own { IfOk result (λ v. VerdictGuarantee script.now written.now.answers.items written.now.certificate.items v.0) }
     ensures other { IfOk result (λ v. VerdictGuarantee script.now claimed.now shown.now v.1) }
     ensures looks { OnOk result
-        (looks.new ≤ looks.old + most_looks_over written.now.certificate.items + most_looks_over shown.now) }
+        (looks.new ≤ looks.old + most_looks_for written.now.certificate.items + most_looks_for shown.now) }
 {
     let own = match confirm_over(alloc, script, &written.answers, &written.certificate, looks) {
         Ok(own) => own,
@@ -126,7 +126,7 @@ pub fn certify_over(
     shown: &[u8],
     looks: &mut Looks,
 ) -> Result<Verdicts, HeadlineFault>
-    ensures { IfOk result (λ v. Certified script.now budget claimed.now shown.now
+    ensures { IfOk result (λ v. CertifyGuarantee script.now budget claimed.now shown.now
         v.written.summary v.written.answers.items v.written.certificate.items v.own v.other looks.old looks.new) }
 {
     match run_over(alloc, script, budget) {

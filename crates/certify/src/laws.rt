@@ -3,11 +3,11 @@
 //! Each law is the contract of a function that does nothing.
 ghost use Rattle.certify.specs.laws.Confirmed.{CertifiedMatches};
 ghost use Rattle.certify.specs.laws.EndToEnd.{FinishedIsConfirmed};
-ghost use Rattle.certify.specs.laws.HeadlineLaws.{CertifiedIsHeadline, RightByEvents, RightByOutcomes, SameAnswers};
+ghost use Rattle.certify.specs.laws.HeadlineLaws.{CertifyImpliesHeadline, RightByEvents, RightByOutcomes, SameAnswers};
 ghost use Rattle.certify.specs.laws.HeadlineLaws.{MatchingAnswersAreRight, SameMatches, SameReports, ReadingsAgree};
 ghost use Rattle.certify.specs.laws.HintTexts.{RunsHaveHints};
-ghost use Rattle.certify.specs.laws.Laws.{AskBindsNothing, AskLeavesNames, MatchingIsRight, NotBoth};
-ghost use Rattle.certify.specs.laws.Laws.{RepeatChangesNothing, TautologyChangesNothing, TextsDetermineOutcomes};
+ghost use Rattle.certify.specs.laws.Laws.{AskKeepsClauses, AskDependsOnNames, MatchingIsRight, NoModelAndCore};
+ghost use Rattle.certify.specs.laws.Laws.{ClausesAreSets, TautologyChangesNothing, TextsDetermineOutcomes};
 ghost use Rattle.certify.specs.laws.Laws.{TextsThatMatchAreRight};
 ghost use Rattle.sat_checker.specs.matching.Checking.{IsSound};
 ghost use Rattle.sat_checker.specs.matching.ProofChecking.{checker_rules};
@@ -15,7 +15,7 @@ ghost use Rattle.certify.specs.laws.Rows.{AnswersTwice, AskAloneText, AfterEndUn
 ghost use Rattle.certify.specs.laws.Rows.{UnknownUncertified, ClauseAndAskCertified, ClauseAndAskExpected};
 ghost use Rattle.certify.specs.laws.Rows.{ClauseAndAskMatches, ClauseAndAskRight, ClauseAndAskSteps, ClauseAndAskText};
 ghost use Rattle.certify.specs.laws.Rows.{ClauseUncertified, CoreUncertified, EarlyUncertified, EmptyMatches};
-ghost use Rattle.certify.specs.laws.Rows.{EmptyText, EndAloneMatches, EndAloneUncertified, HiddenAndBackExpected};
+ghost use Rattle.certify.specs.laws.Rows.{EmptyText, EndAloneDoesNotMatch, EndAloneUncertified, HiddenAndBackExpected};
 ghost use Rattle.certify.specs.laws.Rows.{HiddenAndBackState, HiddenAtOnceState, KnownWithoutRounds, LeftOutCertified};
 ghost use Rattle.certify.specs.laws.Rows.{LeftmostRefuses, MalformedText, ModelUncertified, NameOnOldVariable};
 ghost use Rattle.certify.specs.laws.Rows.{NoAnswers, TwoUnitsMatches, TwoUnitsRight, TwoUnitsSteps, WitnessRefusedText};
@@ -45,12 +45,12 @@ pub fn finished_is_confirmed()
 
 /// States that the contract of `certify_over` implies the headline.
 pub fn certified_is_headline()
-    ensures { CertifiedIsHeadline }
+    ensures { CertifyImpliesHeadline }
 {}
 
 /// States that the short definitions in the contracts of `run` and `confirm` are equivalent to those that the proofs
 /// about matching and runs use.
-pub fn short_says_the_same()
+pub fn short_definitions_agree()
     ensures script { ReadingsAgree }
     ensures answers { SameAnswers }
     ensures events { RightByEvents }
@@ -59,8 +59,8 @@ pub fn short_says_the_same()
     ensures reports { SameReports }
 {}
 
-/// States that the certificate of a finished run has a hint text, and that this text is proved: `convert` does not
-/// refuse the certificate.
+/// States that `convert` does not refuse the certificate of a finished run, and that the hint text that it writes
+/// is proved.
 pub fn runs_have_hints()
     ensures { RunsHaveHints }
 {}
@@ -72,19 +72,19 @@ pub fn checking_is_sound()
 
 /// States that no ask has both a correct model and a correct core.
 pub fn model_excludes_core()
-    ensures { NotBoth }
+    ensures { NoModelAndCore }
 {}
 
 /// States that neither a repeated literal nor a tautology changes which valuations satisfy the clauses.
 pub fn clauses_as_sets()
-    ensures repeat { RepeatChangesNothing }
+    ensures repeat { ClausesAreSets }
     ensures tautology { TautologyChangesNothing }
 {}
 
 /// States that the literals of an ask don't constrain later asks: only the names that the ask introduced remain.
 pub fn asks_are_independent()
-    ensures clauses { AskBindsNothing }
-    ensures names { AskLeavesNames }
+    ensures clauses { AskKeepsClauses }
+    ensures names { AskDependsOnNames }
 {}
 
 /// States that different outcomes have different texts.
@@ -126,7 +126,7 @@ pub fn rows_that_match()
 /// answers, and answers written twice.
 pub fn rows_that_fail()
     ensures old_variable { NameOnOldVariable }
-    ensures end_alone { EndAloneMatches }
+    ensures end_alone { EndAloneDoesNotMatch }
     ensures missing { NoAnswers }
     ensures extra { AnswersTwice }
 {}

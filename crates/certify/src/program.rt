@@ -25,7 +25,7 @@ use crate::fault::RunFault;
 use crate::program::call::call_of;
 use crate::program::fault::ProgramFault;
 use crate::program::opened::{OpenCall, open_call};
-use crate::program::printing::{failed, misused};
+use crate::program::printing::{failed, report_misuse};
 use crate::program::reason::{broken, not_opened};
 use crate::program::standard::answer;
 use crate::program::texts::{check_text, confirm_given, run_text, write_hints};
@@ -82,7 +82,7 @@ pub fn program<R: AllocGlobal + Files, I: CountedRead, O: CountedWrite, E: Count
         Ok(words) => obey(rt, &words, input, output, errors),
         Err(e) => {
             if e.kind() != io::ErrorKind::OutOfMemory {
-                return misused(errors);
+                return report_misuse(errors);
             }
             failed(errors, ProgramFault::Run(RunFault::OutOfMemory))
         }
@@ -101,11 +101,11 @@ fn obey<R: AllocGlobal + Files, I: CountedRead, O: CountedWrite, E: CountedWrite
         (effect result (reader_before_after I.seen input.old input.new) (writer_before_after O.seen output.old output.new)) }
 {
     let Some(call) = call_of(words) else {
-        return misused(errors);
+        return report_misuse(errors);
     };
     match open_call(rt, &call) {
         Ok(Some(mut opened)) => carry_out(rt.alloc(), &mut opened, input, output, errors),
-        Ok(None) => misused(errors),
+        Ok(None) => report_misuse(errors),
         Err(unopened) => not_opened(errors, &unopened),
     }
 }

@@ -1,11 +1,13 @@
 //! Answers a script while reading it, and writes a certificate.
 ghost use Rattle.std.specs.Prelude.{◌≡◌, ◌+◌, ◌≤◌, ◌⊎◌, true, IfOk, OnErr, OnOk, IsErrOf};
-ghost use Rattle.sat_base.specs.device.Device.{most_reads, ReadFails};
-ghost use Rattle.sat_base.specs.dimacs.Parsing.{StopsReading};
+ghost use Rattle.sat_base.specs.device.Device.{max_reads, ReadFails};
+ghost use Rattle.sat_base.specs.dimacs.Parsing.{MakesNoReadAfterEnd};
 ghost use Rattle.certify.specs.Devices.{reader_before_after, writer_before_after};
-ghost use Rattle.certify.specs.run.FinishedRun.{WritesAnswers, CertificateIsGuaranteed, WriteFails, WritesKept};
-ghost use Rattle.certify.specs.run.Running.{ReadsFew, FinishesOrFaults};
-ghost use Rattle.certify.specs.run.Unfinished.{CounterEnds, Stopped, TookSteps};
+ghost use Rattle.certify.specs.run.FinishedRun.{WritesAnswers, CertificateIsGuaranteed, LastWriterCallFails};
+ghost use Rattle.certify.specs.run.FinishedRun.{KeepsWriteFailures};
+ghost use Rattle.certify.specs.run.Running.{ScriptReadsAreFew, FinishesOrFaults};
+ghost use Rattle.certify.specs.script.LastChunk.{EndsAtLine};
+ghost use Rattle.certify.specs.run.Unfinished.{CounterEnds, Stopped, ReceivedStepsPrefix};
 
 pub mod ask;
 pub mod commands;
@@ -41,16 +43,18 @@ fn answer<S: CountedRead, A: CountedWrite, C: CountedWrite + Drop>(
     ensures unfinished { OnErr result.1
         (Stopped budget (reader_before_after S.seen script.old script.new) (writer_before_after A.seen answers.old answers.new)
         (C.seen certificate, C.seen result.0)) }
-    ensures steps { TookSteps (C.seen certificate, C.seen result.0) }
+    ensures steps { ReceivedStepsPrefix (C.seen certificate, C.seen result.0) }
     ensures counter_end { IsErrOf result.1 RunFault.CounterEnd → CounterEnds (reader_before_after S.seen script.old script.new)
         (C.seen certificate, C.seen result.0) }
-    ensures reads { ReadsFew (reader_before_after S.seen script.old script.new) }
-    ensures stops { StopsReading (S.seen script.old) (S.seen script.new) }
+    ensures reads { ScriptReadsAreFew (reader_before_after S.seen script.old script.new) }
+    ensures stops { MakesNoReadAfterEnd (S.seen script.old) (S.seen script.new) }
+    ensures line { IfOk result.1 (λ s. EndsAtLine (S.seen script.old) (S.seen script.new) s.line) }
 {
     let mut session = RunState::new(alloc, certificate, budget);
     let mut stream = CommandStream::new(alloc);
     let served = serve_all(&mut session, &mut stream, script, answers);
-    end_run(session, answers, served)
+    let line = stream.line();
+    end_run(session, answers, served, line)
 }
 
 /// Answers a script, and writes the certificate to a borrowed writer. Returns the summary.
@@ -66,11 +70,12 @@ fn answer_into<S: CountedRead, A: CountedWrite, C: CountedWrite>(
     ensures unfinished { OnErr result
         (Stopped budget (reader_before_after S.seen script.old script.new) (writer_before_after A.seen answers.old answers.new)
         (writer_before_after C.seen certificate.old certificate.new)) }
-    ensures steps { TookSteps (writer_before_after C.seen certificate.old certificate.new) }
+    ensures steps { ReceivedStepsPrefix (writer_before_after C.seen certificate.old certificate.new) }
     ensures counter_end { IsErrOf result RunFault.CounterEnd → CounterEnds (reader_before_after S.seen script.old script.new)
         (writer_before_after C.seen certificate.old certificate.new) }
-    ensures reads { ReadsFew (reader_before_after S.seen script.old script.new) }
-    ensures stops { StopsReading (S.seen script.old) (S.seen script.new) }
+    ensures reads { ScriptReadsAreFew (reader_before_after S.seen script.old script.new) }
+    ensures stops { MakesNoReadAfterEnd (S.seen script.old) (S.seen script.new) }
+    ensures line { IfOk result (λ s. EndsAtLine (S.seen script.old) (S.seen script.new) s.line) }
 {
     let (lent, result) = answer(alloc, script, answers, certificate, budget);
     let _certificate: &mut C = lent;
@@ -109,15 +114,15 @@ pub fn run<S: CountedRead, A: CountedWrite, C: CountedWrite>(
         (writer_before_after C.seen certificate.old certificate.new)) }
     // Whatever is returned, the certificate's writer received a prefix of the text of steps that a checker accepts, and
     // nothing else.
-    ensures steps { TookSteps (writer_before_after C.seen certificate.old certificate.new) }
+    ensures steps { ReceivedStepsPrefix (writer_before_after C.seen certificate.old certificate.new) }
 
     // A device's fault is returned only if exactly one call to the device failed, which was the last, or if 2^48 reads
     // were made and none failed.
     ensures script_read { IsErrOf result RunFault.ScriptRead → ReadFails (S.seen script.old) (S.seen script.new) }
     ensures answers_write { IsErrOf result RunFault.AnswersWrite
-        → WriteFails (A.seen answers.old) (A.seen answers.new) }
+        → LastWriterCallFails (A.seen answers.old) (A.seen answers.new) }
     ensures certificate_write { IsErrOf result RunFault.CertificateWrite
-        → WriteFails (C.seen certificate.old) (C.seen certificate.new) }
+        → LastWriterCallFails (C.seen certificate.old) (C.seen certificate.new) }
     // `CounterEnd` is returned only if the bytes that were read contain at least 2^64-1 commands, or introduce more than
     // 2^28 variables and contain an accepted command whose names need more than are left after some steps.
     ensures counter_end { IsErrOf result RunFault.CounterEnd → CounterEnds (reader_before_after S.seen script.old script.new)
@@ -125,14 +130,15 @@ pub fn run<S: CountedRead, A: CountedWrite, C: CountedWrite>(
     // A call to a device has failed only if the fault of that device is returned.
     ensures kept_script { IsErrOf result RunFault.ScriptRead
         ⊎ ((S.seen script.new).failures ≡ (S.seen script.old).failures) }
-    ensures kept_answers { IsErrOf result RunFault.AnswersWrite ⊎ WritesKept A.seen answers.old answers.new }
+    ensures kept_answers { IsErrOf result RunFault.AnswersWrite ⊎ KeepsWriteFailures A.seen answers.old answers.new }
     ensures kept_certificate { IsErrOf result RunFault.CertificateWrite
-        ⊎ WritesKept C.seen certificate.old certificate.new }
+        ⊎ KeepsWriteFailures C.seen certificate.old certificate.new }
     // At most 2^48 reads are made of the script.
-    ensures reads { (S.seen script.new).calls ≤ (S.seen script.old).calls + most_reads }
-    // After a chunk with a line that begins with `%`, no chunk is read: fewer bytes were given after that line than one
-    // read can give.
-    ensures stops { StopsReading (S.seen script.old) (S.seen script.new) }
+    ensures reads { (S.seen script.new).calls ≤ (S.seen script.old).calls + max_reads }
+    // Once a line that begins with `%` has ended the script, no read of it is made.
+    ensures stops { MakesNoReadAfterEnd (S.seen script.old) (S.seen script.new) }
+    // The summary's line is that of the last byte of the script that was consumed.
+    ensures line { IfOk result (λ s. EndsAtLine (S.seen script.old) (S.seen script.new) s.line) }
 {
     answer_into(alloc, script, answers, certificate, budget)
 }

@@ -30,6 +30,9 @@ pub struct Summary {
     pub refused: u64,
     /// The number, counted from 1, of the command at which the text is malformed.
     pub malformed: Option<u64>,
+    /// The number, counted from 1, of the line of the last byte that was consumed, or 0 if the script is empty. If the
+    /// text is malformed, this byte made it so. The number is capped at 2^64-1.
+    pub line: u64,
     /// One report for every accepted ask, in order.
     pub asks: Vec<AskReport>,
     /// The counts of the solver at the end.

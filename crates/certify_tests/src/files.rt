@@ -276,7 +276,8 @@ const NO_ROUND: &str =
     "[INFO  certify] progress conflicts=0 restarts=0 vars=0 binary=0 irred=0 core=0 mid=0 local=0\n";
 
 const MALFORMED: &str =
-    "[INFO  certify] progress conflicts=0 restarts=0 vars=0 binary=0 irred=0 core=0 mid=0 local=0 malformed at command 1\n";
+    "[INFO  certify] progress conflicts=0 restarts=0 vars=0 binary=0 irred=0 core=0 mid=0 local=0 \
+     malformed at command 1, line 1\n";
 
 const ONE_PAIR: &str =
     "[INFO  certify] progress conflicts=1 restarts=1 vars=2 binary=1 irred=0 core=0 mid=0 local=0\n";

@@ -52,7 +52,8 @@ const SEVEN_ROUNDS: &str =
 /// Standard error of runs without rounds: of a script that is malformed at its first command, one without asks, and one
 /// whose only command is refused.
 const MALFORMED: &str =
-    "[INFO  certify] progress conflicts=0 restarts=0 vars=0 binary=0 irred=0 core=0 mid=0 local=0 malformed at command 1\n";
+    "[INFO  certify] progress conflicts=0 restarts=0 vars=0 binary=0 irred=0 core=0 mid=0 local=0 \
+     malformed at command 1, line 1\n";
 
 const NO_ASK: &str =
     "[INFO  certify] progress conflicts=0 restarts=0 vars=0 binary=0 irred=0 core=0 mid=0 local=0 no ask in this script\n";
@@ -243,7 +244,9 @@ static TAKEN: [(u64, usize); 3] = [(1, 0), (2, 23), (3, 35)];
 
 /// Standard error when the output fails after a run with the binary clause 1 2.
 const NOT_PRINTED: &str =
-    "[INFO  certify] progress conflicts=1 restarts=1 vars=2 binary=1 irred=0 core=0 mid=0 local=0\ncertify: AnswersWrite\ncertify: standard output: operation interrupted\n";
+    "[INFO  certify] progress conflicts=1 restarts=1 vars=2 binary=1 irred=0 core=0 mid=0 local=0\n\
+     certify: AnswersWrite\n\
+     certify: standard output: operation interrupted\n";
 
 /// The calls that fail are the write of the answers, the write of the last line, and the flush. Nothing more is written
 /// after the failure.

@@ -1,7 +1,7 @@
 //! Tests of reading scripts with every kind of command, and of refusing commands because of their names.
 
 use certify::answers::write::push_literal;
-use certify::judge::{Names, NewNames, Refusal};
+use certify::refusals::{Names, NewNames, Refusal};
 use certify::script::{Command, CommandKind, Reached, ScriptEnd, ScriptReader};
 use sat_base::Var;
 use std::alloc::{AllocError, Global};

@@ -540,3 +540,50 @@ fn short_writers_are_reported(rt: HostRuntime) {
         fault_of_short(rt.alloc(), &mut [0; 18], &mut [0; 8]) == Some(RunFault::CertificateWrite)
     );
 }
+
+/// Malformed scripts, each with the command and the line that its summary names.
+static MALFORMED: [(&[u8], u64, u64); 8] = [
+    (b"x", 1, 1),
+    (b"c x\n1 2 0\na 0\n3 x 0\n1 0\n", 3, 4),
+    (b"1 0\n\n1x\n\n1 0\n", 2, 3),
+    // A command is incomplete at the end of the text.
+    (b"1 0\n\n2\n", 2, 3),
+    (b"1 0\n\n2", 2, 3),
+    (b"1\n2 0 3\n0\n4\n%\n5\n", 3, 5),
+    // A number above the limit is refused, and not malformed.
+    (b"1 0\n99999999999\n0\n-0x\n", 3, 4),
+    (b"p cnf 1 1\n1 0\np cnf 1 1\n", 2, 3),
+];
+
+fn malformed() -> &'static [(&'static [u8], u64, u64)] {
+    &MALFORMED
+}
+
+/// Returns `true` if a run over the script, read in pieces of `size` bytes, reports that it is malformed at `command`,
+/// on line `line`.
+fn is_malformed_at(alloc: Global, text: &[u8], size: usize, (command, line): (u64, u64)) -> bool {
+    let mut answers = Counted::new(Vec::new(alloc));
+    let mut certificate = Counted::new(Vec::new(alloc));
+    match run(
+        alloc,
+        &mut in_pieces(text, size),
+        &mut answers,
+        &mut certificate,
+        AMPLE,
+    ) {
+        Ok(summary) => summary.malformed == Some(command) && summary.line == line,
+        Err(_) => false,
+    }
+}
+
+#[test]
+fn the_line_of_malformed_text_is_reported(rt: HostRuntime) {
+    for &(text, command, line) in malformed() {
+        for size in [1, 2, 3, 4096] {
+            assert!(rt;
+                is_malformed_at(rt.alloc(), text, size, (command, line)),
+                "{text:?}"
+            );
+        }
+    }
+}

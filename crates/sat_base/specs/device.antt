@@ -4,5 +4,5 @@ pub mod ReadRoom
 pub mod Reading
 pub mod Sink
 pub mod Waiting
-pub mod TakenAhead
+pub mod ConsumedAhead
 pub mod Fed

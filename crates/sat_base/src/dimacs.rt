@@ -1,17 +1,19 @@
 //! Parses formulas in DIMACS CNF, in chunks of any size.
 ghost use Rattle.std.specs.Prelude.{◌≡◌, ◌≤◌, ◌<◌, ◌+◌, ◌++◌, ◌⊎◌, false, length, Ok, Err, IfOk, IfErr, OnOk, IsErrOf};
 ghost use Rattle.std.specs.Io.{ReadsAtMost};
-ghost use Rattle.sat_base.specs.device.Device.{most_reads, ReadFails, GaveEnough};
+ghost use Rattle.sat_base.specs.device.Device.{max_reads, ReadFails, GaveEnough};
 ghost use Rattle.sat_base.specs.values.Literals.{var_limit};
 ghost use Rattle.sat_base.specs.text.Text.{dimacs_header};
 ghost use Rattle.sat_base.specs.text.Tokenizing.{capped};
-ghost use Rattle.sat_base.specs.values.Formulas.{vars_of};
+ghost use Rattle.sat_base.specs.values.Formulas.{clauses_var_count};
 ghost use Rattle.sat_base.specs.dimacs.ParserPlaces.{with_parser};
-ghost use Rattle.sat_base.specs.dimacs.Parsing.{no_progress, clauses_read, lines_read, capped_numbers, all_taken};
-ghost use Rattle.sat_base.specs.dimacs.Parsing.{FeedsPiece, IsSoundSoFar, GaveSound, Finishes, Parses};
+ghost use Rattle.sat_base.specs.dimacs.Parsing.{no_progress, clauses_read, lines_read, capped_header, with_all_taken};
+ghost use Rattle.sat_base.specs.dimacs.Parsing.{FeedsPiece, HasNoFaultSoFar, GaveTextWithoutFault, FinishEffect};
+ghost use Rattle.sat_base.specs.dimacs.Parsing.{Parses};
 ghost use Rattle.sat_base.specs.dimacs.Parsing.{OnlyTakesClauses};
-ghost use Rattle.sat_base.specs.dimacs.Parsing.{ParsesInParts, RefusesPiece, ReportsEnded, StopsReading, VisitsAll};
-ghost use Rattle.sat_base.specs.dimacs.Faults.{ReadsNext};
+ghost use Rattle.sat_base.specs.dimacs.Parsing.{ParsesInParts, RefusesPiece, ReportsEnded, MakesNoReadAfterEnd};
+ghost use Rattle.sat_base.specs.dimacs.Parsing.{CallsClosureForAll};
+ghost use Rattle.sat_base.specs.dimacs.Faults.{ReadsOnceUnlessEnded};
 
 mod clauses;
 pub mod error;
@@ -44,11 +46,11 @@ impl Model for DimacsParser {
 
     ghost Value = { Progress };
 
-    ghost use Rattle.sat_base.specs.dimacs.ParserPlaces.{IsParser, progress_of};
+    ghost use Rattle.sat_base.specs.dimacs.ParserPlaces.{ParserInvariant, progress_of};
 
     ghost view = { λ d. progress_of d.parser };
 
-    ghost invariant = { λ d. IsParser d.parser };
+    ghost invariant = { λ d. ParserInvariant d.parser };
 }
 
 /// Returns the closure's error, if there is one, and the parser's result otherwise.
@@ -85,7 +87,7 @@ impl DimacsParser {
     pub fn feed(&mut self, piece: &[u8]) -> Result<(), DimacsError>
         ensures answer { FeedsPiece result piece.now self.old self.new }
         // No finished line has a fault, and the unfinished word can still become valid.
-        ensures sound { OnOk result (IsSoundSoFar self.new) }
+        ensures sound { OnOk result (HasNoFaultSoFar self.new) }
     {
         self.parser.feed(piece)
     }
@@ -93,7 +95,7 @@ impl DimacsParser {
     /// Handles the end of the text. A text that ends inside a clause is malformed on its last line. This is reported
     /// even if no memory is left, since memory is needed only if the last clause is complete.
     pub fn finish(&mut self) -> Result<(), DimacsError>
-        ensures { Finishes result self.old self.new }
+        ensures { FinishEffect result self.old self.new }
     {
         self.parser.finish()
     }
@@ -101,16 +103,16 @@ impl DimacsParser {
     /// Returns a formula with the clauses that have been read since the last call, and with `var_count` variables. Does
     /// not allocate.
     pub fn take_formula(&mut self) -> CnfFormula
-        ensures progress { self.new ≡ all_taken self.old }
+        ensures progress { self.new ≡ with_all_taken self.old }
         ensures clauses { clauses_read self.old ≡ self.old.taken ++ result.clauses }
-        ensures count { result.var_count ≡ vars_of (clauses_read self.old) }
+        ensures count { result.var_count ≡ clauses_var_count (clauses_read self.old) }
     {
         self.parser.take_formula()
     }
 
     /// Returns the highest variable number in the complete clauses of the text so far, or 0.
     pub fn var_count(&self) -> usize
-        ensures count { result ≡ vars_of (clauses_read self.now) }
+        ensures count { result ≡ clauses_var_count (clauses_read self.now) }
         ensures bound { result ≤ var_limit }
     {
         self.parser.clauses.formula.var_count()
@@ -126,7 +128,7 @@ impl DimacsParser {
     /// Returns the numbers of variables and of clauses in the header, if there is one. Both are capped at 2^64-1. They
     /// are not checked against the clauses.
     pub fn header(&self) -> Option<(u64, u64)>
-        ensures { result ≡ capped_numbers (dimacs_header (lines_read self.now)) }
+        ensures { result ≡ capped_header (dimacs_header (lines_read self.now)) }
     {
         self.parser.clauses.header
     }
@@ -150,10 +152,10 @@ impl DimacsParser {
         // If a read fails or memory runs out, no line that was read has a fault, and the unfinished word can still
         // become valid.
         ensures sound { IsErrOf result DimacsError.Read ⊎ IsErrOf result DimacsError.OutOfMemory
-            → GaveSound (R.seen reader.old) (R.seen reader.new) }
-        // Nothing is read after the line that ends the text.
-        ensures stops { StopsReading (R.seen reader.old) (R.seen reader.new) }
-        ensures reads { (R.seen reader.new).calls ≤ (R.seen reader.old).calls + most_reads }
+            → GaveTextWithoutFault (R.seen reader.old) (R.seen reader.new) }
+        // No read is made after the one that gave the line that ends the text.
+        ensures stops { MakesNoReadAfterEnd (R.seen reader.old) (R.seen reader.new) }
+        ensures reads { (R.seen reader.new).calls ≤ (R.seen reader.old).calls + max_reads }
         ensures fresh { IsErrOf result DimacsError.HasFailed → ⊥ }
     {
         let mut parser = DimacsParser::new(alloc);
@@ -164,8 +166,8 @@ impl DimacsParser {
     /// of bytes read.
     fn read_next<R: CountedRead>(&self, reader: &mut R, room: &mut [u8]) -> io::Result<usize>
         ensures bound { ReadsAtMost result room.new }
-        ensures reads { ReadsNext result room.new self.now.fed (R.seen reader.old) (R.seen reader.new) }
-        ensures goes_on { IfOk result (λ n. 0 < n → ReportsEnded false self.now) }
+        ensures reads { ReadsOnceUnlessEnded result room.new self.now.fed (R.seen reader.old) (R.seen reader.new) }
+        ensures goes_on { (R.seen reader.old).calls < (R.seen reader.new).calls → ReportsEnded false self.now }
     {
         if self.has_ended() {
             return Ok(0);
@@ -177,7 +179,7 @@ impl DimacsParser {
     /// is one.
     fn feed_or_find_fault(&mut self, piece: &[u8]) -> Result<(), DimacsError>
         ensures fed { OnOk result (FeedsPiece (Ok tt) piece.now self.old self.new) }
-        ensures sound { OnOk result (IsSoundSoFar self.new) }
+        ensures sound { OnOk result (HasNoFaultSoFar self.new) }
         ensures refused { IfErr result (λ e. RefusesPiece e piece.now self.old) }
     {
         self.parser.feed_or_find_fault(piece)
@@ -190,9 +192,9 @@ impl DimacsParser {
         ensures kept { IsErrOf result DimacsError.Read ⊎ ((R.seen reader.new).failures ≡ (R.seen reader.old).failures) }
         ensures read { IsErrOf result DimacsError.Read → ReadFails (R.seen reader.old) (R.seen reader.new) }
         ensures sound { IsErrOf result DimacsError.Read ⊎ IsErrOf result DimacsError.OutOfMemory
-            → GaveSound (R.seen reader.old) (R.seen reader.new) }
-        ensures stops { StopsReading (R.seen reader.old) (R.seen reader.new) }
-        ensures reads { (R.seen reader.new).calls ≤ (R.seen reader.old).calls + most_reads }
+            → GaveTextWithoutFault (R.seen reader.old) (R.seen reader.new) }
+        ensures stops { MakesNoReadAfterEnd (R.seen reader.old) (R.seen reader.new) }
+        ensures reads { (R.seen reader.new).calls ≤ (R.seen reader.old).calls + max_reads }
         ensures fresh { IsErrOf result DimacsError.HasFailed → ⊥ }
     {
         let mut piece = [0; PIECE];
@@ -225,14 +227,14 @@ impl DimacsParser {
         ensures given { OnlyTakesClauses (λ f p r q g. F.step f p r q g) closure
             → ParsesInParts (R.seen reader.old) (R.seen reader.new) result }
         // Whatever the closure does, it was called with the parser after every chunk that the reader gave.
-        ensures visited { VisitsAll (λ f p r q g. F.step f p r q g) closure (R.seen reader.old) (R.seen reader.new)
+        ensures visited { CallsClosureForAll (λ f p r q g. F.step f p r q g) closure (R.seen reader.old) (R.seen reader.new)
             result }
         // A read has failed only if `Read` is returned, and no read is repeated.
         ensures kept { IsErrOf result (IncrementalError.Dimacs DimacsError.Read)
             ⊎ ((R.seen reader.new).failures ≡ (R.seen reader.old).failures) }
         ensures read { IsErrOf result (IncrementalError.Dimacs DimacsError.Read)
             → ReadFails (R.seen reader.old) (R.seen reader.new) }
-        ensures reads { (R.seen reader.new).calls ≤ (R.seen reader.old).calls + most_reads }
+        ensures reads { (R.seen reader.new).calls ≤ (R.seen reader.old).calls + max_reads }
     {
         let mut parser = DimacsParser::new(alloc);
         match parser.read_parts(reader, closure) {
@@ -251,13 +253,13 @@ impl DimacsParser {
         requires callable { F.IsAlwaysCallable closure }
         ensures given { OnlyTakesClauses (λ f p r q g. F.step f p r q g) closure
             → ParsesInParts (R.seen reader.old) (R.seen reader.new) (with_parser self.new result) }
-        ensures visited { VisitsAll (λ f p r q g. F.step f p r q g) closure (R.seen reader.old) (R.seen reader.new)
+        ensures visited { CallsClosureForAll (λ f p r q g. F.step f p r q g) closure (R.seen reader.old) (R.seen reader.new)
             (with_parser self.new result) }
         ensures kept { IsErrOf (with_parser self.new result) (IncrementalError.Dimacs DimacsError.Read)
             ⊎ ((R.seen reader.new).failures ≡ (R.seen reader.old).failures) }
         ensures read { IsErrOf (with_parser self.new result) (IncrementalError.Dimacs DimacsError.Read)
             → ReadFails (R.seen reader.old) (R.seen reader.new) }
-        ensures reads { (R.seen reader.new).calls ≤ (R.seen reader.old).calls + most_reads }
+        ensures reads { (R.seen reader.new).calls ≤ (R.seen reader.old).calls + max_reads }
     {
         let mut piece = [0; PIECE];
         for _ in 0..MAX_READS {

@@ -19,13 +19,13 @@ pub struct FlatLists<T> {
 
 impl<T> Model for FlatLists<T> {
     ghost use Rattle.std.specs.Prelude.{List};
-    ghost use Rattle.sat_base.specs.values.Flat.{pieces, AreEnds};
+    ghost use Rattle.sat_base.specs.values.Flat.{pieces, AreEndsOfPieces};
 
     ghost Value = { List (List T) };
 
     ghost view = { λ f. pieces 0 f.ends.items f.items.items };
 
-    ghost invariant = { λ f. AreEnds 0 f.ends.items f.items.items };
+    ghost invariant = { λ f. AreEndsOfPieces 0 f.ends.items f.items.items };
 }
 
 /// Returns the position where the list with the index `place` begins.

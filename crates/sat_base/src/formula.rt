@@ -2,7 +2,8 @@
 ghost use Rattle.std.specs.Prelude.{◌≡◌, ◌≤◌, ◌<◌, [], length, ℕ, List, IsTrue, ◌↔◌};
 ghost use Rattle.std.specs.Map.Iter.{ShowsInOrder, deref};
 ghost use Rattle.sat_base.specs.values.Literals.{var_limit};
-ghost use Rattle.sat_base.specs.values.Formulas.{no_formula, vars_in, vars_of, with_at_least_vars, with_formula_clause};
+ghost use Rattle.sat_base.specs.values.Formulas.{no_formula, clause_var_count, clauses_var_count, with_at_least_vars};
+ghost use Rattle.sat_base.specs.values.Formulas.{with_formula_clause};
 ghost use Rattle.sat_base.specs.values.Formulas.{with_next_variable};
 ghost use Rattle.sat_base.specs.declared.formula.error.FormulaError.TheVariants.{OutOfMemory, VariableLimit};
 
@@ -29,13 +30,13 @@ pub struct CnfFormula {
 impl Model for CnfFormula {
     ghost use Rattle.std.specs.Prelude.{◌≤◌};
     ghost use Rattle.sat_base.specs.values.Literals.{var_limit};
-    ghost use Rattle.sat_base.specs.values.Formulas.{Formula, vars_of};
+    ghost use Rattle.sat_base.specs.values.Formulas.{Formula, clauses_var_count};
 
     ghost Value = { Formula };
 
     ghost view = { λ f. record { var_count = f.var_count; clauses = f.clauses } };
 
-    ghost invariant = { λ f. (vars_of f.clauses ≤ f.var_count) × (f.var_count ≤ var_limit) };
+    ghost invariant = { λ f. (clauses_var_count f.clauses ≤ f.var_count) × (f.var_count ≤ var_limit) };
 }
 
 impl CnfFormula {
@@ -52,7 +53,7 @@ impl CnfFormula {
     /// Returns the number of variables. The indices of the variables are the numbers below it.
     pub fn var_count(&self) -> usize
         ensures count { result ≡ self.now.var_count }
-        ensures covers { vars_of self.now.clauses ≤ self.now.var_count }
+        ensures covers { clauses_var_count self.now.clauses ≤ self.now.var_count }
         ensures bound { result ≤ var_limit }
     {
         self.var_count
@@ -92,7 +93,7 @@ impl CnfFormula {
 /// Returns one more than the highest variable index among the literals, or 0 if there are no literals.
 #[tactic(auto, using(crate::proofs::lemmas::values::FlatLemmas::vars_next))]
 fn vars_in(lits: &[Lit]) -> usize
-    ensures count { result ≡ vars_in lits.now }
+    ensures count { result ≡ clause_var_count lits.now }
     ensures bound { result ≤ var_limit }
 {
     let mut count = 0;

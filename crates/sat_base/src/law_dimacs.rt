@@ -1,5 +1,5 @@
 //! Laws about the texts of formulas, for use only in proofs.
-ghost use Rattle.sat_base.specs.dimacs.DimacsRows.{CleanRows, FaultRows, HeaderRows, PartRows};
+ghost use Rattle.sat_base.specs.dimacs.DimacsRows.{CleanRows, FaultRows, HeaderRows, PrefixRows};
 ghost use Rattle.sat_base.specs.dimacs.DimacsSpelling.{OneFormula, CleanIfSpelled};
 ghost use Rattle.sat_base.specs.dimacs.WrittenDimacs.{WrittenIsRead};
 
@@ -23,5 +23,5 @@ pub fn dimacs_rows()
     ensures faults { FaultRows }
     ensures headers { HeaderRows }
     // The prefix of a text up to its last blank, and the prefix up to its last LF.
-    ensures parts { PartRows }
+    ensures parts { PrefixRows }
 {}

@@ -31,14 +31,14 @@ fn fed<T: Hash>(value: &T) -> u64
     state.finish()
 }
 
-/// Returns true. States that equal variables pass the same input to a hasher.
+/// Returns `true`. States that equal variables have the same hash.
 pub fn equal_variables_hash_alike(a: &Var, b: &Var) -> bool
     ensures { IsTrue result }
 {
     *a != *b || fed(a) == fed(b)
 }
 
-/// Returns true. States that equal literals pass the same input to a hasher.
+/// Returns `true`. States that equal literals have the same hash.
 pub fn equal_literals_hash_alike(l: &Lit, m: &Lit) -> bool
     ensures { IsTrue result }
 {

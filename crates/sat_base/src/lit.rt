@@ -1,7 +1,7 @@
 //! Literals: variables with a sign, stored as codes.
 ghost use Rattle.std.specs.Prelude.{ℕ, ◌≡◌, ◌*◌, ◌<◌, not, true, false, MatchOption};
 ghost use Rattle.sat_base.specs.values.Literals.{mk_lit, var_limit, variable, is_positive, negated, negated_if};
-ghost use Rattle.sat_base.specs.values.Numerals.{IsNoNumeral, numeral};
+ghost use Rattle.sat_base.specs.values.Numerals.{IsNotNumeral, numeral};
 
 use crate::Var;
 use std::fmt;
@@ -80,13 +80,13 @@ impl Lit {
     /// Returns the literal for a number in DIMACS: the absolute value is the number of the variable, and the sign is
     /// that of the literal. Returns `None` if the number is 0, or its absolute value is above 2^28.
     pub fn from_dimacs(number: i64) -> Option<Lit>
-        ensures { MatchOption result (IsNoNumeral number) (λ l. number ≡ numeral l) }
+        ensures { MatchOption result (IsNotNumeral number) (λ l. number ≡ numeral l) }
     {
         let var = Var::from_dimacs(number.checked_abs()?)?;
         Some(var.lit(number > 0))
     }
 
-    /// Returns the number of the literal in DIMACS.
+    /// Returns the literal as a number in DIMACS, which is negative if the literal is.
     pub fn to_dimacs(self) -> i64
         ensures { result ≡ numeral self }
     {

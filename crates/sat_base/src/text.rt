@@ -2,12 +2,14 @@
 ghost use Rattle.std.specs.Prelude.{◌≡◌, ◌+◌, ◌*◌, ◌-◌, ◌<◌, ◌≤◌, ℕ, List, [], Bool, true, false, None, Some, IfSome};
 ghost use Rattle.std.specs.Prelude.{length, take};
 ghost use Rattle.sat_base.specs.text.Text.{is_blank, is_digit, is_letter, Scan, scan};
-ghost use Rattle.sat_base.specs.text.Chunks.{Follows, IgnoresRest};
+ghost use Rattle.sat_base.specs.text.Chunks.{LeadsByBytes, IgnoresRest};
 ghost use Rattle.sat_base.specs.text.WrongWords.{HasValidContinuation, HasNoValidContinuation};
-ghost use Rattle.sat_base.specs.text.Tokenizing.{with_digit, capped, may_come, Began, MovesPlace, MovesBy, BeginsWord};
-ghost use Rattle.sat_base.specs.text.Tokenizing.{SaysInHand, SaysAtBlank, LeadsAfter, IsBetweenWords};
-ghost use Rattle.sat_base.specs.text.Tokenizing.{IsPositionedBefore};
-ghost use Rattle.sat_base.specs.text.Tokenizing.{ReceivesByte, ReceivesPrefix, HasNoNumberOrLetter, GivesLast};
+ghost use Rattle.sat_base.specs.text.Tokenizing.{with_digit, capped, place_allows_header, IsInWordOfByte};
+ghost use Rattle.sat_base.specs.text.Tokenizing.{MovesPlaceByByte, MovesPlaceByBytes, CanBeginWord};
+ghost use Rattle.sat_base.specs.text.Tokenizing.{CompletesAtLineEnd, CompletesAtBlank, MovesPlaceByBlank};
+ghost use Rattle.sat_base.specs.text.Tokenizing.{IsBetweenWords};
+ghost use Rattle.sat_base.specs.text.Tokenizing.{HasRemainingScan};
+ghost use Rattle.sat_base.specs.text.Tokenizing.{ReceivesByte, ReceivesPrefix, HasNoNumberOrLetter, GivesTokenAtEnd};
 
 mod header;
 
@@ -51,7 +53,7 @@ enum Place {
     /// In a header line.
     Header(HeaderPlace),
     /// In a word of a header line that makes the line malformed.
-    Spoilt,
+    WrongHeader,
     /// After the `%` that ends the text.
     Over,
 }
@@ -109,7 +111,7 @@ fn with_digit(value: u64, digit: u8) -> u64
 #[inline(always)]
 fn word_begun(byte: u8) -> Place
     requires { is_blank byte ≡ false }
-    ensures { Began byte result }
+    ensures { IsInWordOfByte byte result }
 {
     if byte == b'-' {
         Place::Minus
@@ -129,7 +131,7 @@ fn word_begun(byte: u8) -> Place
 #[inline(always)]
 fn line_begun(may: bool, byte: u8) -> Place
     requires { is_blank byte ≡ false }
-    ensures { MovesPlace (Place.Leading may) byte result }
+    ensures { MovesPlaceByByte (Place.Leading may) byte result }
 {
     if byte == b'c' {
         return Place::Comment(may);
@@ -143,15 +145,15 @@ fn line_begun(may: bool, byte: u8) -> Place
     if may {
         Place::Header(HeaderPlace::P)
     } else {
-        Place::Spoilt
+        Place::WrongHeader
     }
 }
 
 /// Returns the place after `byte`, which follows the digits of a number.
 #[inline(always)]
-fn number_goes_on(negative: bool, value: u64, byte: u8) -> Place
+fn number_continues(negative: bool, value: u64, byte: u8) -> Place
     requires { is_blank byte ≡ false }
-    ensures { MovesPlace (Place.Digits negative value) byte result }
+    ensures { MovesPlaceByByte (Place.Digits negative value) byte result }
 {
     if is_digit(byte) {
         Place::Digits {
@@ -168,7 +170,7 @@ fn number_goes_on(negative: bool, value: u64, byte: u8) -> Place
 fn digits_in(value: u64, bytes: &[u8]) -> (u64, usize)
     ensures within { result.1 ≤ length bytes.now }
     ensures moves { (negative : Bool)
-        → MovesBy (Place.Digits negative value) (take result.1 bytes.now) (Place.Digits negative result.0) }
+        → MovesPlaceByBytes (Place.Digits negative value) (take result.1 bytes.now) (Place.Digits negative result.0) }
 {
     let mut value = value;
     for (count, byte) in bytes.iter().enumerate() {
@@ -184,9 +186,9 @@ fn digits_in(value: u64, bytes: &[u8]) -> (u64, usize)
 #[inline(always)]
 fn some_digits_in(bytes: &[u8]) -> Option<(u64, usize)>
     ensures within { IfSome result (λ r. (0 < r.1) × (r.1 ≤ length bytes.now)) }
-    ensures plain { IfSome result (λ r. (old : Place) → BeginsWord old
-        → MovesBy old (take r.1 bytes.now) (Place.Digits false r.0)) }
-    ensures negative { IfSome result (λ r. MovesBy Place.Minus (take r.1 bytes.now) (Place.Digits true r.0)) }
+    ensures plain { IfSome result (λ r. (old : Place) → CanBeginWord old
+        → MovesPlaceByBytes old (take r.1 bytes.now) (Place.Digits false r.0)) }
+    ensures negative { IfSome result (λ r. MovesPlaceByBytes Place.Minus (take r.1 bytes.now) (Place.Digits true r.0)) }
 {
     if let Some((value, count)) = short_decimal(bytes) {
         return Some((value, count));
@@ -198,9 +200,9 @@ fn some_digits_in(bytes: &[u8]) -> Option<(u64, usize)>
 #[inline(never)]
 fn some_digits_by_bytes(bytes: &[u8]) -> Option<(u64, usize)>
     ensures within { IfSome result (λ r. (0 < r.1) × (r.1 ≤ length bytes.now)) }
-    ensures plain { IfSome result (λ r. (old : Place) → BeginsWord old
-        → MovesBy old (take r.1 bytes.now) (Place.Digits false r.0)) }
-    ensures negative { IfSome result (λ r. MovesBy Place.Minus (take r.1 bytes.now) (Place.Digits true r.0)) }
+    ensures plain { IfSome result (λ r. (old : Place) → CanBeginWord old
+        → MovesPlaceByBytes old (take r.1 bytes.now) (Place.Digits false r.0)) }
+    ensures negative { IfSome result (λ r. MovesPlaceByBytes Place.Minus (take r.1 bytes.now) (Place.Digits true r.0)) }
 {
     if bytes.is_empty() {
         return None;
@@ -218,8 +220,8 @@ fn some_digits_by_bytes(bytes: &[u8]) -> Option<(u64, usize)>
 #[inline(always)]
 fn number_in(bytes: &[u8]) -> Option<(bool, u64, usize)>
     ensures within { IfSome result (λ r. (0 < r.2) × (r.2 ≤ length bytes.now)) }
-    ensures moves { IfSome result (λ r. (old : Place) → BeginsWord old
-        → MovesBy old (take r.2 bytes.now) (Place.Digits r.0 r.1)) }
+    ensures moves { IfSome result (λ r. (old : Place) → CanBeginWord old
+        → MovesPlaceByBytes old (take r.2 bytes.now) (Place.Digits r.0 r.1)) }
 {
     if bytes.is_empty() {
         return None;
@@ -233,7 +235,7 @@ fn number_in(bytes: &[u8]) -> Option<(bool, u64, usize)>
 /// Returns `true` if a digit or `-` begins a word at `place`.
 #[inline(always)]
 fn begins_word(place: Place) -> bool
-    ensures { result ≡ true → BeginsWord place }
+    ensures { result ≡ true → CanBeginWord place }
 {
     matches!(place, Place::Between | Place::Fresh(_) | Place::Leading(_))
 }
@@ -242,7 +244,7 @@ fn begins_word(place: Place) -> bool
 #[inline(always)]
 fn number_begun(byte: u8) -> Place
     requires { is_blank byte ≡ false }
-    ensures { MovesPlace Place.Minus byte result }
+    ensures { MovesPlaceByByte Place.Minus byte result }
 {
     if is_digit(byte) {
         Place::Digits {
@@ -258,10 +260,10 @@ fn number_begun(byte: u8) -> Place
 #[inline(always)]
 fn next(place: Place, byte: u8) -> Place
     requires { is_blank byte ≡ false }
-    ensures { MovesPlace place byte result }
+    ensures { MovesPlaceByByte place byte result }
 {
     match place {
-        Place::Digits { negative, value } => number_goes_on(negative, value, byte),
+        Place::Digits { negative, value } => number_continues(negative, value, byte),
         Place::Between => word_begun(byte),
         Place::Minus => number_begun(byte),
         Place::Fresh(may) => line_begun(may, byte),
@@ -271,16 +273,16 @@ fn next(place: Place, byte: u8) -> Place
         Place::Bad => Place::Bad,
         Place::Header(header) => match next_in_header(header, byte) {
             Some(header) => Place::Header(header),
-            None => Place::Spoilt,
+            None => Place::WrongHeader,
         },
-        Place::Spoilt => Place::Spoilt,
+        Place::WrongHeader => Place::WrongHeader,
         Place::Over => Place::Over,
     }
 }
 
 /// Returns the token for a header line that ends at `place`.
 fn header_token(place: HeaderPlace) -> Token
-    ensures { SaysInHand (Some result) (Place.Header place) }
+    ensures { CompletesAtLineEnd (Some result) (Place.Header place) }
 {
     match ended_in(place) {
         Some(Stage::Both { vars, clauses }) => Token::Header { vars, clauses },
@@ -291,7 +293,7 @@ fn header_token(place: HeaderPlace) -> Token
 /// Returns the token that is completed if the line ends at `place`, or `None`.
 #[inline(always)]
 fn token_in(place: Place) -> Option<Token>
-    ensures { SaysInHand result place }
+    ensures { CompletesAtLineEnd result place }
 {
     match place {
         Place::Digits { negative, value } => {
@@ -303,7 +305,7 @@ fn token_in(place: Place) -> Option<Token>
         }
         Place::Minus => Some(Token::Wrong),
         Place::Bad => Some(Token::Wrong),
-        Place::Spoilt => Some(Token::Wrong),
+        Place::WrongHeader => Some(Token::Wrong),
         Place::Letter(byte) => Some(Token::Letter(byte)),
         Place::Header(header) => Some(header_token(header)),
         Place::Fresh(_) => None,
@@ -317,7 +319,7 @@ fn token_in(place: Place) -> Option<Token>
 /// Returns the token that a blank within a line completes at `place`, if there is one.
 #[inline(always)]
 fn token_at_blank(place: Place) -> Option<Token>
-    ensures { SaysAtBlank result place }
+    ensures { CompletesAtBlank result place }
 {
     match place {
         Place::Header(header) => match ended_in(header) {
@@ -331,7 +333,7 @@ fn token_at_blank(place: Place) -> Option<Token>
 /// Returns the place that follows `place` after a blank within a line.
 #[inline(always)]
 fn after_blank(place: Place) -> Place
-    ensures leads { LeadsAfter place result }
+    ensures leads { MovesPlaceByBlank place result }
     ensures quiet { IsBetweenWords result }
 {
     match place {
@@ -347,14 +349,14 @@ fn after_blank(place: Place) -> Place
             Some(ended) => Place::Header(HeaderPlace::Between(ended)),
             None => Place::Comment(false),
         },
-        Place::Spoilt => Place::Comment(false),
+        Place::WrongHeader => Place::Comment(false),
         Place::Over => Place::Over,
     }
 }
 
 /// Returns `true` if a header may still come on later lines.
-fn may_come(place: Place) -> bool
-    ensures { result ≡ may_come place }
+fn allows_header(place: Place) -> bool
+    ensures { result ≡ place_allows_header place }
 {
     match place {
         Place::Fresh(may) => may,
@@ -367,7 +369,7 @@ fn may_come(place: Place) -> bool
 impl Tokenizer {
     /// Returns a tokenizer positioned before the first byte of a text.
     pub fn new() -> Tokenizer
-        ensures { IsPositionedBefore result scan }
+        ensures { HasRemainingScan result scan }
     {
         Tokenizer {
             place: Place::Fresh(true),
@@ -389,14 +391,14 @@ impl Tokenizer {
     #[inline(always)]
     fn end_line(&mut self) -> Option<Token>
         ensures takes { ReceivesByte self.old 10 result self.new }
-        ensures ended { (after : List ℕ → Scan) → IsPositionedBefore self.new after → (after []).tokens ≡ [] }
-        ensures right { (after : List ℕ → Scan) → IsPositionedBefore self.new after → HasValidContinuation after }
+        ensures ended { (after : List ℕ → Scan) → HasRemainingScan self.new after → (after []).tokens ≡ [] }
+        ensures right { (after : List ℕ → Scan) → HasRemainingScan self.new after → HasValidContinuation after }
     {
         if let Place::Over = self.place {
             return None;
         }
         let token = token_in(self.place);
-        self.place = Place::Fresh(may_come(self.place));
+        self.place = Place::Fresh(allows_header(self.place));
         self.lines = self.lines.saturating_add(1);
         token
     }
@@ -410,17 +412,17 @@ impl Tokenizer {
         // Only a blank ends a word.
         ensures inside { is_blank byte ≡ false → result ≡ None }
         // After a blank, no word is unfinished. After an LF, no header line is unfinished.
-        ensures quiet { is_blank byte ≡ true → (after : List ℕ → Scan) → IsPositionedBefore self.new after
+        ensures quiet { is_blank byte ≡ true → (after : List ℕ → Scan) → HasRemainingScan self.new after
             → HasNoNumberOrLetter (after []) }
-        ensures ended { byte ≡ 10 → (after : List ℕ → Scan) → IsPositionedBefore self.new after → (after []).tokens ≡ [] }
+        ensures ended { byte ≡ 10 → (after : List ℕ → Scan) → HasRemainingScan self.new after → (after []).tokens ≡ [] }
         // After a blank, the text can still be continued to a valid one.
-        ensures right { is_blank byte ≡ true → (after : List ℕ → Scan) → IsPositionedBefore self.new after
+        ensures right { is_blank byte ≡ true → (after : List ℕ → Scan) → HasRemainingScan self.new after
             → HasValidContinuation after }
     {
         // Most bytes continue a number, so this place is tested first.
         if let Place::Digits { negative, value } = self.place {
             if is_digit(byte) {
-                self.place = number_goes_on(negative, value, byte);
+                self.place = number_continues(negative, value, byte);
                 return None;
             }
         }
@@ -442,7 +444,7 @@ impl Tokenizer {
     fn push_number(&mut self, bytes: &[u8]) -> Option<usize>
         ensures none { result ≡ None → self.new ≡ self.old }
         ensures within { IfSome result (λ n. (0 < n) × (n ≤ length bytes.now)) }
-        ensures takes { IfSome result (λ n. Follows IsPositionedBefore self.old (take n bytes.now) self.new) }
+        ensures takes { IfSome result (λ n. LeadsByBytes HasRemainingScan self.old (take n bytes.now) self.new) }
     {
         if !begins_word(self.place) {
             return None;
@@ -462,7 +464,7 @@ impl Tokenizer {
         // The effect is as if the bytes were pushed one by one: the last one ends the number.
         ensures takes { IfSome result (λ r.
             ReceivesPrefix self.old (take r.0 bytes.now) (Some (Token.Number r.1 r.2)) self.new) }
-        ensures right { (result ≡ None → ⊥) → (after : List ℕ → Scan) → IsPositionedBefore self.new after
+        ensures right { (result ≡ None → ⊥) → (after : List ℕ → Scan) → HasRemainingScan self.new after
             → HasValidContinuation after }
     {
         if !begins_word(self.place) {
@@ -494,7 +496,7 @@ impl Tokenizer {
         ensures some { 0 < result.0 }
         ensures within { result.0 ≤ length bytes.now }
         ensures takes { ReceivesPrefix self.old (take result.0 bytes.now) result.1 self.new }
-        ensures right { (result.1 ≡ None → ⊥) → (after : List ℕ → Scan) → IsPositionedBefore self.new after
+        ensures right { (result.1 ≡ None → ⊥) → (after : List ℕ → Scan) → HasRemainingScan self.new after
             → HasValidContinuation after }
     {
         let Some(count) = self.push_number(bytes) else {
@@ -512,12 +514,12 @@ impl Tokenizer {
     /// `-`, but `-0` only at its end, since it could continue as `-01`.
     #[inline(always)]
     pub fn is_wrong(&self) -> bool
-        ensures wrong { result ≡ true → (before : List ℕ → Scan) → IsPositionedBefore self.now before → HasNoValidContinuation before }
-        ensures right { result ≡ false → (before : List ℕ → Scan) → IsPositionedBefore self.now before → HasValidContinuation before }
+        ensures wrong { result ≡ true → (before : List ℕ → Scan) → HasRemainingScan self.now before → HasNoValidContinuation before }
+        ensures right { result ≡ false → (before : List ℕ → Scan) → HasRemainingScan self.now before → HasValidContinuation before }
     {
         match self.place {
             Place::Bad => true,
-            Place::Spoilt => true,
+            Place::WrongHeader => true,
             _ => false,
         }
     }
@@ -526,10 +528,10 @@ impl Tokenizer {
     /// follow are ignored, so that they need not be read. In that case, no token is unfinished.
     #[inline(always)]
     pub fn is_over(&self) -> bool
-        ensures over { result ≡ true → (before : List ℕ → Scan) → IsPositionedBefore self.now before → IgnoresRest before }
-        ensures goes_on { result ≡ false → (before : List ℕ → Scan) → IsPositionedBefore self.now before → IgnoresRest before
+        ensures over { result ≡ true → (before : List ℕ → Scan) → HasRemainingScan self.now before → IgnoresRest before }
+        ensures goes_on { result ≡ false → (before : List ℕ → Scan) → HasRemainingScan self.now before → IgnoresRest before
             → ⊥ }
-        ensures none { result ≡ true → (before : List ℕ → Scan) → IsPositionedBefore self.now before
+        ensures none { result ≡ true → (before : List ℕ → Scan) → HasRemainingScan self.now before
             → (before []).tokens ≡ [] }
     {
         matches!(self.place, Place::Over)
@@ -537,7 +539,7 @@ impl Tokenizer {
 
     /// Returns the token that is completed if the text ends here, or `None`.
     pub fn finish(&self) -> Option<Token>
-        ensures { (before : List ℕ → Scan) → IsPositionedBefore self.now before → GivesLast result (before []) }
+        ensures { (before : List ℕ → Scan) → HasRemainingScan self.now before → GivesTokenAtEnd result (before []) }
     {
         token_in(self.place)
     }
@@ -546,7 +548,7 @@ impl Tokenizer {
     /// is capped at 2^64-1. After the `%` that ends the text, it is the line of the `%`. The token that the last byte
     /// ended is on this line, and so is the token that `finish` returns.
     pub fn line(&self) -> u64
-        ensures { (before : List ℕ → Scan) → IsPositionedBefore self.now before → result ≡ capped (before []).last }
+        ensures { (before : List ℕ → Scan) → HasRemainingScan self.now before → result ≡ capped (before []).last }
     {
         match self.place {
             Place::Fresh(_) => self.lines,

@@ -1,7 +1,7 @@
 //! Variables, and optional variables that are packed into one number.
 ghost use Rattle.std.specs.Prelude.{◌≡◌, ◌+◌, ◌<◌, true, false, MatchOption, None, pos};
 ghost use Rattle.sat_base.specs.values.Literals.{mk_lit, var_limit};
-ghost use Rattle.sat_base.specs.values.Numerals.{IsNoVariable};
+ghost use Rattle.sat_base.specs.values.Numerals.{IsNotVariableNumber};
 
 use crate::Lit;
 use std::fmt;
@@ -58,7 +58,7 @@ impl Var {
     /// Returns the variable with this number in DIMACS, where variables are numbered from 1. Returns `None` if the
     /// number is below 1 or above 2^28.
     pub fn from_dimacs(number: i64) -> Option<Var>
-        ensures { MatchOption result (IsNoVariable number) (λ v. number ≡ pos (v + 1)) }
+        ensures { MatchOption result (IsNotVariableNumber number) (λ v. number ≡ pos (v + 1)) }
     {
         if number < 1 || number > MAX_COUNT as i64 {
             return None;

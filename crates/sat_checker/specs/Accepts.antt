@@ -8,36 +8,36 @@ use Rattle.sat_checker.specs.Propagation.{PassesCheck}
 use Rattle.sat_checker.specs.Stored.{Sample, Witness, Hide, Stored, nothing_stored, is_known, mode_of, name_of, is_unit, unit_literals, bucket}
 use Rattle.sat_checker.specs.Storing.{clause_with, irredundant_count, redundant_count, last_literals, with_stored, with_input, with_unit, with_units, with_conflict_settled, with_variable, with_known, with_literals_known, with_solver_name, without_variable, without_clause}
 
--- `PassesByHashes f clause hashes` holds if the clause passes the propagation check with the stored units and the
--- clauses that have these hashes.
+-- `PassesByHashes f clause hashes` holds if the clause passes the propagation check with the units of `f` and the
+-- buckets of these hashes, visited in order.
 abbrev pub PassesByHashes : Stored → List ℕ → List ℕ → Type 0
 PassesByHashes f clause hashes = PassesCheck (unit_literals f) clause (map (bucket f) hashes)
 
--- `MayGetName f v name` holds if variable `v` may get the name: no variable has the name, and `v` has no name and is
+-- `CanGetName f v name` holds if variable `v` may get the name: no variable has the name, and `v` has no name and is
 -- not hidden.
-pub record MayGetName (f : Stored) (v name : ℕ) : Type 0 where
+pub record CanGetName (f : Stored) (v name : ℕ) : Type 0 where
   pub free : (w : ℕ) → name_of w f ≢ Some name
   pub nameless : name_of v f ≡ None
   pub not_hidden : mode_of v f ≢ Hide
 
--- `MayBeDeleted f v` holds if variable `v` may be deleted: it is known and has no name, it is in no stored clause of
+-- `CanBeDeleted f v` holds if variable `v` may be deleted: it is known and has no name, it is in no stored clause of
 -- two or more literals, and it is not assumed.
-pub record MayBeDeleted (f : Stored) (v : ℕ) : Type 0 where
+pub record CanBeDeleted (f : Stored) (v : ℕ) : Type 0 where
   pub known : is_known v f ≡ true
   pub nameless : name_of v f ≡ None
   pub unused : list_any (λ c. mentions c.literals v) f.clauses ≡ false
   pub not_assumed : mentions f.assumed v ≡ false
 
--- `MayBeAdded f clause` holds if the clause may be added to the formula: unsat is recorded, or every variable of the
+-- `CanBeAdded f clause` holds if the clause may be added to the formula: unsat is recorded, or every variable of the
 -- clause has mode sample.
-abbrev pub MayBeAdded : Stored → List ℕ → Type 0
-MayBeAdded f clause = (f.unsat ≡ true) ⊎ AllByRecursion (λ l. mode_of (variable l) f ≡ Sample) clause
+abbrev pub CanBeAdded : Stored → List ℕ → Type 0
+CanBeAdded f clause = (f.unsat ≡ true) ⊎ AllByRecursion (λ l. mode_of (variable l) f ≡ Sample) clause
 
--- `PassInTurn f us` holds if every literal, as a unit clause, passes the check under its hash, once the literals before
--- it are stored as units. `us` has the literals, each with its hash.
-abbrev pub PassInTurn : Stored → List (ℕ × ℕ) → Type 0
-PassInTurn f [] = Unit {0}
-PassInTurn f (u ∷ us) = PassesByHashes f (u.0 ∷ []) (u.1 ∷ []) × PassInTurn (with_unit u.0 f) us
+-- `UnitsPassInTurn f us` holds if every literal of `us`, as a clause of one literal, passes the propagation check with
+-- the bucket of its hash, once the literals before it are stored as units. `us` has pairs of a literal and a hash.
+abbrev pub UnitsPassInTurn : Stored → List (ℕ × ℕ) → Type 0
+UnitsPassInTurn f [] = Unit {0}
+UnitsPassInTurn f (u ∷ us) = PassesByHashes f (u.0 ∷ []) (u.1 ∷ []) × UnitsPassInTurn (with_unit u.0 f) us
 
 -- `IsStrictSubset set clause` holds if `set` is not `None`, all its literals are in the clause, and some literal of the
 -- clause is not in it.
@@ -61,13 +61,13 @@ pub record FitsModel (f : Stored) (ls : List ℕ) : Type 0 where
 -- `Accepts f step` holds if the step is accepted when `f` is stored.
 abbrev pub Accepts : Stored → Step → Type 0
 Accepts f (SolverVarName v name) = Unit {0}
-Accepts f (UserVarName v (Some name)) = MayGetName f v name
+Accepts f (UserVarName v (Some name)) = CanGetName f v name
 Accepts f (UserVarName v None) = name_of v f ≢ None
-Accepts f (DeleteVar v) = MayBeDeleted f v
+Accepts f (DeleteVar v) = CanBeDeleted f v
 Accepts f (ChangeSamplingMode v sample) = is_known v f ≡ true
-Accepts f (AddClause clause) = MayBeAdded f clause
+Accepts f (AddClause clause) = CanBeAdded f clause
 Accepts f (AtClause redundant clause hashes) = PassesByHashes f clause hashes
-Accepts f (UnitClauses us) = PassInTurn f us
+Accepts f (UnitClauses us) = UnitsPassInTurn f us
 Accepts f (DeleteClause clause Redundant) = 0 < redundant_count (clause_with (canonical clause) f.clauses)
 Accepts f (DeleteClause clause Satisfied) =
     (0 < irredundant_count (clause_with (canonical clause) f.clauses)) × (list_any (is_unit f) clause ≡ true)
@@ -105,11 +105,12 @@ abbrev pub stored_after : List Step → Stored
 stored_after [] = nothing_stored
 stored_after (step ∷ earlier) = effect step (with_conflict_settled (stored_after earlier))
 
--- What is stored when the step after these is checked.
+-- What the step after these is checked against: what is stored after `steps`, the newest first, with a pending unit
+-- conflict settled.
 abbrev pub ready_after : List Step → Stored
 ready_after steps = with_conflict_settled (stored_after steps)
 
--- `AcceptsAll steps` holds if every step is accepted after the earlier ones.
+-- `AcceptsAll steps` holds if each of the steps, the newest first, is accepted after the steps before it.
 abbrev pub AcceptsAll : List Step → Type 0
 AcceptsAll [] = Unit {0}
 AcceptsAll (step ∷ earlier) = AcceptsAll earlier × Accepts (ready_after earlier) step

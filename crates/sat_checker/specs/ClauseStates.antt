@@ -11,11 +11,12 @@ pub data ClauseState : Type 0 where
   becomes_unit : ℕ → ClauseState
   neither : ClauseState
 
--- The literals of the clause that are not false.
+-- `not_false assumed clause` has the literals of the clause whose negations are not assumed, in order.
 abbrev pub not_false : List ℕ → List ℕ → List ℕ
 not_false assumed = filter (λ l. not (is_among assumed (negated l)))
 
--- The verdict on a clause, given its literals that are not false.
+-- `state_by_open assumed open` is the verdict on a clause when `open` has its literals that are not false: falsified if
+-- there are none, unit if there is one and it is not assumed, otherwise neither.
 abbrev pub state_by_open : List ℕ → List ℕ → ClauseState
 state_by_open assumed [] = falsified
 state_by_open assumed (l ∷ []) = if is_among assumed l then neither else becomes_unit l
@@ -26,7 +27,8 @@ state_by_open assumed (l ∷ m ∷ ls) = neither
 abbrev pub clause_state : List ℕ → List ℕ → ClauseState
 clause_state assumed clause = state_by_open assumed (not_false assumed clause)
 
--- The verdict that a result of the code represents.
+-- The verdict that a `Look` of the code represents: `Falsified`, `Opens l` (unit, with open literal `l`), or `Rests`
+-- (neither).
 abbrev pub clause_state_of : Look → ClauseState
 clause_state_of look.Falsified = falsified
 clause_state_of (look.Opens l) = becomes_unit l

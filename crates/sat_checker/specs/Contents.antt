@@ -4,15 +4,17 @@ use Rattle.std.specs.Prelude.{ℕ, ◌+◌, ◌-◌, ◌==◌, Bool, true, false
 use Rattle.sat_base.specs.values.Literals.{variable, negated}
 use Rattle.sat_base.specs.steps.Steps.{Redundant, Step, SolverVarName, UserVarName, DeleteVar, ChangeSamplingMode, AddClause, AtClause, UnitClauses, DeleteClause, ChangeHashBits, Model, Assumptions, FailedAssumptions, End}
 use Rattle.sat_checker.specs.LiteralSets.{is_among, is_tautology, canonical, same_literals}
-use Rattle.sat_checker.specs.Stored.{Sample, Witness, Hide, Variable, unknown, StoredClause, Stored, is_unit}
+use Rattle.sat_checker.specs.Stored.{Sample, Witness, Hide, Variable, initial_variable, StoredClause, Stored, is_unit}
 use Rattle.sat_checker.specs.Storing.{clause_with, irredundant_count, redundant_count}
 
--- The redundant (true) or the irredundant count of a clause, or 0 if the clause is not stored.
+-- `count_in true c` is the redundant count of the stored clause `c`, `count_in false c` its irredundant count. Both are
+-- 0 if `c` is `None`.
 abbrev pub count_in : Bool → Option StoredClause → ℕ
 count_in true c = redundant_count c
 count_in false c = irredundant_count c
 
--- How often a set of literals is stored, as redundant (true) or as irredundant.
+-- `count_of redundant set clauses` is how often the sorted set `set` of two or more literals is stored in `clauses`: as
+-- redundant if the flag is true, otherwise as irredundant. It is 0 if the set is not stored.
 abbrev pub count_of : Bool → List ℕ → List StoredClause → ℕ
 count_of redundant set clauses = count_in redundant (clause_with set clauses)
 
@@ -32,7 +34,8 @@ pub record Contents : Type 0 where
   pub ended : Bool
   pub var_deleted : Bool
 
--- The proof state of what is stored: counts by sets of literals, units by literals, the rest unchanged.
+-- The proof state of what is stored: counts by sets of literals, units by literals, and unsat, variables, solver names,
+-- width and assumptions unchanged.
 abbrev pub stored_state : Stored → ProofState
 stored_state f = record {
   counts = λ redundant set. count_of redundant set f.clauses;
@@ -44,87 +47,91 @@ stored_state f = record {
   assumed = f.assumed;
 }
 
--- The contents of what is stored.
+-- The `Contents` of what is stored: its proof state, whether the proof has ended, and whether a variable was deleted.
 abbrev pub contents : Stored → Contents
 contents f = record { state = stored_state f; ended = f.ended; var_deleted = f.var_deleted }
 
--- `same_side a b` is true if the two flags are equal.
-abbrev pub same_side : Bool → Bool → Bool
-same_side true redundant = redundant
-same_side false redundant = not redundant
+-- `same_flag a b` is true if the two flags are equal.
+abbrev pub same_flag : Bool → Bool → Bool
+same_flag true redundant = redundant
+same_flag false redundant = not redundant
 
 -- `n` plus 1 if the flag is true.
-abbrev pub more_if : Bool → ℕ → ℕ
-more_if b n = if b then n + 1 else n
+abbrev pub plus_one_if : Bool → ℕ → ℕ
+plus_one_if b n = if b then n + 1 else n
 
 -- `n` minus 1 if the flag is true.
-abbrev pub less_if : Bool → ℕ → ℕ
-less_if b n = if b then n - 1 else n
+abbrev pub minus_one_if : Bool → ℕ → ℕ
+minus_one_if b n = if b then n - 1 else n
 
--- The state with one more count of this set, as redundant (true) or as irredundant.
-abbrev pub one_more : Bool → List ℕ → ProofState → ProofState
-one_more redundant set c = record c { counts = λ r other. more_if (same_side redundant r && same_literals set other) (c.counts r other) }
+-- The state in which the sorted set is stored once more, as redundant if the flag is true, otherwise as irredundant.
+abbrev pub with_one_count : Bool → List ℕ → ProofState → ProofState
+with_one_count redundant set c = record c { counts = λ r other. plus_one_if (same_flag redundant r && same_literals set other) (c.counts r other) }
 
--- The state with one fewer count of this set, as redundant (true) or as irredundant.
-abbrev pub one_less : Bool → List ℕ → ProofState → ProofState
-one_less redundant set c = record c { counts = λ r other. less_if (same_side redundant r && same_literals set other) (c.counts r other) }
+-- The state in which the sorted set is stored once less, as redundant if the flag is true, otherwise as irredundant. A
+-- count of 0 stays 0.
+abbrev pub without_one_count : Bool → List ℕ → ProofState → ProofState
+without_one_count redundant set c = record c { counts = λ r other. minus_one_if (same_flag redundant r && same_literals set other) (c.counts r other) }
 
--- The state after a unit is added: unchanged if the unit is stored already; unsat is recorded if its negation is
--- stored.
-abbrev pub unit_more : ℕ → ProofState → ProofState
-unit_more l c = if c.units l then c else (if c.units (negated l) then record c { unsat = true } else record c { units = λ m. l == m || c.units m })
+-- The state after the unit of literal `l` is added. It is unchanged if the unit is stored already; if its negation is
+-- stored, only unsat is recorded.
+abbrev pub with_unit_in_state : ℕ → ProofState → ProofState
+with_unit_in_state l c = if c.units l then c else (if c.units (negated l) then record c { unsat = true } else record c { units = λ m. l == m || c.units m })
 
 -- The state after these units are added, from left to right.
-abbrev pub units_more : List ℕ → ProofState → ProofState
-units_more [] c = c
-units_more (l ∷ ls) c = units_more ls (unit_more l c)
+abbrev pub with_units_in_state : List ℕ → ProofState → ProofState
+with_units_in_state [] c = c
+with_units_in_state (l ∷ ls) c = with_units_in_state ls (with_unit_in_state l c)
 
--- The state after a sorted set of literals is added as a clause.
-abbrev pub set_more : Bool → List ℕ → ProofState → ProofState
-set_more redundant [] c = record c { unsat = true }
-set_more redundant (l ∷ []) c = unit_more l c
-set_more redundant (l ∷ m ∷ ls) c = one_more redundant (l ∷ m ∷ ls) c
+-- The state after a sorted set of literals is added as a clause: the empty set records unsat, one literal is added as a
+-- unit, and a longer set gets one more count, redundant if the flag is true, otherwise irredundant.
+abbrev pub with_set_in_state : Bool → List ℕ → ProofState → ProofState
+with_set_in_state redundant [] c = record c { unsat = true }
+with_set_in_state redundant (l ∷ []) c = with_unit_in_state l c
+with_set_in_state redundant (l ∷ m ∷ ls) c = with_one_count redundant (l ∷ m ∷ ls) c
 
--- The state after a clause is added; a tautology changes nothing.
-abbrev pub clause_more : Bool → List ℕ → ProofState → ProofState
-clause_more redundant clause c = if is_tautology clause then c else set_more redundant (canonical clause) c
+-- The state after a clause, in any order and with repeats, is added as redundant (true) or as irredundant; a tautology
+-- changes nothing.
+abbrev pub with_clause_in_state : Bool → List ℕ → ProofState → ProofState
+with_clause_in_state redundant clause c = if is_tautology clause then c else with_set_in_state redundant (canonical clause) c
 
--- The state in which a variable has this data.
-abbrev pub variable_set : ℕ → Variable → ProofState → ProofState
-variable_set v x c = record c { variables = λ w. if w == v then x else c.variables w }
+-- The state in which variable `v` has the data `x`: whether it is known, its mode, and its name.
+abbrev pub with_variable_in_state : ℕ → Variable → ProofState → ProofState
+with_variable_in_state v x c = record c { variables = λ w. if w == v then x else c.variables w }
 
--- The state in which these variables are also known.
-abbrev pub known_more : List ℕ → ProofState → ProofState
-known_more vs c = record c { variables = λ v. if is_among vs v then record (c.variables v) { known = true } else c.variables v }
+-- The state in which the variables `vs` are also known; their modes and names are unchanged.
+abbrev pub with_known_in_state : List ℕ → ProofState → ProofState
+with_known_in_state vs c = record c { variables = λ v. if is_among vs v then record (c.variables v) { known = true } else c.variables v }
 
 -- The state in which the variables of these literals are also known.
-abbrev pub literals_known : List ℕ → ProofState → ProofState
-literals_known ls = known_more (map variable ls)
+abbrev pub with_literals_known_in_state : List ℕ → ProofState → ProofState
+with_literals_known_in_state ls = with_known_in_state (map variable ls)
 
--- The state in which a variable has this solver name, or none.
-abbrev pub solver_name_set : ℕ → Option ℕ → ProofState → ProofState
-solver_name_set v name c = record c { solver_names = λ w. if w == v then name else c.solver_names w }
+-- The state in which variable `v` has the solver name `name`, or none if `name` is `None`.
+abbrev pub with_solver_name_in_state : ℕ → Option ℕ → ProofState → ProofState
+with_solver_name_in_state v name c = record c { solver_names = λ w. if w == v then name else c.solver_names w }
 
--- The state in which a variable has no unit and is unknown.
-abbrev pub variable_less : ℕ → ProofState → ProofState
-variable_less v c = record (variable_set v unknown c) { units = λ l. c.units l && not (variable l == v) }
+-- The state after variable `v` is deleted: it is unknown, has mode sample, no name and no unit. Its solver name is
+-- unchanged.
+abbrev pub without_variable_in_state : ℕ → ProofState → ProofState
+without_variable_in_state v c = record (with_variable_in_state v initial_variable c) { units = λ l. c.units l && not (variable l == v) }
 
 -- The proof state after a step, whether or not the step is accepted.
 abbrev pub state_after : Step → ProofState → ProofState
-state_after (SolverVarName v None) c = solver_name_set v None c
-state_after (SolverVarName v (Some name)) c = solver_name_set v (Some name) (known_more (v ∷ []) c)
-state_after (UserVarName v (Some name)) c = variable_set v (record (c.variables v) { known = true; name = Some name }) c
-state_after (UserVarName v None) c = variable_set v (record (c.variables v) { mode = Hide; name = None }) c
-state_after (DeleteVar v) c = variable_less v c
-state_after (ChangeSamplingMode v sample) c = variable_set v (record (c.variables v) { mode = (if sample then Sample else Witness) }) c
-state_after (AddClause clause) c = if c.unsat then c else clause_more false clause (literals_known clause c)
-state_after (AtClause redundant clause hashes) c = clause_more redundant clause (literals_known clause c)
-state_after (UnitClauses us) c = let ls : List ℕ = map (λ u. u.0) us in units_more ls (literals_known ls c)
-state_after (DeleteClause clause Redundant) c = one_less true (canonical clause) c
-state_after (DeleteClause clause proof) c = one_less false (canonical clause) c
+state_after (SolverVarName v None) c = with_solver_name_in_state v None c
+state_after (SolverVarName v (Some name)) c = with_solver_name_in_state v (Some name) (with_known_in_state (v ∷ []) c)
+state_after (UserVarName v (Some name)) c = with_variable_in_state v (record (c.variables v) { known = true; name = Some name }) c
+state_after (UserVarName v None) c = with_variable_in_state v (record (c.variables v) { mode = Hide; name = None }) c
+state_after (DeleteVar v) c = without_variable_in_state v c
+state_after (ChangeSamplingMode v sample) c = with_variable_in_state v (record (c.variables v) { mode = (if sample then Sample else Witness) }) c
+state_after (AddClause clause) c = if c.unsat then c else with_clause_in_state false clause (with_literals_known_in_state clause c)
+state_after (AtClause redundant clause hashes) c = with_clause_in_state redundant clause (with_literals_known_in_state clause c)
+state_after (UnitClauses us) c = let ls : List ℕ = map (λ u. u.0) us in with_units_in_state ls (with_literals_known_in_state ls c)
+state_after (DeleteClause clause Redundant) c = without_one_count true (canonical clause) c
+state_after (DeleteClause clause proof) c = without_one_count false (canonical clause) c
 state_after (ChangeHashBits bits) c = record c { width = bits }
-state_after (Model ls) c = literals_known ls c
-state_after (Assumptions ls) c = record (literals_known ls c) { assumed = ls }
+state_after (Model ls) c = with_literals_known_in_state ls c
+state_after (Assumptions ls) c = record (with_literals_known_in_state ls c) { assumed = ls }
 state_after (FailedAssumptions core hashes) c = c
 state_after End c = c
 
@@ -134,7 +141,7 @@ empty_state = record {
   counts = λ redundant set. 0;
   units = λ l. false;
   unsat = false;
-  variables = λ v. unknown;
+  variables = λ v. initial_variable;
   solver_names = λ v. None;
   width = 64;
   assumed = [];
@@ -150,11 +157,11 @@ abbrev pub deleted_after : Step → Bool → Bool
 deleted_after (DeleteVar v) deleted = true
 deleted_after step deleted = deleted
 
--- The contents after a step.
+-- The contents `c` after a step, whether or not the step is accepted.
 abbrev pub contents_after : Step → Contents → Contents
 contents_after step c = record { state = state_after step c.state; ended = ended_after step c.ended; var_deleted = deleted_after step c.var_deleted }
 
--- The contents after steps, of which the newest comes first.
+-- The contents after these steps, of which the newest comes first, whether or not they are accepted.
 abbrev pub contents_of : List Step → Contents
 contents_of [] = record { state = empty_state; ended = false; var_deleted = false }
 contents_of (step ∷ earlier) = contents_after step (contents_of earlier)

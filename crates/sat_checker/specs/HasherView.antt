@@ -7,6 +7,6 @@ use Rattle.sat_checker.specs.declared.hash.ClauseHasher.{ClauseHasher}
 abbrev pub solver_name_of : ClauseHasher → ℕ → Option ℕ
 solver_name_of h v = value_at None h.solver_names v
 
--- The number of bits of a clause's hash.
+-- The width at which the hasher computes hashes, in bits.
 abbrev pub width_of : ClauseHasher → ℕ
 width_of h = h.bits

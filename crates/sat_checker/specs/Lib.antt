@@ -16,7 +16,7 @@ pub mod ProofView
 pub mod FewBytes
 pub mod ClausesView
 pub mod DimacsView
-pub mod Leading
+pub mod ConflictPropagation
 pub mod Contents
 pub mod Invariants
 pub mod Laws

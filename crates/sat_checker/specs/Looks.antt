@@ -10,20 +10,21 @@ abbrev pub total_length : List (List ℕ) → ℕ
 total_length [] = 0
 total_length (c ∷ cs) = length c + total_length cs
 
--- The number of literals of stored clauses.
-abbrev pub literal_count : Stored → ℕ
-literal_count f = total_length (long_clauses f)
+-- The number of literals of all stored clauses of two or more literals, each clause taken once, whatever its counts.
+abbrev pub stored_literal_count : Stored → ℕ
+stored_literal_count f = total_length (long_clauses f)
 
--- The number of hashes that a step contains.
-abbrev pub hashes_named : Step → ℕ
-hashes_named (AtClause redundant clause hashes) = length hashes
-hashes_named (UnitClauses us) = length us
-hashes_named (FailedAssumptions core hashes) = length hashes
-hashes_named step = 0
+-- The number of hashes that a step contains, one for each unit of a `UnitClauses` step.
+abbrev pub hash_count : Step → ℕ
+hash_count (AtClause redundant clause hashes) = length hashes
+hash_count (UnitClauses us) = length us
+hash_count (FailedAssumptions core hashes) = length hashes
+hash_count step = 0
 
--- The bound on the looks of a step: five passes over all stored literals, and two more for every hash in the step.
+-- The bound on the looks of a step when `f` is stored before it: five passes over all stored literals, and two more for
+-- every hash in the step.
 abbrev pub most_looks : Stored → Step → ℕ
-most_looks f step = (5 + 2 * hashes_named step) * literal_count f
+most_looks f step = (5 + 2 * hash_count step) * stored_literal_count f
 
 -- The bound on the looks of a list of steps, the newest first.
 abbrev pub most_looks_of : List Step → ℕ

@@ -17,7 +17,7 @@ pub record IsUnit (assumed clause : List ℕ) (open_literal : ℕ) : Type 0 wher
   pub others : AllByRecursion (λ l. (l ≡ open_literal) ⊎ (is_among assumed (negated l) ≡ true)) clause
 
 -- `UnitInTurn assumed clauses` holds if every clause but the last is unit once the open literals of earlier clauses are
--- assumed, and the last clause is then falsified.
+-- assumed as well, and the last clause is then falsified. There is at least one clause.
 abbrev pub UnitInTurn : List ℕ → List (List ℕ) → Type 0
 UnitInTurn assumed [] = ⊥
 UnitInTurn assumed (clause ∷ []) = IsFalsified assumed clause
@@ -35,8 +35,8 @@ abbrev pub clauses_in : List (List (List ℕ)) → List (List ℕ)
 clauses_in [] = []
 clauses_in (b ∷ bs) = b ++ clauses_in bs
 
--- `BucketsConflict assumed buckets` holds if some clauses of the first buckets, none of which is empty, are unit in
--- turn, and the last of them is falsified.
+-- `BucketsConflict assumed buckets` holds if some clauses of the first buckets are unit in turn, in the order given,
+-- and the last of them is falsified. None of these first buckets is empty; later buckets do not matter.
 pub record BucketsConflict (assumed : List ℕ) (buckets : List (List (List ℕ))) : Type 0 where
   pub first : List (List (List ℕ))
   pub rest : List (List (List ℕ))
@@ -46,8 +46,8 @@ pub record BucketsConflict (assumed : List ℕ) (buckets : List (List (List ℕ)
   pub chosen : IsSubsequence picked (clauses_in first)
   pub conflict : UnitInTurn assumed picked
 
--- `PassesCheck units clause buckets` holds if the clause passes the check with these units and the buckets of a step:
--- it has both signs of a variable, or a unit satisfies it, or the buckets lead to a conflict.
+-- `PassesCheck units clause buckets` holds if the clause has both signs of a variable, or one of its literals is a
+-- unit, or the negated clause and the units lead to a conflict with clauses of the buckets, visited in order.
 pub data PassesCheck (units clause : List ℕ) (buckets : List (List (List ℕ))) : Type 0 where
   tautology : is_tautology clause ≡ true → PassesCheck units clause buckets
   unit_true : list_any (is_among units) clause ≡ true → PassesCheck units clause buckets

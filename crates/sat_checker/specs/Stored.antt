@@ -2,7 +2,7 @@
 use Rattle.std.specs.Prelude.{ℕ, ◌+◌, ◌-◌, ◌*◌, ◌/◌, ◌%◌, ◌^◌, ◌==◌, ◌≡◌, ◌⊎◌, Bool, true, false, Option, None, unwrap_or, List, [], map, filter}
 use Rattle.std.specs.List.{AllByRecursion}
 use Rattle.sat_base.specs.values.Literals.{variable}
-use Rattle.sat_base.specs.values.Clauses.{Valuation, clause_true, EachTrue}
+use Rattle.sat_base.specs.values.Clauses.{Valuation, clause_true, AllLitsTrue}
 use Rattle.sat_base.specs.values.Hashes.{hash_of}
 use Rattle.sat_checker.specs.LiteralSets.{is_among}
 
@@ -32,15 +32,15 @@ pub record Variable : Type 0 where
   pub name : Option ℕ
 
 -- The initial data of every variable: not known, with mode sample, and without a name.
-abbrev pub unknown : Variable
-unknown = record { known = false; mode = Sample; name = None }
+abbrev pub initial_variable : Variable
+initial_variable = record { known = false; mode = Sample; name = None }
 
 -- The last irredundant clause stored: none yet, or the id of an empty clause, a unit or a longer clause.
-pub data Last : Type 0 where
-  NoneYet : Last
-  Empty : ℕ → Last
-  UnitClause : ℕ → Last
-  LongClause : ℕ → Last
+pub data LastIrredundant : Type 0 where
+  NoneYet : LastIrredundant
+  Empty : ℕ → LastIrredundant
+  UnitClause : ℕ → LastIrredundant
+  LongClause : ℕ → LastIrredundant
 
 -- What is stored after accepted steps: clauses, units and variables, and some records.
 pub record Stored : Type 0 where
@@ -52,7 +52,7 @@ pub record Stored : Type 0 where
   pub solver_names : ℕ → Option ℕ  -- by variable, known or not
   pub width : ℕ  -- of the hashes that steps name, in bits
   pub assumed : List ℕ
-  pub last : Last
+  pub last : LastIrredundant
   pub next_id : ℕ
   pub ended : Bool
   pub var_deleted : Bool
@@ -64,7 +64,7 @@ nothing_stored = record {
   units = [];
   unsat = false;
   conflict = None;
-  variables = λ v. unknown;
+  variables = λ v. initial_variable;
   solver_names = λ v. None;
   width = 64;
   assumed = [];
@@ -94,25 +94,26 @@ unit_literals f = map (λ u. u.literal) f.units
 abbrev pub is_unit : Stored → ℕ → Bool
 is_unit f = is_among (unit_literals f)
 
--- The literal with its variable's solver name, or itself if there is none.
+-- The literal `l` with its variable replaced by the variable's solver name, by `names`; `l` itself if there is none.
 abbrev pub solver_literal : (ℕ → Option ℕ) → ℕ → ℕ
 solver_literal names l = 2 * unwrap_or (names (variable l)) (variable l) + l % 2
 
--- The top `width` bits of a clause's 64-bit hash, computed with solver names.
-abbrev pub hash_by : (ℕ → Option ℕ) → ℕ → List ℕ → ℕ
-hash_by names width clause = hash_of (map (solver_literal names) clause) / 2 ^ (64 - width)
+-- The top `width` bits of the 64-bit hash of a clause whose variables are replaced by their solver names, by `names`.
+abbrev pub clause_hash_by : (ℕ → Option ℕ) → ℕ → List ℕ → ℕ
+clause_hash_by names width clause = hash_of (map (solver_literal names) clause) / 2 ^ (64 - width)
 
--- The literals of every clause of two literals or more.
+-- The literals of every stored clause of two or more literals, in order of ids.
 abbrev pub long_clauses : Stored → List (List ℕ)
 long_clauses f = map (λ c. c.literals) f.clauses
 
--- The literals of the clauses with one hash, in order of ids.
+-- The bucket of a hash: the literals of all stored clauses of two or more literals that have this hash at the current
+-- width, in order of ids.
 abbrev pub bucket : Stored → ℕ → List (List ℕ)
-bucket f hash = filter (λ c. hash_by f.solver_names f.width c == hash) (long_clauses f)
+bucket f hash = filter (λ c. clause_hash_by f.solver_names f.width c == hash) (long_clauses f)
 
 -- `Satisfies f a` holds if the valuation satisfies every unit and every clause with an irredundant count, and unsat is
 -- not recorded.
 pub record Satisfies (f : Stored) (a : Valuation) : Type 0 where
   pub consistent : f.unsat ≡ false
   pub kept : AllByRecursion (λ c. (c.irredundant ≡ 0) ⊎ (clause_true a c.literals ≡ true)) f.clauses
-  pub units : EachTrue a (unit_literals f)
+  pub units : AllLitsTrue a (unit_literals f)

@@ -2,8 +2,8 @@ pub mod Marks
 pub mod Clashes
 pub mod AssumedRoom
 pub mod Walk
-pub mod Look
-pub mod Looking
+pub mod WalkResults
+pub mod LookCounts
 pub mod PairView
 pub mod LinkView
 pub mod SlotView

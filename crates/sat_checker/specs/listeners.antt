@@ -5,4 +5,4 @@ pub mod ProcessingView
 pub mod PendingView
 pub mod AnnouncingView
 pub mod NotedView
-pub mod Hearing
+pub mod Receiving

@@ -5,12 +5,12 @@ ghost use Rattle.sat_base.specs.steps.StepViews.{step_of};
 ghost use Rattle.sat_checker.specs.Stored.{is_known, name_of};
 ghost use Rattle.sat_checker.specs.Accepts.{ready_after};
 ghost use Rattle.sat_checker.specs.KernelView as kernels;
-ghost use Rattle.sat_checker.specs.KernelView.{kernel_has_failed, kernel_looks, LooksAtMost, HasAccepted};
-ghost use Rattle.sat_checker.specs.CheckerView.{kernel_of, seen_of, looks_of, added_listeners, AddsListener};
-ghost use Rattle.sat_checker.specs.CheckerView.{ChecksStep, ChecksDelayed, ChecksClause};
+ghost use Rattle.sat_checker.specs.KernelView.{kernel_has_failed, kernel_looks, LooksAtMost, KernelHasAccepted};
+ghost use Rattle.sat_checker.specs.CheckerView.{kernel_of, view_of, looks_of, added_listeners, AddListenerResult};
+ghost use Rattle.sat_checker.specs.CheckerView.{StepResult, SettlingResult, AddClauseResult};
 ghost use Rattle.sat_checker.specs.CheckerView.{FaultNeedsListener, FailsAgain};
 ghost use Rattle.sat_checker.specs.declared.error.CheckerError.TheVariants.{HasFailed};
-ghost use Rattle.sat_checker.specs.listeners.ProcessingView.{HearsEach};
+ghost use Rattle.sat_checker.specs.listeners.ProcessingView.{EachListenerReceives};
 
 mod dimacs;
 mod formula;
@@ -38,9 +38,9 @@ pub struct Checker<P: ProofProcessor = Nobody, T: ProofTranscriptProcessor = Nob
 impl Checker<Nobody, Nobody> {
     /// Creates a checker that has no listeners and has accepted no steps yet. Never allocates.
     pub fn new(alloc: Global) -> Checker<Nobody, Nobody>
-        ensures valid { HasAccepted (kernel_of result) [] }
+        ensures valid { KernelHasAccepted (kernel_of result) [] }
         ensures goes_on { kernel_has_failed (kernel_of result) ≡ false }
-        ensures settled { kernels.KernelIsSettled (kernel_of result) }
+        ensures settled { kernels.KernelHasNoPendingConflict (kernel_of result) }
         ensures looks { kernel_looks (kernel_of result) ≡ 0 }
         ensures listeners { added_listeners result ≡ record { processors = []; transcripts = [] } }
     {
@@ -50,7 +50,7 @@ impl Checker<Nobody, Nobody> {
     /// Checks the next step, and accepts it if it passes. Gives the same verdict as `self_check_step`, but notifies no
     /// listeners and returns a smaller error.
     pub fn accept_step(&mut self, step: &ProofStep<'_>) -> Result<(), StepRefusal>
-        ensures judges { kernels.ChecksStep (kernels.answer_of result)
+        ensures correct { kernels.KernelStepResult (kernels.step_result_of result)
             (kernel_of self.old) (step_of step.now) (kernel_of self.new) }
         ensures looks { LooksAtMost (kernel_of self.old) (step_of step.now) (kernel_of self.new) }
         ensures rise { kernel_looks (kernel_of self.old) ≤ kernel_looks (kernel_of self.new) }
@@ -64,9 +64,9 @@ impl<P: ProofProcessor, T: ProofTranscriptProcessor> Checker<P, T> {
     /// Creates a checker, as `new` does, for processors of type `P` and transcripts of type `T`. The checker has no
     /// listeners yet.
     pub fn notifying(alloc: Global) -> Checker<P, T>
-        ensures valid { HasAccepted (kernel_of result) [] }
+        ensures valid { KernelHasAccepted (kernel_of result) [] }
         ensures goes_on { kernel_has_failed (kernel_of result) ≡ false }
-        ensures settled { kernels.KernelIsSettled (kernel_of result) }
+        ensures settled { kernels.KernelHasNoPendingConflict (kernel_of result) }
         ensures looks { kernel_looks (kernel_of result) ≡ 0 }
         ensures listeners { added_listeners result ≡ record { processors = []; transcripts = [] } }
     {
@@ -79,9 +79,9 @@ impl<P: ProofProcessor, T: ProofTranscriptProcessor> Checker<P, T> {
     /// Creates a checker, as `notifying` does, with `listeners`, which another checker may have returned. Both lists
     /// keep their order.
     pub fn with_listeners(alloc: Global, listeners: Processors<P, T>) -> Checker<P, T>
-        ensures valid { HasAccepted (kernel_of result) [] }
+        ensures valid { KernelHasAccepted (kernel_of result) [] }
         ensures goes_on { kernel_has_failed (kernel_of result) ≡ false }
-        ensures settled { kernels.KernelIsSettled (kernel_of result) }
+        ensures settled { kernels.KernelHasNoPendingConflict (kernel_of result) }
         ensures looks { kernel_looks (kernel_of result) ≡ 0 }
         ensures listeners { added_listeners result
             ≡ record { processors = listeners.processors.items; transcripts = listeners.transcripts.items } }
@@ -95,7 +95,7 @@ impl<P: ProofProcessor, T: ProofTranscriptProcessor> Checker<P, T> {
     /// Adds a processor, which is notified of all announcements from now on. If memory runs out, the processor is
     /// dropped, and the checker fails.
     pub fn add_processor(&mut self, processor: P) -> Result<(), CheckerError>
-        ensures { AddsListener result (kernel_of self.old) (kernel_of self.new)
+        ensures { AddListenerResult result (kernel_of self.old) (kernel_of self.new)
             (added_listeners self.old) (added_listeners self.new)
             (record (added_listeners self.old) {
               processors = (added_listeners self.old).processors ++ processor ∷ [];
@@ -114,7 +114,7 @@ impl<P: ProofProcessor, T: ProofTranscriptProcessor> Checker<P, T> {
     /// Adds a transcript, which is notified of all transcript steps from now on. If memory runs out, the transcript is
     /// dropped, and the checker fails.
     pub fn add_transcript(&mut self, transcript: T) -> Result<(), CheckerError>
-        ensures { AddsListener result (kernel_of self.old) (kernel_of self.new)
+        ensures { AddListenerResult result (kernel_of self.old) (kernel_of self.new)
             (added_listeners self.old) (added_listeners self.new)
             (record (added_listeners self.old) {
               transcripts = (added_listeners self.old).transcripts ++ transcript ∷ [];
@@ -144,10 +144,10 @@ impl<P: ProofProcessor, T: ProofTranscriptProcessor> Checker<P, T> {
     /// Adds a clause of the formula. Unless unsat is recorded, refuses a clause that contains a hidden variable or a
     /// witness variable. A refused clause changes nothing.
     pub fn add_clause(&mut self, clause: &[Lit]) -> Result<(), CheckerError>
-        ensures checks { ChecksClause (HearsEach P.takes T.reads)
-            result (seen_of self.old) clause.now (seen_of self.new) }
+        ensures checks { AddClauseResult (EachListenerReceives P.takes T.reads)
+            result (view_of self.old) clause.now (view_of self.new) }
         ensures looks { LooksAtMost (kernel_of self.old) (AddClause clause.now) (kernel_of self.new) }
-        ensures rise { looks_of (seen_of self.old) ≤ looks_of (seen_of self.new) }
+        ensures rise { looks_of (view_of self.old) ≤ looks_of (view_of self.new) }
         ensures faults { FaultNeedsListener result self.old }
         ensures failed { FailsAgain HasFailed result self.old self.new }
     {
@@ -162,9 +162,9 @@ impl<P: ProofProcessor, T: ProofTranscriptProcessor> Checker<P, T> {
 
     /// Checks the next step, and accepts it if it passes.
     fn check_step(&mut self, step: &ProofStep<'_>) -> Result<(), CheckerError>
-        ensures judges { kernels.ChecksStep result (kernel_of self.old) (step_of step.now) (kernel_of self.new) }
-        ensures notifies { ChecksStep (HearsEach P.takes T.reads)
-            result (seen_of self.old) (step_of step.now) (seen_of self.new) }
+        ensures correct { kernels.KernelStepResult result (kernel_of self.old) (step_of step.now) (kernel_of self.new) }
+        ensures notifies { StepResult (EachListenerReceives P.takes T.reads)
+            result (view_of self.old) (step_of step.now) (view_of self.new) }
         ensures looks { LooksAtMost (kernel_of self.old) (step_of step.now) (kernel_of self.new) }
         ensures rise { kernel_looks (kernel_of self.old) ≤ kernel_looks (kernel_of self.new) }
         ensures faults { FaultNeedsListener result self.old }
@@ -178,7 +178,7 @@ impl<P: ProofProcessor, T: ProofTranscriptProcessor> Checker<P, T> {
     /// Returns `true` if unsat is recorded: the checker has an empty clause or a unit conflict, so the accepted steps
     /// rule out every valuation.
     pub fn unsat(&self) -> bool
-        ensures { (steps : List Step) → HasAccepted (kernel_of self.now) steps → result ≡ (ready_after steps).unsat }
+        ensures { (steps : List Step) → KernelHasAccepted (kernel_of self.now) steps → result ≡ (ready_after steps).unsat }
     {
         self.kernel.records.unsat
     }
@@ -186,21 +186,21 @@ impl<P: ProofProcessor, T: ProofTranscriptProcessor> Checker<P, T> {
     /// Returns `true` if no unit conflict is pending. `self_check_delayed_steps` gives the empty clause of a pending
     /// conflict an id.
     pub fn is_settled(&self) -> bool
-        ensures { IsTrue result ↔ kernels.KernelIsSettled (kernel_of self.now) }
+        ensures { IsTrue result ↔ kernels.KernelHasNoPendingConflict (kernel_of self.now) }
     {
         self.kernel.state.formula.status.conflict.is_none()
     }
 
     /// Returns `true` if `End` has been accepted.
     pub fn ended(&self) -> bool
-        ensures { (steps : List Step) → HasAccepted (kernel_of self.now) steps → result ≡ (ready_after steps).ended }
+        ensures { (steps : List Step) → KernelHasAccepted (kernel_of self.now) steps → result ≡ (ready_after steps).ended }
     {
         self.kernel.records.ended
     }
 
     /// Returns `true` if a `DeleteVar` has been accepted.
     pub fn var_deleted(&self) -> bool
-        ensures { (steps : List Step) → HasAccepted (kernel_of self.now) steps → result ≡ (ready_after steps).var_deleted }
+        ensures { (steps : List Step) → KernelHasAccepted (kernel_of self.now) steps → result ≡ (ready_after steps).var_deleted }
     {
         self.kernel.records.var_deleted
     }
@@ -208,14 +208,14 @@ impl<P: ProofProcessor, T: ProofTranscriptProcessor> Checker<P, T> {
     /// Returns the user's name for a variable, if it has one after the accepted steps. This works even after the
     /// checker has failed.
     pub fn user_name(&self, var: Var) -> Option<Var>
-        ensures { (steps : List Step) → HasAccepted (kernel_of self.now) steps → result ≡ name_of var (ready_after steps) }
+        ensures { (steps : List Step) → KernelHasAccepted (kernel_of self.now) steps → result ≡ name_of var (ready_after steps) }
     {
         self.kernel.state.variables.data(var).name.get()
     }
 
     /// Returns `true` if the variable is known after the accepted steps. This works even after the checker has failed.
     pub fn knows(&self, var: Var) -> bool
-        ensures { (steps : List Step) → HasAccepted (kernel_of self.now) steps → result ≡ is_known var (ready_after steps) }
+        ensures { (steps : List Step) → KernelHasAccepted (kernel_of self.now) steps → result ≡ is_known var (ready_after steps) }
     {
         self.kernel.state.variables.data(var).known
     }
@@ -229,19 +229,19 @@ impl<P: ProofProcessor, T: ProofTranscriptProcessor> Checker<P, T> {
 }
 
 impl<P: ProofProcessor, T: ProofTranscriptProcessor> SelfChecker for Checker<P, T> {
-    ghost checks = { λ c step r d. kernels.ChecksStep r (kernel_of c) step (kernel_of d)
+    ghost checks = { λ c step r d. kernels.KernelStepResult r (kernel_of c) step (kernel_of d)
         × LooksAtMost (kernel_of c) step (kernel_of d)
-        × ChecksStep (HearsEach P.takes T.reads) r (seen_of c) step (seen_of d) };
+        × StepResult (EachListenerReceives P.takes T.reads) r (view_of c) step (view_of d) };
 
-    ghost settles = { λ c r d. kernels.ChecksDelayed r (kernel_of c) (kernel_of d)
-        × ChecksDelayed (HearsEach P.takes T.reads) r (seen_of c) (seen_of d) };
+    ghost settles = { λ c r d. kernels.KernelSettlingResult r (kernel_of c) (kernel_of d)
+        × SettlingResult (EachListenerReceives P.takes T.reads) r (view_of c) (view_of d) };
 
     fn self_check_step(&mut self, step: &ProofStep<'_>) -> Result<(), CheckerError>
-        ensures judges { kernels.ChecksStep result (kernel_of self.old) (step_of step.now) (kernel_of self.new) }
+        ensures correct { kernels.KernelStepResult result (kernel_of self.old) (step_of step.now) (kernel_of self.new) }
         ensures looks { LooksAtMost (kernel_of self.old) (step_of step.now) (kernel_of self.new) }
         ensures rise { kernel_looks (kernel_of self.old) ≤ kernel_looks (kernel_of self.new) }
-        ensures notifies { ChecksStep (HearsEach P.takes T.reads)
-            result (seen_of self.old) (step_of step.now) (seen_of self.new) }
+        ensures notifies { StepResult (EachListenerReceives P.takes T.reads)
+            result (view_of self.old) (step_of step.now) (view_of self.new) }
         ensures faults { FaultNeedsListener result self.old }
         ensures failed { FailsAgain HasFailed result self.old self.new }
     {
@@ -249,9 +249,9 @@ impl<P: ProofProcessor, T: ProofTranscriptProcessor> SelfChecker for Checker<P, 
     }
 
     fn self_check_delayed_steps(&mut self) -> Result<(), CheckerError>
-        ensures judges { kernels.ChecksDelayed result (kernel_of self.old) (kernel_of self.new) }
-        ensures notifies { ChecksDelayed (HearsEach P.takes T.reads)
-            result (seen_of self.old) (seen_of self.new) }
+        ensures correct { kernels.KernelSettlingResult result (kernel_of self.old) (kernel_of self.new) }
+        ensures notifies { SettlingResult (EachListenerReceives P.takes T.reads)
+            result (view_of self.old) (view_of self.new) }
         ensures faults { FaultNeedsListener result self.old }
         ensures failed { FailsAgain HasFailed result self.old self.new }
     {

@@ -35,9 +35,9 @@ pub enum CheckerError {
 
 impl From<StoreError> for CheckerError {
     ghost use Rattle.std.specs.Prelude.{◌≡◌};
-    ghost use Rattle.sat_checker.specs.inner.NotifyingSteps.{failure_of};
+    ghost use Rattle.sat_checker.specs.inner.NotifyingSteps.{error_of_store};
 
-    ghost from_gives = { λ s e. e ≡ failure_of s };
+    ghost from_gives = { λ s e. e ≡ error_of_store s };
 
     fn from(error: StoreError) -> CheckerError {
         match error {

@@ -6,28 +6,32 @@ ghost use Rattle.sat_base.specs.steps.Steps.{DeleteClause, Redundant, Satisfied,
 ghost use Rattle.sat_base.specs.steps.StepViews.{deletion_of};
 ghost use Rattle.std.specs.List.{list_any};
 ghost use Rattle.sat_base.specs.values.Literals.{negated};
-ghost use Rattle.sat_checker.specs.inner.Looking.{LooksOver};
+ghost use Rattle.sat_checker.specs.inner.LookCounts.{LooksOver};
 ghost use Rattle.sat_checker.specs.inner.ModelTests.{are_all_true};
 ghost use Rattle.sat_checker.specs.LiteralSets.{canonical, is_among, is_tautology};
-ghost use Rattle.sat_checker.specs.Accepts.{PassesByHashes, PassInTurn, IsStrictSubset, FitsModel, VariablesDistinct};
+ghost use Rattle.sat_checker.specs.Accepts.{PassesByHashes, UnitsPassInTurn, IsStrictSubset, FitsModel};
+ghost use Rattle.sat_checker.specs.Accepts.{VariablesDistinct};
 ghost use Rattle.sat_checker.specs.Stored.{Stored, nothing_stored};
-ghost use Rattle.sat_checker.specs.Looks.{literal_count};
+ghost use Rattle.sat_checker.specs.Looks.{stored_literal_count};
 ghost use Rattle.sat_checker.specs.Storing.{with_conflict_settled, with_unit, with_contradiction, with_canonical};
 ghost use Rattle.sat_checker.specs.Storing.{with_stored};
 ghost use Rattle.sat_checker.specs.Storing.{with_input, with_units, last_literals, without_variable};
-ghost use Rattle.sat_checker.specs.announcements.Announcements.{derived, derived_set, derived_units, id_of_set};
+ghost use Rattle.sat_checker.specs.announcements.Announcements.{announced_derived, announced_derived_set};
+ghost use Rattle.sat_checker.specs.announcements.Announcements.{announced_derived_units, id_of_set};
 ghost use Rattle.sat_checker.specs.announcements.Needed.{propagations};
 ghost use Rattle.sat_checker.specs.inner.Reasons.{noted_length};
-ghost use Rattle.sat_checker.specs.inner.StoreView.{TakesCount, with_less};
+ghost use Rattle.sat_checker.specs.inner.StoreView.{RemovesCountOrRefuses, with_count_removed};
 ghost use Rattle.sat_checker.specs.inner.Marks.{IsIncreasing};
 ghost use Rattle.sat_checker.specs.declared.store.StoreError.TheVariants.{CounterEnd};
-ghost use Rattle.sat_checker.specs.inner.FormulaView.{RepresentsFormula, rehashed_in, ChecksAs, ChecksBeside};
+ghost use Rattle.sat_checker.specs.inner.FormulaView.{RepresentsFormula, rehashed_in, HasCheckData};
+ghost use Rattle.sat_checker.specs.inner.FormulaView.{DiffersInNotesAndRoom};
 ghost use Rattle.sat_checker.specs.inner.FormulaView.{FormulaEffect};
-ghost use Rattle.sat_checker.specs.inner.FormulaView.{FormulaEffectIf, DeletionEffect, DeletesAs, Explained};
-ghost use Rattle.sat_checker.specs.inner.InTurn.{PassAfter};
+ghost use Rattle.sat_checker.specs.inner.FormulaView.{DecidesChange, DeletionEffect, DeletionIsAccepted};
+ghost use Rattle.sat_checker.specs.inner.FormulaView.{NotesExplainCheck};
+ghost use Rattle.sat_checker.specs.inner.InTurn.{OtherUnitsPassInTurn};
 ghost use Rattle.sat_checker.specs.inner.AssumedRoom.{signed, HasClauseRoom};
-ghost use Rattle.sat_checker.specs.listeners.AnnouncingView.{stored_as, AreLong};
-ghost use Rattle.sat_checker.specs.listeners.NotedView.{AppendsAnnouncements, ChangesSet};
+ghost use Rattle.sat_checker.specs.listeners.AnnouncingView.{announced_change, HasNoStoredUnitClause};
+ghost use Rattle.sat_checker.specs.listeners.NotedView.{AppendsAnnouncements, ChangeIsAnnounced};
 
 pub(crate) mod in_room;
 
@@ -74,33 +78,33 @@ impl Formula {
     #[inline(always)]
     pub fn rehash_if_needed(&mut self, looks: &mut Looks)
         ensures kept { (f : Stored) → RepresentsFormula (rehashed_in self.old) f → RepresentsFormula self.new f }
-        ensures looks { LooksOver (RepresentsFormula (rehashed_in self.old)) literal_count looks.old looks.new }
+        ensures looks { LooksOver (RepresentsFormula (rehashed_in self.old)) stored_literal_count looks.old looks.new }
     {
         self.store.rehash_if_needed(looks);
     }
 
     /// Checks the clause that consists of `literals`, or of their negations if `negate` is true, by propagation over
     /// the clauses with the hashes in `hashes`. Returns `true` if it passes. The result does not depend on the ids of
-    /// clauses and units. If `hears` is true, the notes on the check are kept for a listener.
+    /// clauses and units. If `listening` is true, the notes on the check are kept for a listener.
     pub fn check(
         &mut self,
         literals: &[Lit],
         negate: bool,
         hashes: &[ClauseHash],
-        hears: bool,
+        listening: bool,
         looks: &mut Looks,
     ) -> Result<bool, AllocError>
-        ensures exact { IfOk result (λ passes. (f : Stored) → ChecksAs self.old f
+        ensures exact { IfOk result (λ passes. (f : Stored) → HasCheckData self.old f
             → IsTrue passes ↔ PassesByHashes f (signed negate literals.now) hashes.now) }
         // Memory does not run out, because there is room for the literals of all stored clauses.
-        ensures short { OnErr result ((f : Stored) → ChecksAs self.old f → ⊥) }
-        ensures rest { ChecksBeside self.old self.new }
-        ensures looks { LooksOver (ChecksAs self.old) (λ f. length hashes.now * literal_count f) looks.old looks.new }
+        ensures short { OnErr result ((f : Stored) → HasCheckData self.old f → ⊥) }
+        ensures rest { DiffersInNotesAndRoom self.old self.new }
+        ensures looks { LooksOver (HasCheckData self.old) (λ f. length hashes.now * stored_literal_count f) looks.old looks.new }
         ensures explained { IfOk result (λ passes. IsTrue passes → self.new.passed.lost ≡ false
-            → Explained self.new (signed negate literals.now) hashes.now) }
+            → NotesExplainCheck self.new (signed negate literals.now) hashes.now) }
         ensures read { IfOk result (λ _. noted_length self.new.store.clauses self.new.passed + looks.old ≤ looks.new) }
     {
-        self.passed.listen(hears);
+        self.passed.listen(listening);
         self.units.check_clause(
             &self.store,
             literals,
@@ -127,7 +131,7 @@ impl Formula {
     /// Stores the literal `lit` as a unit. After an error, the units are unchanged.
     pub fn store_unit_clause(&mut self, lit: Lit) -> Result<(), StoreError>
         ensures stored { FormulaEffect result self.old (with_unit lit) self.new }
-        ensures kept { OnErr result ((f : Stored) → ChecksAs self.old f → ChecksAs self.new f) }
+        ensures kept { OnErr result ((f : Stored) → HasCheckData self.old f → HasCheckData self.new f) }
     {
         if self.units.is_unit(lit) {
             return Ok(());
@@ -143,7 +147,7 @@ impl Formula {
     /// Gives an id to a unit whose negation is stored, and records unsat and a unit conflict.
     fn store_contradiction(&mut self, lit: Lit) -> Result<(), StoreError>
         ensures stored { FormulaEffect result self.old (with_contradiction lit) self.new }
-        ensures kept { OnErr result ((f : Stored) → ChecksAs self.old f → ChecksAs self.new f) }
+        ensures kept { OnErr result ((f : Stored) → HasCheckData self.old f → HasCheckData self.new f) }
     {
         let stored = self.units.id(!lit);
         let id = self.status.take_id()?;
@@ -155,7 +159,7 @@ impl Formula {
     /// Stores an empty clause, which always counts as new. Returns what this changes.
     fn store_empty(&mut self, redundant: bool) -> Result<StoreClauseResult, StoreError>
         ensures stored { FormulaEffect result self.old (with_canonical redundant []) self.new }
-        ensures change { ChangesSet result redundant [] self.old }
+        ensures change { ChangeIsAnnounced result redundant [] self.old }
     {
         let id = self.status.take_id()?;
         self.status.unsat = true;
@@ -166,7 +170,7 @@ impl Formula {
     /// Stores a clause of one literal. Returns what this changes.
     fn store_single(&mut self, redundant: bool, lit: Lit) -> Result<StoreClauseResult, StoreError>
         ensures stored { FormulaEffect result self.old (with_canonical redundant (lit ∷ [])) self.new }
-        ensures change { ChangesSet result redundant (lit ∷ []) self.old }
+        ensures change { ChangeIsAnnounced result redundant (lit ∷ []) self.old }
     {
         let change = self.unit_change(lit);
         self.store_unit_clause(lit)?;
@@ -193,7 +197,7 @@ impl Formula {
     fn make_room(&mut self, literals: &[Lit]) -> Result<(), AllocError>
         ensures room { OnOk result ((f : Stored) → RepresentsFormula self.old f
             → HasClauseRoom self.new.units.room literals.now × HasClauseRoom self.new.marks.room literals.now) }
-        ensures rest { ChecksBeside self.old self.new }
+        ensures rest { DiffersInNotesAndRoom self.old self.new }
     {
         for lit in literals {
             if self.store.clauses.have_literal(*lit) {
@@ -209,7 +213,7 @@ impl Formula {
     fn make_new_room(&mut self, literals: &[Lit]) -> Result<(), AllocError>
         ensures room { OnOk result
             (HasClauseRoom self.new.units.room literals.now × HasClauseRoom self.new.marks.room literals.now) }
-        ensures rest { ChecksBeside self.old self.new }
+        ensures rest { DiffersInNotesAndRoom self.old self.new }
     {
         self.units.make_room_for(literals)?;
         make_room_for(&mut self.marks, literals)
@@ -225,8 +229,8 @@ impl Formula {
         requires increasing { IsIncreasing literals.now }
         requires long { 2 ≤ length literals.now }
         ensures stored { FormulaEffect result self.old (with_canonical redundant literals.now) self.new }
-        ensures change { ChangesSet result redundant literals.now self.old }
-        ensures looks { LooksOver (RepresentsFormula self.old) literal_count looks.old looks.new }
+        ensures change { ChangeIsAnnounced result redundant literals.now self.old }
+        ensures looks { LooksOver (RepresentsFormula self.old) stored_literal_count looks.old looks.new }
     {
         self.make_room(literals)?;
         let id = self.status.next_id;
@@ -249,8 +253,8 @@ impl Formula {
     ) -> Result<StoreClauseResult, StoreError>
         requires { IsIncreasing literals.now }
         ensures stored { FormulaEffect result self.old (with_canonical redundant literals.now) self.new }
-        ensures change { ChangesSet result redundant literals.now self.old }
-        ensures looks { LooksOver (RepresentsFormula self.old) literal_count looks.old looks.new }
+        ensures change { ChangeIsAnnounced result redundant literals.now self.old }
+        ensures looks { LooksOver (RepresentsFormula self.old) stored_literal_count looks.old looks.new }
     {
         if literals.is_empty() {
             return self.store_empty(redundant);
@@ -271,10 +275,10 @@ impl Formula {
         requires { IsIncreasing literals.now }
         ensures stored { (clause : List ℕ) → literals.now ≡ canonical clause
             → FormulaEffect result self.old (with_stored redundant clause) self.new }
-        ensures change { IfOk result (λ change. (f : Stored) → RepresentsFormula self.old f → AreLong f → (ids : List ℕ)
-            → stored_as change f.next_id redundant literals.now ids ≡ (if is_tautology literals.now then []
-            else derived_set redundant literals.now ids f (id_of_set literals.now f))) }
-        ensures looks { LooksOver (RepresentsFormula self.old) literal_count looks.old looks.new }
+        ensures change { IfOk result (λ change. (f : Stored) → RepresentsFormula self.old f → HasNoStoredUnitClause f → (ids : List ℕ)
+            → announced_change change f.next_id redundant literals.now ids ≡ (if is_tautology literals.now then []
+            else announced_derived_set redundant literals.now ids f (id_of_set literals.now f))) }
+        ensures looks { LooksOver (RepresentsFormula self.old) stored_literal_count looks.old looks.new }
     {
         if has_both_signs(literals) {
             return Ok(StoreClauseResult::Duplicate);
@@ -288,7 +292,7 @@ impl Formula {
         requires { IsIncreasing literals.now }
         ensures stored { (clause : List ℕ) → literals.now ≡ canonical clause
             → FormulaEffect result self.old (with_input clause) self.new }
-        ensures looks { LooksOver (RepresentsFormula self.old) literal_count looks.old looks.new }
+        ensures looks { LooksOver (RepresentsFormula self.old) stored_literal_count looks.old looks.new }
     {
         let id = self.status.next_id;
         self.store_clause(false, literals, looks)?;
@@ -308,11 +312,11 @@ impl Formula {
         requires { IsIncreasing literals.now }
         ensures stored { (clause : List ℕ) → literals.now ≡ canonical clause
             → FormulaEffect result self.old (with_stored redundant clause) self.new }
-        ensures noted { OnOk result ((f : Stored) (clause hashes : List ℕ) → RepresentsFormula self.old f → AreLong f
+        ensures noted { OnOk result ((f : Stored) (clause hashes : List ℕ) → RepresentsFormula self.old f → HasNoStoredUnitClause f
             → literals.now ≡ canonical clause
-            → (IsTrue notes.old.hears → notes.old.rests_on.ids.items ≡ propagations f clause hashes)
-            → AppendsAnnouncements notes.old (derived redundant clause hashes f) notes.new) }
-        ensures looks { LooksOver (RepresentsFormula self.old) literal_count looks.old looks.new }
+            → (IsTrue notes.old.listening → notes.old.rests_on.ids.items ≡ propagations f clause hashes)
+            → AppendsAnnouncements notes.old (announced_derived redundant clause hashes f) notes.new) }
+        ensures looks { LooksOver (RepresentsFormula self.old) stored_literal_count looks.old looks.new }
     {
         let id = self.status.next_id;
         let change = self.store_clause(redundant, literals, looks)?;
@@ -330,13 +334,13 @@ impl Formula {
         looks: &mut Looks,
     ) -> Result<bool, StoreError>
         ensures decides { (f : Stored) → RepresentsFormula self.old f
-            → FormulaEffectIf result (PassesByHashes f (lit ∷ []) (hash ∷ [])) (RepresentsFormula self.new (with_unit lit f))
+            → DecidesChange result (PassesByHashes f (lit ∷ []) (hash ∷ [])) (RepresentsFormula self.new (with_unit lit f))
             (with_unit lit f) }
-        ensures kept { OnErr result ((f : Stored) → ChecksAs self.old f → ChecksAs self.new f) }
-        ensures noted { IfOk result (λ passes. IsTrue passes → (f : Stored) → RepresentsFormula self.old f → AreLong f
-            → AppendsAnnouncements notes.old (derived false (lit ∷ []) (hash ∷ []) f) notes.new) }
-        ensures hears { notes.new.hears ≡ notes.old.hears }
-        ensures looks { LooksOver (RepresentsFormula self.old) (λ f. 2 * literal_count f) looks.old looks.new }
+        ensures kept { OnErr result ((f : Stored) → HasCheckData self.old f → HasCheckData self.new f) }
+        ensures noted { IfOk result (λ passes. IsTrue passes → (f : Stored) → RepresentsFormula self.old f → HasNoStoredUnitClause f
+            → AppendsAnnouncements notes.old (announced_derived false (lit ∷ []) (hash ∷ []) f) notes.new) }
+        ensures listening { notes.new.listening ≡ notes.old.listening }
+        ensures looks { LooksOver (RepresentsFormula self.old) (λ f. 2 * stored_literal_count f) looks.old looks.new }
     {
         if !self.check(&[lit], false, &[hash], notes.has_listener(), looks)? {
             return Ok(false);
@@ -352,11 +356,11 @@ impl Formula {
         units: &[(Lit, ClauseHash)],
         looks: &mut Looks,
     ) -> Result<bool, AllocError>
-        ensures exact { IfOk result (λ pass. (f : Stored) → ChecksAs self.old f
-            → IsTrue pass ↔ PassAfter f units.now) }
-        ensures short { OnErr result ((f : Stored) → ChecksAs self.old f → ⊥) }
-        ensures looks { LooksOver (ChecksAs self.old)
-            (λ f. (length units.now - 1) * literal_count f) looks.old looks.new }
+        ensures exact { IfOk result (λ pass. (f : Stored) → HasCheckData self.old f
+            → IsTrue pass ↔ OtherUnitsPassInTurn f units.now) }
+        ensures short { OnErr result ((f : Stored) → HasCheckData self.old f → ⊥) }
+        ensures looks { LooksOver (HasCheckData self.old)
+            (λ f. (length units.now - 1) * stored_literal_count f) looks.old looks.new }
     {
         self.units
             .pass_in_turn(&self.store, units, &mut self.passed, looks)
@@ -369,12 +373,12 @@ impl Formula {
         units: &[(Lit, ClauseHash)],
         looks: &mut Looks,
     ) -> Result<bool, StoreError>
-        ensures exact { (f : Stored) → ChecksAs self.old f → MatchResult result
-            (λ passes. (passes ≡ false) × (PassAfter f units.now → ⊥))
-            (λ e. (e ≡ fault) × PassAfter f units.now) }
+        ensures exact { (f : Stored) → HasCheckData self.old f → MatchResult result
+            (λ passes. (passes ≡ false) × (OtherUnitsPassInTurn f units.now → ⊥))
+            (λ e. (e ≡ fault) × OtherUnitsPassInTurn f units.now) }
         ensures never { IfOk result (λ passes. passes ≡ false) }
-        ensures looks { LooksOver (ChecksAs self.old)
-            (λ f. (length units.now - 1) * literal_count f) looks.old looks.new }
+        ensures looks { LooksOver (HasCheckData self.old)
+            (λ f. (length units.now - 1) * stored_literal_count f) looks.old looks.new }
     {
         if !self.pass_in_turn(units, looks)? {
             return Ok(false);
@@ -390,12 +394,12 @@ impl Formula {
         looks: &mut Looks,
     ) -> Result<bool, StoreError>
         ensures decides { (f : Stored) → RepresentsFormula self.old f
-            → FormulaEffectIf result (PassInTurn f units.now) (RepresentsFormula self.new (with_units (map (λ u. u.0) units.now) f))
+            → DecidesChange result (UnitsPassInTurn f units.now) (RepresentsFormula self.new (with_units (map (λ u. u.0) units.now) f))
             (with_units (map (λ u. u.0) units.now) f) }
-        ensures noted { IfOk result (λ passes. IsTrue passes → (f : Stored) → RepresentsFormula self.old f → AreLong f
-            → AppendsAnnouncements notes.old (derived_units units.now f) notes.new) }
+        ensures noted { IfOk result (λ passes. IsTrue passes → (f : Stored) → RepresentsFormula self.old f → HasNoStoredUnitClause f
+            → AppendsAnnouncements notes.old (announced_derived_units units.now f) notes.new) }
         ensures looks { LooksOver (RepresentsFormula self.old)
-            (λ f. length units.now * (2 * literal_count f)) looks.old looks.new }
+            (λ f. length units.now * (2 * stored_literal_count f)) looks.old looks.new }
     {
         for place in 0..units.len() {
             let unit = units[place];
@@ -416,8 +420,8 @@ impl Formula {
     /// this count is zero.
     fn take_count(&mut self, redundant: bool, literals: &[Lit], looks: &mut Looks) -> bool
         ensures decides { (f : Stored) → RepresentsFormula self.old f
-            → TakesCount result redundant literals.now f (RepresentsFormula self.new (with_less redundant literals.now f)) }
-        ensures looks { LooksOver (RepresentsFormula self.old) literal_count looks.old looks.new }
+            → RemovesCountOrRefuses result redundant literals.now f (RepresentsFormula self.new (with_count_removed redundant literals.now f)) }
+        ensures looks { LooksOver (RepresentsFormula self.old) stored_literal_count looks.old looks.new }
     {
         self.store.delete_clause(redundant, literals, looks)
     }
@@ -425,13 +429,13 @@ impl Formula {
     /// Drops the removed clauses from memory if there are many. If memory runs out, all clauses are kept.
     pub fn compact(&mut self, looks: &mut Looks) -> Result<(), AllocError>
         ensures kept { (f : Stored) → RepresentsFormula self.old f → RepresentsFormula self.new f }
-        ensures looks { LooksOver (RepresentsFormula self.old) literal_count looks.old looks.new }
+        ensures looks { LooksOver (RepresentsFormula self.old) stored_literal_count looks.old looks.new }
     {
         self.store.compact(looks)
     }
 
     /// Deletes a clause for the reason `proof`. Returns `true` if the deletion is allowed. `literals` must be the
-    /// sorted literals of `clause`.
+    /// literals of `clause`, sorted and without repeats.
     pub fn delete(
         &mut self,
         clause: &[Lit],
@@ -441,7 +445,7 @@ impl Formula {
     ) -> bool
         requires { literals.now ≡ canonical clause.now }
         ensures decides { DeletionEffect result self.old (DeleteClause clause.now (deletion_of proof)) self.new }
-        ensures looks { LooksOver (RepresentsFormula self.old) (λ f. 2 * literal_count f) looks.old looks.new }
+        ensures looks { LooksOver (RepresentsFormula self.old) (λ f. 2 * stored_literal_count f) looks.old looks.new }
     {
         match proof {
             DeleteClauseProof::Redundant => self.delete_redundant(clause, literals, looks),
@@ -450,23 +454,23 @@ impl Formula {
         }
     }
 
-    /// Deletes a redundant clause whose literals are in any order, if there is no listener and the clause is the
-    /// first with its hash. Returns `true` if it is deleted. Otherwise, no clause changes.
+    /// Deletes a redundant clause whose literals are not in increasing order, if there is no listener, `proof` is
+    /// `Redundant`, and `delete_marked` can delete it. Returns `true` if it is deleted. Otherwise, no clause changes.
     #[inline(always)]
     pub fn delete_given(
         &mut self,
         clause: &[Lit],
         proof: DeleteClauseProof,
-        hears: bool,
+        listening: bool,
         looks: &mut Looks,
     ) -> bool
         ensures decides { (f : Stored) → RepresentsFormula self.old f → MatchBool result
-            (DeletesAs self.new f (DeleteClause clause.now (deletion_of proof))) (RepresentsFormula self.new f) }
-        ensures looks { LooksOver (RepresentsFormula self.old) literal_count looks.old looks.new }
-        ensures quiet { hears ≡ true → looks.new ≡ looks.old }
-        ensures unheard { result ≡ true → hears ≡ false }
+            (DeletionIsAccepted self.new f (DeleteClause clause.now (deletion_of proof))) (RepresentsFormula self.new f) }
+        ensures looks { LooksOver (RepresentsFormula self.old) stored_literal_count looks.old looks.new }
+        ensures quiet { listening ≡ true → looks.new ≡ looks.old }
+        ensures unannounced { result ≡ true → listening ≡ false }
     {
-        if hears || is_strictly_increasing(clause) {
+        if listening || is_strictly_increasing(clause) {
             return false;
         }
         match proof {
@@ -479,8 +483,8 @@ impl Formula {
     /// repeat. Returns `true` if it is deleted. Otherwise, no clause changes.
     fn delete_marked(&mut self, clause: &[Lit], looks: &mut Looks) -> bool
         ensures decides { (f : Stored) → RepresentsFormula self.old f → MatchBool result
-            (DeletesAs self.new f (DeleteClause clause.now Redundant)) (RepresentsFormula self.new f) }
-        ensures looks { LooksOver (RepresentsFormula self.old) literal_count looks.old looks.new }
+            (DeletionIsAccepted self.new f (DeleteClause clause.now Redundant)) (RepresentsFormula self.new f) }
+        ensures looks { LooksOver (RepresentsFormula self.old) stored_literal_count looks.old looks.new }
     {
         if !self.mark_distinct(clause) {
             return false;
@@ -492,7 +496,7 @@ impl Formula {
     /// marks all of them, and then no other literal is marked.
     fn mark_distinct(&mut self, clause: &[Lit]) -> bool
         ensures marked { result ≡ true → self.new.marks.literals ≡ reverse clause.now }
-        ensures rest { ChecksBeside self.old self.new }
+        ensures rest { DiffersInNotesAndRoom self.old self.new }
     {
         self.marks.undo_to(0);
         assume_distinct(&mut self.marks, clause)
@@ -502,7 +506,7 @@ impl Formula {
     fn delete_redundant(&mut self, clause: &[Lit], literals: &[Lit], looks: &mut Looks) -> bool
         requires { literals.now ≡ canonical clause.now }
         ensures decides { DeletionEffect result self.old (DeleteClause clause.now Redundant) self.new }
-        ensures looks { LooksOver (RepresentsFormula self.old) literal_count looks.old looks.new }
+        ensures looks { LooksOver (RepresentsFormula self.old) stored_literal_count looks.old looks.new }
     {
         self.take_count(true, literals, looks)
     }
@@ -511,7 +515,7 @@ impl Formula {
     fn delete_satisfied(&mut self, clause: &[Lit], literals: &[Lit], looks: &mut Looks) -> bool
         requires { literals.now ≡ canonical clause.now }
         ensures decides { DeletionEffect result self.old (DeleteClause clause.now Satisfied) self.new }
-        ensures looks { LooksOver (RepresentsFormula self.old) literal_count looks.old looks.new }
+        ensures looks { LooksOver (RepresentsFormula self.old) stored_literal_count looks.old looks.new }
     {
         if !self.units.has_any(clause) {
             return false;
@@ -526,7 +530,7 @@ impl Formula {
         ensures part { (f : Stored) → RepresentsFormula self.now f
             → MatchBool result (IsStrictSubset (last_literals f.last f) literals.now)
             (IsStrictSubset (last_literals f.last f) literals.now → ⊥) }
-        ensures looks { LooksOver (RepresentsFormula self.now) literal_count looks.old looks.new }
+        ensures looks { LooksOver (RepresentsFormula self.now) stored_literal_count looks.old looks.new }
     {
         match self.status.last {
             LastClause::NoneYet => false,
@@ -546,7 +550,7 @@ impl Formula {
     fn delete_simplified(&mut self, clause: &[Lit], literals: &[Lit], looks: &mut Looks) -> bool
         requires { literals.now ≡ canonical clause.now }
         ensures decides { DeletionEffect result self.old (DeleteClause clause.now Simplified) self.new }
-        ensures looks { LooksOver (RepresentsFormula self.old) (λ f. 2 * literal_count f) looks.old looks.new }
+        ensures looks { LooksOver (RepresentsFormula self.old) (λ f. 2 * stored_literal_count f) looks.old looks.new }
     {
         if !self.has_last_within(literals, looks) {
             return false;

@@ -1,6 +1,6 @@
 //! The hashes by which steps name stored clauses.
 ghost use Rattle.std.specs.Prelude.{ℕ, ◌≡◌, ◌/◌, ◌-◌, ◌^◌, ◌==◌, None, OnOk, if◌then◌else◌};
-ghost use Rattle.sat_checker.specs.Stored.{solver_literal, hash_by};
+ghost use Rattle.sat_checker.specs.Stored.{solver_literal, clause_hash_by};
 ghost use Rattle.sat_checker.specs.HasherView.{solver_name_of, width_of};
 ghost use Rattle.sat_checker.specs.inner.PairView.{mixed};
 
@@ -74,7 +74,7 @@ impl ClauseHasher {
     /// Returns the hash of a clause over the solver's names, at the current width.
     #[tactic(auto, using(crate::proofs::lemmas::sets::Hashing::hash_next))]
     pub fn clause_hash(&self, lits: &[Lit]) -> ClauseHash
-        ensures { result ≡ hash_by (solver_name_of self.now) (width_of self.now) lits.now }
+        ensures { result ≡ clause_hash_by (solver_name_of self.now) (width_of self.now) lits.now }
     {
         let mut hash = 0;
         for lit in lits {

@@ -2,18 +2,21 @@
 ghost use Rattle.std.specs.Prelude.{List, ◌≤◌, ◌≡◌, true, false, [], None, Ok, Err, OnOk, IsTrue, MatchResult};
 ghost use Rattle.sat_base.specs.steps.StepViews.{step_of};
 ghost use Rattle.sat_checker.specs.KernelView as kernels;
-ghost use Rattle.sat_checker.specs.KernelView.{step_error, kernel_has_failed, kernel_looks, HasAccepted};
-ghost use Rattle.sat_checker.specs.CheckerView.{seen, ChecksStep, ChecksDelayed};
+ghost use Rattle.sat_checker.specs.KernelView.{step_error, kernel_has_failed, kernel_looks, KernelHasAccepted};
+ghost use Rattle.sat_checker.specs.CheckerView.{checker_view, StepResult, SettlingResult};
 ghost use Rattle.sat_checker.specs.announcements.Announcements.{Notice};
-ghost use Rattle.sat_checker.specs.inner.NotifyingSteps.{announced_by, changed_by, put_back, was_of, failure_of};
-ghost use Rattle.sat_checker.specs.inner.NotifyingSteps.{fault_of};
-ghost use Rattle.sat_checker.specs.inner.NotifyingSteps.{records_in, IsUnmovedByNotices, NotifiesAndKeepsState};
+ghost use Rattle.sat_checker.specs.inner.NotifyingSteps.{notices_with, changed_by, with_earlier_data, earlier_data_of};
+ghost use Rattle.sat_checker.specs.inner.NotifyingSteps.{error_of_store};
+ghost use Rattle.sat_checker.specs.inner.NotifyingSteps.{error_of_fault};
+ghost use Rattle.sat_checker.specs.inner.NotifyingSteps.{records_of_status, AcceptsNoticesUnchanged};
+ghost use Rattle.sat_checker.specs.inner.NotifyingSteps.{NotifiesAndKeepsState};
 ghost use Rattle.sat_checker.specs.inner.VariablesView.{variable_at};
 ghost use Rattle.sat_checker.specs.listeners.AnnouncementView.{variables_of};
-ghost use Rattle.sat_checker.specs.listeners.Hearing.{hearers, HearsAll, HearsFirst, HearsUpTo};
-ghost use Rattle.sat_checker.specs.listeners.ProcessingView.{listeners_of, HearsEach};
+ghost use Rattle.sat_checker.specs.listeners.Receiving.{call_listeners, ReceivesAll, OwnReceivesFirst};
+ghost use Rattle.sat_checker.specs.listeners.Receiving.{ReceivesUpToFault};
+ghost use Rattle.sat_checker.specs.listeners.ProcessingView.{listeners_of, EachListenerReceives};
 
-use crate::announce::announcement::{CheckedProofStep, CheckerData, Was};
+use crate::announce::announcement::{CheckedProofStep, CheckerData, EarlierData};
 use crate::announce::notes::Notes;
 use crate::announce::pending::PendingAnnouncements;
 use crate::announce::transcript::ProofTranscriptProcessor;
@@ -30,7 +33,7 @@ use thiserror::Error;
 
 /// Returns the checker's error for an error that occurred while listeners were being notified.
 fn fault(error: ProcessingError) -> CheckerError
-    ensures { result ≡ fault_of error }
+    ensures { result ≡ error_of_fault error }
 {
     match error {
         ProcessingError::OutOfMemory => CheckerError::OutOfMemory,
@@ -42,10 +45,10 @@ fn fault(error: ProcessingError) -> CheckerError
 
 /// Returns the variable whose name or mode the step may change, with its current data. Returns `None` if there is no
 /// such variable, or no listener.
-fn changed(variables: &Variables, step: &ProofStep<'_>, hears: bool) -> Option<Was>
-    ensures { IsTrue hears → was_of result ≡ changed_by (variable_at variables.now) (step_of step.now) }
+fn changed(variables: &Variables, step: &ProofStep<'_>, listening: bool) -> Option<EarlierData>
+    ensures { IsTrue listening → earlier_data_of result ≡ changed_by (variable_at variables.now) (step_of step.now) }
 {
-    if !hears {
+    if !listening {
         return None;
     }
     match *step {
@@ -53,7 +56,7 @@ fn changed(variables: &Variables, step: &ProofStep<'_>, hears: bool) -> Option<W
         | ProofStep::DeleteVar { var }
         | ProofStep::ChangeSamplingMode { var, .. } => {
             let data = variables.data(var);
-            Some(Was { var, data })
+            Some(EarlierData { var, data })
         }
         ProofStep::SolverVarName { .. }
         | ProofStep::AddClause { .. }
@@ -87,10 +90,10 @@ fn notify_pending<O: ProofProcessor, P: ProofProcessor, T: ProofTranscriptProces
     own: &mut O,
     others: &mut Processing<P, T>,
 ) -> Result<(), ProcessingError>
-    ensures { MatchResult result (λ _. HearsAll (HearsFirst O.takes (HearsEach P.takes T.reads))
-        (announced_by (variables_of names.entry) news.now) (hearers own.old others.old) (hearers own.new others.new))
-        (λ e. HearsUpTo (HearsFirst O.takes (HearsEach P.takes T.reads)) e
-        (announced_by (variables_of names.entry) news.now) (hearers own.old others.old) (hearers own.new others.new)) }
+    ensures { MatchResult result (λ _. ReceivesAll (OwnReceivesFirst O.takes (EachListenerReceives P.takes T.reads))
+        (notices_with (variables_of names.entry) news.now) (call_listeners own.old others.old) (call_listeners own.new others.new))
+        (λ e. ReceivesUpToFault (OwnReceivesFirst O.takes (EachListenerReceives P.takes T.reads)) e
+        (notices_with (variables_of names.entry) news.now) (call_listeners own.old others.old) (call_listeners own.new others.new)) }
 {
     for place in 0..news.len() {
         match others.step_with(own, &news.get(place), names) {
@@ -120,7 +123,7 @@ pub enum StepRefusal {
 
 /// Returns the refusal for an error from the store.
 fn refusal(error: StoreError) -> StepRefusal
-    ensures { step_error result ≡ failure_of error }
+    ensures { step_error result ≡ error_of_store error }
 {
     match error {
         StoreError::OutOfMemory => StepRefusal::OutOfMemory,
@@ -143,7 +146,7 @@ pub(crate) struct Kernel {
 impl Kernel {
     /// Creates a kernel that has accepted no steps yet. Never allocates.
     pub fn new(alloc: Global) -> Kernel
-        ensures valid { HasAccepted result [] }
+        ensures valid { KernelHasAccepted result [] }
         ensures goes_on { kernel_has_failed result ≡ false }
         ensures settled { result.state.formula.status.conflict ≡ None }
         ensures looks { kernel_looks result ≡ 0 }
@@ -168,11 +171,11 @@ impl Kernel {
     ) -> Result<(), CheckerError>
         // If the caller has no processor, `own` must accept everything and never change.
         requires { has_own ≡ false → (v : _) (t : Notice) → O.takes v t (Ok tt) v }
-        ensures judges { kernels.ChecksStep result self.old (step_of step.now) self.new }
+        ensures correct { kernels.KernelStepResult result self.old (step_of step.now) self.new }
         ensures goes_on { OnOk result (kernel_has_failed self.new ≡ false) }
-        ensures notifies { ChecksStep (HearsFirst O.takes (HearsEach P.takes T.reads)) result
-            (seen self.old (hearers own.old others.old)) (step_of step.now)
-            (seen self.new (hearers own.new others.new)) }
+        ensures notifies { StepResult (OwnReceivesFirst O.takes (EachListenerReceives P.takes T.reads)) result
+            (checker_view self.old (call_listeners own.old others.old)) (step_of step.now)
+            (checker_view self.new (call_listeners own.new others.new)) }
         ensures looks { kernels.LooksAtMost self.old (step_of step.now) self.new }
         ensures rise { kernel_looks self.old ≤ kernel_looks self.new }
         ensures failed { kernel_has_failed self.old ≡ true
@@ -183,8 +186,8 @@ impl Kernel {
         }
         match self.process_unit_conflicts(own, others) {
             Ok(()) => {
-                let hears = listens(has_own, others);
-                self.step(step, own, hears, others)
+                let listening = listens(has_own, others);
+                self.step(step, own, listening, others)
             }
             Err(error) => Err(error),
         }
@@ -192,7 +195,7 @@ impl Kernel {
 
     /// Checks the next step, and accepts it if it passes. Notifies no listener.
     pub fn accept_step(&mut self, step: &ProofStep<'_>) -> Result<(), StepRefusal>
-        ensures judges { kernels.ChecksStep (kernels.answer_of result) self.old (step_of step.now) self.new }
+        ensures correct { kernels.KernelStepResult (kernels.step_result_of result) self.old (step_of step.now) self.new }
         ensures looks { kernels.LooksAtMost self.old (step_of step.now) self.new }
         ensures rise { kernel_looks self.old ≤ kernel_looks self.new }
         ensures failed { kernel_has_failed self.old ≡ true
@@ -201,16 +204,16 @@ impl Kernel {
         if self.failed {
             return Err(StepRefusal::HasFailed);
         }
-        match self.settle_alone() {
-            Ok(()) => self.step_alone(step),
+        match self.settle_unannounced() {
+            Ok(()) => self.step_unannounced(step),
             Err(refusal) => Err(refusal),
         }
     }
 
     /// If a unit conflict is pending, gives its empty clause the next id. Notifies no listener.
-    fn settle_alone(&mut self) -> Result<(), StepRefusal>
+    fn settle_unannounced(&mut self) -> Result<(), StepRefusal>
         requires { kernel_has_failed self.old ≡ false }
-        ensures judges { kernels.ChecksDelayed (kernels.answer_of result) self.old self.new }
+        ensures correct { kernels.KernelSettlingResult (kernels.step_result_of result) self.old self.new }
         ensures goes_on { OnOk result ((kernel_has_failed self.new ≡ false)
             × (self.new.state.formula.status.conflict ≡ None)) }
         ensures looks { kernel_looks self.new ≡ kernel_looks self.old }
@@ -226,10 +229,10 @@ impl Kernel {
     }
 
     /// Checks the next step, and accepts it if it passes. No unit conflict may be pending. Notifies no listener.
-    fn step_alone(&mut self, step: &ProofStep<'_>) -> Result<(), StepRefusal>
+    fn step_unannounced(&mut self, step: &ProofStep<'_>) -> Result<(), StepRefusal>
         requires well { kernel_has_failed self.old ≡ false }
         requires settled { self.old.state.formula.status.conflict ≡ None }
-        ensures judges { kernels.ChecksStep (kernels.answer_of result) self.old (step_of step.now) self.new }
+        ensures correct { kernels.KernelStepResult (kernels.step_result_of result) self.old (step_of step.now) self.new }
         ensures looks { kernels.LooksAtMost self.old (step_of step.now) self.new }
         ensures rise { kernel_looks self.old ≤ kernel_looks self.new }
     {
@@ -262,12 +265,12 @@ impl Kernel {
         T: ProofTranscriptProcessor,
     >(&mut self, own: &mut O, others: &mut Processing<P, T>) -> Result<(), CheckerError>
         requires { kernel_has_failed self.old ≡ false }
-        ensures judges { kernels.ChecksDelayed result self.old self.new }
+        ensures correct { kernels.KernelSettlingResult result self.old self.new }
         ensures goes_on { OnOk result ((kernel_has_failed self.new ≡ false)
             × (self.new.state.formula.status.conflict ≡ None)) }
         ensures looks { kernel_looks self.new ≡ kernel_looks self.old }
-        ensures notifies { ChecksDelayed (HearsFirst O.takes (HearsEach P.takes T.reads))
-            result (seen self.old (hearers own.old others.old)) (seen self.new (hearers own.new others.new)) }
+        ensures notifies { SettlingResult (OwnReceivesFirst O.takes (EachListenerReceives P.takes T.reads))
+            result (checker_view self.old (call_listeners own.old others.old)) (checker_view self.new (call_listeners own.new others.new)) }
     {
         if self.state.formula.status.conflict.is_none() {
             return Ok(());
@@ -283,12 +286,12 @@ impl Kernel {
         others: &mut Processing<P, T>,
     ) -> Result<(), CheckerError>
         requires { kernel_has_failed self.old ≡ false }
-        ensures judges { kernels.ChecksDelayed result self.old self.new }
+        ensures correct { kernels.KernelSettlingResult result self.old self.new }
         ensures goes_on { OnOk result ((kernel_has_failed self.new ≡ false)
             × (self.new.state.formula.status.conflict ≡ None)) }
         ensures looks { kernel_looks self.new ≡ kernel_looks self.old }
-        ensures notifies { ChecksDelayed (HearsFirst O.takes (HearsEach P.takes T.reads))
-            result (seen self.old (hearers own.old others.old)) (seen self.new (hearers own.new others.new)) }
+        ensures notifies { SettlingResult (OwnReceivesFirst O.takes (EachListenerReceives P.takes T.reads))
+            result (checker_view self.old (call_listeners own.old others.old)) (checker_view self.new (call_listeners own.new others.new)) }
     {
         let Some((stored, contradicting)) = self.state.formula.status.conflict else {
             return Ok(());
@@ -313,34 +316,34 @@ impl Kernel {
         }
     }
 
-    /// Checks the next step, accepts it if it passes, and notifies the listeners if `hears` is true. No unit conflict
-    /// may be pending.
+    /// Checks the next step, accepts it if it passes, and notifies the listeners if `listening` is true. No unit
+    /// conflict may be pending.
     fn step<O: ProofProcessor, P: ProofProcessor, T: ProofTranscriptProcessor>(
         &mut self,
         step: &ProofStep<'_>,
         own: &mut O,
-        hears: bool,
+        listening: bool,
         others: &mut Processing<P, T>,
     ) -> Result<(), CheckerError>
         requires well { kernel_has_failed self.old ≡ false }
         requires settled { self.old.state.formula.status.conflict ≡ None }
-        requires quiet { hears ≡ false
-            → IsUnmovedByNotices (HearsFirst O.takes (HearsEach P.takes T.reads)) (hearers own.old others.old) }
-        ensures judges { kernels.ChecksStep result self.old (step_of step.now) self.new }
+        requires quiet { listening ≡ false
+            → AcceptsNoticesUnchanged (OwnReceivesFirst O.takes (EachListenerReceives P.takes T.reads)) (call_listeners own.old others.old) }
+        ensures correct { kernels.KernelStepResult result self.old (step_of step.now) self.new }
         ensures goes_on { OnOk result (kernel_has_failed self.new ≡ false) }
-        ensures notifies { ChecksStep (HearsFirst O.takes (HearsEach P.takes T.reads)) result
-            (seen self.old (hearers own.old others.old)) (step_of step.now)
-            (seen self.new (hearers own.new others.new)) }
+        ensures notifies { StepResult (OwnReceivesFirst O.takes (EachListenerReceives P.takes T.reads)) result
+            (checker_view self.old (call_listeners own.old others.old)) (step_of step.now)
+            (checker_view self.new (call_listeners own.new others.new)) }
         ensures looks { kernels.LooksAtMost self.old (step_of step.now) self.new }
         ensures rise { kernel_looks self.old ≤ kernel_looks self.new }
     {
-        self.notes.begin(hears);
-        let was = changed(&self.state.variables, step, hears);
+        self.notes.begin(listening);
+        let was = changed(&self.state.variables, step, listening);
         match self
             .state
             .check_step(step, &mut self.notes, &mut self.looks)
         {
-            Ok(true) => self.take_in(&was, own, hears, others),
+            Ok(true) => self.announce(&was, own, listening, others),
             Ok(false) => {
                 self.failed = true;
                 Err(CheckerError::CheckFailed)
@@ -354,23 +357,23 @@ impl Kernel {
 
     /// Updates the records after an accepted step, and notifies the listeners, if there are any, of what was noted.
     #[inline(always)]
-    fn take_in<O: ProofProcessor, P: ProofProcessor, T: ProofTranscriptProcessor>(
+    fn announce<O: ProofProcessor, P: ProofProcessor, T: ProofTranscriptProcessor>(
         &mut self,
-        was: &Option<Was>,
+        was: &Option<EarlierData>,
         own: &mut O,
-        hears: bool,
+        listening: bool,
         others: &mut Processing<P, T>,
     ) -> Result<(), CheckerError>
         requires well { kernel_has_failed self.old ≡ false }
-        requires quiet { hears ≡ false
-            → IsUnmovedByNotices (HearsFirst O.takes (HearsEach P.takes T.reads)) (hearers own.old others.old) }
-        ensures { (reported : List Notice) → (IsTrue hears
-            → reported ≡ announced_by (put_back (was_of was.now) (variable_at self.old.state.variables))
-            self.old.notes.news) → NotifiesAndKeepsState (HearsFirst O.takes (HearsEach P.takes T.reads)) reported result
-            (seen self.old (hearers own.old others.old)) (seen self.new (hearers own.new others.new)) }
+        requires quiet { listening ≡ false
+            → AcceptsNoticesUnchanged (OwnReceivesFirst O.takes (EachListenerReceives P.takes T.reads)) (call_listeners own.old others.old) }
+        ensures { (reported : List Notice) → (IsTrue listening
+            → reported ≡ notices_with (with_earlier_data (earlier_data_of was.now) (variable_at self.old.state.variables))
+            self.old.notes.news) → NotifiesAndKeepsState (OwnReceivesFirst O.takes (EachListenerReceives P.takes T.reads)) reported result
+            (checker_view self.old (call_listeners own.old others.old)) (checker_view self.new (call_listeners own.new others.new)) }
     {
         self.records = self.state.formula.status.records();
-        if !hears {
+        if !listening {
             return Ok(());
         }
         // If there is nothing to announce, `notify` is not called.
@@ -384,15 +387,15 @@ impl Kernel {
     #[inline(never)]
     fn notify<O: ProofProcessor, P: ProofProcessor, T: ProofTranscriptProcessor>(
         &mut self,
-        was: &Option<Was>,
+        was: &Option<EarlierData>,
         own: &mut O,
         others: &mut Processing<P, T>,
     ) -> Result<(), CheckerError>
         requires well { kernel_has_failed self.old ≡ false }
-        requires recorded { self.old.records ≡ records_in self.old.state.formula.status }
-        ensures { NotifiesAndKeepsState (HearsFirst O.takes (HearsEach P.takes T.reads))
-            (announced_by (put_back (was_of was.now) (variable_at self.old.state.variables)) self.old.notes.news)
-            result (seen self.old (hearers own.old others.old)) (seen self.new (hearers own.new others.new)) }
+        requires recorded { self.old.records ≡ records_of_status self.old.state.formula.status }
+        ensures { NotifiesAndKeepsState (OwnReceivesFirst O.takes (EachListenerReceives P.takes T.reads))
+            (notices_with (with_earlier_data (earlier_data_of was.now) (variable_at self.old.state.variables)) self.old.notes.news)
+            result (checker_view self.old (call_listeners own.old others.old)) (checker_view self.new (call_listeners own.new others.new)) }
     {
         let names = CheckerData::before(&self.state.variables, was);
         match notify_pending(&self.notes.news, names, own, others) {

@@ -1,21 +1,30 @@
 //! Laws about announcements. Each law is the contract of a function that does nothing.
 ghost use Rattle.sat_checker.specs.announcements.Promises.{ConflictIsAnnounced, ConflictIsFollowedBackwards};
-ghost use Rattle.sat_checker.specs.announcements.Promises.{DeletionsRest, IdsAreAnnounced, PropagationsInTurn};
-ghost use Rattle.sat_checker.specs.announcements.Promises.{SimplifiedIsAnnounced, TautologiesRestOnNothing};
-ghost use Rattle.sat_checker.specs.announcements.Promises.{NoticesInOrder};
-ghost use Rattle.sat_checker.specs.announcements.Rows.{AnswersRead, AssumedAnnounced, CollidingAnnounced, ConflictAndUnitAnnounced};
-ghost use Rattle.sat_checker.specs.announcements.Rows.{Contradiction, CoreFailed, CoreOfBothSigns, DerivedIrredundant};
+ghost use Rattle.sat_checker.specs.announcements.Promises.{DeletedFollowByPropagation, IdsAreAnnounced};
+ghost use Rattle.sat_checker.specs.announcements.Promises.{PropagationsInTurn};
+ghost use Rattle.sat_checker.specs.announcements.Promises.{SimplifiedIsAnnounced, TautologiesNeedNoIds};
+ghost use Rattle.sat_checker.specs.announcements.Promises.{NoticesAreAppended};
+ghost use Rattle.sat_checker.specs.announcements.Rows.{AnswersTranscribed, AssumedAnnounced, CollidingAnnounced};
+ghost use Rattle.sat_checker.specs.announcements.Rows.{ConflictAndUnitAnnounced};
+ghost use Rattle.sat_checker.specs.announcements.Rows.{Contradiction, CoreAnnounced, CoreOfBothSigns};
+ghost use Rattle.sat_checker.specs.announcements.Rows.{DerivedIrredundant};
 ghost use Rattle.sat_checker.specs.announcements.Rows.{DerivedIrredundantAgain, DerivedNew, DerivedRedundantAgain};
 ghost use Rattle.sat_checker.specs.announcements.Rows.{DerivedTautology, DerivedUnitAgain, InputAfterUnsat};
 ghost use Rattle.sat_checker.specs.announcements.Rows.{InputDuplicate, InputNew, InputRedundant, InputTautology};
-ghost use Rattle.sat_checker.specs.announcements.Rows.{InputUnitAgain, InputsRead, ModeChanged, ModeLeft};
-ghost use Rattle.sat_checker.specs.announcements.Rows.{ModeOfNameless, ModelAnnounced, ModesRead, NameNew, NameNewRead};
-ghost use Rattle.sat_checker.specs.announcements.Rows.{NameOfKnown, NameOfKnownRead, NameRemoved, NameRemovedRead};
-ghost use Rattle.sat_checker.specs.announcements.Rows.{NamedTwiceAnnounced, OthersRead, OthersAnnounce, PassedNotNeeded};
-ghost use Rattle.sat_checker.specs.announcements.Rows.{RedundantGone, RedundantStays, RefutedAtZeroAnnounced, RefutedRead};
-ghost use Rattle.sat_checker.specs.announcements.Rows.{RefutedAnnounced, SatisfiedGone, SatisfiedKept, SatisfiedStays};
-ghost use Rattle.sat_checker.specs.announcements.Rows.{SimplifiedByEmpty, SimplifiedGone, SolverNameSet, UnitAlone};
-ghost use Rattle.sat_checker.specs.announcements.Rows.{UnitsFirst, UnitsHeld};
+ghost use Rattle.sat_checker.specs.announcements.Rows.{InputUnitAgain, InputsTranscribed, ModeChanged, ModeUnchanged};
+ghost use Rattle.sat_checker.specs.announcements.Rows.{ModeOfNameless, ModelAnnounced, ModesTranscribed, NameOfUnknown};
+ghost use Rattle.sat_checker.specs.announcements.Rows.{NameOfUnknownTranscribed};
+ghost use Rattle.sat_checker.specs.announcements.Rows.{NameOfKnown, NameOfKnownTranscribed, NameRemoved};
+ghost use Rattle.sat_checker.specs.announcements.Rows.{NameRemovedTranscribed};
+ghost use Rattle.sat_checker.specs.announcements.Rows.{HashGivenTwiceAnnounced, OthersTranscribed, OthersAnnounce};
+ghost use Rattle.sat_checker.specs.announcements.Rows.{UnneededClauseLeftOut};
+ghost use Rattle.sat_checker.specs.announcements.Rows.{RedundantDeleted, IrredundantCountLeft};
+ghost use Rattle.sat_checker.specs.announcements.Rows.{RefutedAtWidthZeroAnnounced, RefutedTranscribed};
+ghost use Rattle.sat_checker.specs.announcements.Rows.{RefutedAnnounced, SatisfiedDeleted, KeptAsRedundant};
+ghost use Rattle.sat_checker.specs.announcements.Rows.{OneIrredundantCountLeft};
+ghost use Rattle.sat_checker.specs.announcements.Rows.{SimplifiedByEmpty, SimplifiedDeleted, SolverNameSet};
+ghost use Rattle.sat_checker.specs.announcements.Rows.{OnlyLowestUnit};
+ghost use Rattle.sat_checker.specs.announcements.Rows.{UnitsFirst, AssumedUnitsLeftOut};
 ghost use Rattle.sat_checker.specs.listeners.ProcessingView.{NoListenerNoFault};
 
 use crate::announce::transcript::ProofTranscriptProcessor;
@@ -25,8 +34,8 @@ use crate::processing::ProofProcessor;
 pub fn propagations_run_to_conflict()
     ensures in_turn { PropagationsInTurn }
     ensures exact { ConflictIsFollowedBackwards }
-    ensures tautology { TautologiesRestOnNothing }
-    ensures deleted { DeletionsRest }
+    ensures tautology { TautologiesNeedNoIds }
+    ensures deleted { DeletedFollowByPropagation }
 {}
 
 /// States that the ids of stored clauses were announced, as were the ids that are referred to by the announcements of a
@@ -39,7 +48,7 @@ pub fn ids_are_announced()
 
 /// States the order in which steps and delayed conflicts are announced.
 pub fn announcements_are_in_order()
-    ensures { NoticesInOrder }
+    ensures { NoticesAreAppended }
 {}
 
 /// States that without listeners, announcements cause no error and no allocation failure.
@@ -47,25 +56,25 @@ pub fn faults_come_from_listeners<P: ProofProcessor, T: ProofTranscriptProcessor
     ensures { NoListenerNoFault P.takes T.reads }
 {}
 
-/// Worked examples of the clauses from which derived clauses follow, at widths 64, 8 and 0.
+/// Gives worked examples of the clauses from which derived clauses follow, at widths 64, 8 and 0.
 pub fn rows_of_propagations()
     ensures refuted { RefutedAnnounced }
-    ensures at_zero { RefutedAtZeroAnnounced }
-    ensures twice { NamedTwiceAnnounced }
+    ensures at_zero { RefutedAtWidthZeroAnnounced }
+    ensures twice { HashGivenTwiceAnnounced }
     ensures colliding { CollidingAnnounced }
     ensures units { UnitsFirst }
-    ensures held { UnitsHeld }
-    ensures passed { PassedNotNeeded }
-    ensures alone { UnitAlone }
+    ensures held { AssumedUnitsLeftOut }
+    ensures passed { UnneededClauseLeftOut }
+    ensures alone { OnlyLowestUnit }
 {}
 
-/// Worked examples of unit conflicts, whose empty clause is announced later.
+/// Gives worked examples of unit conflicts, whose empty clause is announced later.
 pub fn rows_of_conflicts()
     ensures contradiction { Contradiction }
     ensures unit_after { ConflictAndUnitAnnounced }
 {}
 
-/// Worked examples of input clauses.
+/// Gives worked examples of input clauses.
 pub fn rows_of_inputs()
     ensures fresh { InputNew }
     ensures duplicate { InputDuplicate }
@@ -75,7 +84,7 @@ pub fn rows_of_inputs()
     ensures unsat { InputAfterUnsat }
 {}
 
-/// Worked examples of derived clauses.
+/// Gives worked examples of derived clauses.
 pub fn rows_of_derived()
     ensures fresh { DerivedNew }
     ensures irredundant { DerivedIrredundant }
@@ -85,41 +94,41 @@ pub fn rows_of_derived()
     ensures tautology { DerivedTautology }
 {}
 
-/// Worked examples of deleted clauses.
+/// Gives worked examples of deleted clauses.
 pub fn rows_of_deleted()
-    ensures redundant { RedundantGone }
-    ensures redundant_stays { RedundantStays }
-    ensures satisfied { SatisfiedGone }
-    ensures kept { SatisfiedKept }
-    ensures simplified { SimplifiedGone }
+    ensures redundant { RedundantDeleted }
+    ensures redundant_stays { IrredundantCountLeft }
+    ensures satisfied { SatisfiedDeleted }
+    ensures kept { KeptAsRedundant }
+    ensures simplified { SimplifiedDeleted }
     ensures by_empty { SimplifiedByEmpty }
-    ensures satisfied_stays { SatisfiedStays }
+    ensures satisfied_stays { OneIrredundantCountLeft }
 {}
 
-/// Worked examples of names, modes, models and cores.
+/// Gives worked examples of names, modes, models and cores.
 pub fn rows_of_users()
-    ensures name { NameNew }
+    ensures name { NameOfUnknown }
     ensures known { NameOfKnown }
     ensures removed { NameRemoved }
     ensures solver_name { SolverNameSet }
     ensures mode { ModeChanged }
-    ensures mode_left { ModeLeft }
+    ensures mode_left { ModeUnchanged }
     ensures nameless { ModeOfNameless }
     ensures model { ModelAnnounced }
     ensures assumed { AssumedAnnounced }
-    ensures core { CoreFailed }
+    ensures core { CoreAnnounced }
     ensures signs { CoreOfBothSigns }
     ensures others { OthersAnnounce }
 {}
 
-/// Worked examples of transcripts.
+/// Gives worked examples of transcripts.
 pub fn rows_of_transcripts()
-    ensures name { NameNewRead }
-    ensures known { NameOfKnownRead }
-    ensures removed { NameRemovedRead }
-    ensures modes { ModesRead }
-    ensures inputs { InputsRead }
-    ensures refuted { RefutedRead }
-    ensures others { OthersRead }
-    ensures answers { AnswersRead }
+    ensures name { NameOfUnknownTranscribed }
+    ensures known { NameOfKnownTranscribed }
+    ensures removed { NameRemovedTranscribed }
+    ensures modes { ModesTranscribed }
+    ensures inputs { InputsTranscribed }
+    ensures refuted { RefutedTranscribed }
+    ensures others { OthersTranscribed }
+    ensures answers { AnswersTranscribed }
 {}

@@ -5,10 +5,10 @@ ghost use Rattle.sat_checker.specs.announcements.Announcements.{Notice};
 ghost use Rattle.sat_checker.specs.announcements.Transcripts.{transcript};
 ghost use Rattle.sat_checker.specs.inner.VariablesView.{variable_at};
 ghost use Rattle.sat_checker.specs.listeners.AnnouncementView.{announcement_of, notice_of, variables_of};
-ghost use Rattle.sat_checker.specs.listeners.Hearing.{hearers, takes_all, HearsFirst};
+ghost use Rattle.sat_checker.specs.listeners.Receiving.{call_listeners, AcceptsAllUnchanged, OwnReceivesFirst};
 ghost use Rattle.sat_checker.specs.listeners.TranscriptView.{transcribed_of};
-ghost use Rattle.sat_checker.specs.listeners.Notifying.{AllNotified, SomeNotified, Transcribes};
-ghost use Rattle.sat_checker.specs.listeners.ProcessingView.{listeners_of, HearsEach};
+ghost use Rattle.sat_checker.specs.listeners.Notifying.{AllNotified, NotifiedUpToFault, Transcribes};
+ghost use Rattle.sat_checker.specs.listeners.ProcessingView.{listeners_of, EachListenerReceives};
 
 pub(crate) mod boxes;
 
@@ -41,7 +41,7 @@ fn notify_processors<P: ProofProcessor>(
 ) -> anyhow::Result<()>
     ensures ok { OnOk result (AllNotified (λ r b d. P.takes b (notice_of step.now names.entry) r d) processors.old
         processors.new) }
-    ensures err { IfErr result (λ cause. SomeNotified (λ r b d. P.takes b (notice_of step.now names.entry) r d) cause
+    ensures err { IfErr result (λ cause. NotifiedUpToFault (λ r b d. P.takes b (notice_of step.now names.entry) r d) cause
         processors.old processors.new) }
 {
     for processor in processors.iter_mut() {
@@ -61,7 +61,7 @@ fn notify_transcripts<T: ProofTranscriptProcessor>(
     ensures ok { OnOk result (AllNotified (λ r b d. T.reads b (transcribed_of step.now) r d) transcripts.old
         transcripts.new) }
     ensures err { IfErr result
-        (λ cause. SomeNotified (λ r b d. T.reads b (transcribed_of step.now) r d) cause transcripts.old transcripts.new) }
+        (λ cause. NotifiedUpToFault (λ r b d. T.reads b (transcribed_of step.now) r d) cause transcripts.old transcripts.new) }
 {
     for transcript in transcripts.iter_mut() {
         match transcript.process_step(step) {
@@ -206,7 +206,7 @@ impl<P: ProofProcessor, T: ProofTranscriptProcessor> Processing<P, T> {
         step: &CheckedProofStep<'_>,
         names: CheckerData<'_>,
     ) -> Result<(), ProcessingError>
-        ensures { HearsEach P.takes T.reads self.old (notice_of step.now names.entry) result self.new }
+        ensures { EachListenerReceives P.takes T.reads self.old (notice_of step.now names.entry) result self.new }
     {
         match notify_processors(&mut self.processors, step, names) {
             Ok(()) => transcribe(&mut self.transcript, &mut self.transcripts, step, names),
@@ -222,8 +222,8 @@ impl<P: ProofProcessor, T: ProofTranscriptProcessor> Processing<P, T> {
         step: &CheckedProofStep<'_>,
         names: CheckerData<'_>,
     ) -> Result<(), ProcessingError>
-        ensures { HearsFirst O.takes (HearsEach P.takes T.reads)
-            (hearers own.old self.old) (notice_of step.now names.entry) result (hearers own.new self.new) }
+        ensures { OwnReceivesFirst O.takes (EachListenerReceives P.takes T.reads)
+            (call_listeners own.old self.old) (notice_of step.now names.entry) result (call_listeners own.new self.new) }
     {
         match own.process_step(step, names) {
             Ok(()) => {
@@ -258,7 +258,7 @@ impl<P: ProofProcessor, T: ProofTranscriptProcessor> Processing<P, T> {
 pub struct Nobody {}
 
 impl ProofProcessor for Nobody {
-    ghost takes = { takes_all };
+    ghost takes = { AcceptsAllUnchanged };
 
     fn process_step(
         &mut self,
@@ -285,7 +285,7 @@ pub fn process_step<P: ProofProcessor, T: ProofTranscriptProcessor>(
     variables: &Variables,
     step: &CheckedProofStep<'_>,
 ) -> Result<(), ProcessingError>
-    ensures { HearsEach P.takes T.reads processing.old
+    ensures { EachListenerReceives P.takes T.reads processing.old
         (record { announcement = announcement_of step.now; variables = variable_at variables.now }) result
         processing.new }
 {

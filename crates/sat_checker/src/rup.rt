@@ -6,14 +6,15 @@ ghost use Rattle.std.specs.List.{list_any};
 ghost use Rattle.sat_checker.specs.LiteralSets.{is_among, is_tautology};
 ghost use Rattle.sat_checker.specs.Looks.{total_length};
 ghost use Rattle.sat_checker.specs.Propagation.{PassesCheck};
-ghost use Rattle.sat_checker.specs.inner.Look.{AssumesMore, WalksBucket};
-ghost use Rattle.sat_checker.specs.inner.Looking.{LooksUpTo};
-ghost use Rattle.sat_checker.specs.inner.Reasons.{clause_at, filed, named, noted_length, NotesReasons, RecordsWalk};
-ghost use Rattle.sat_checker.specs.inner.Reasons.{MeetsConflict, ExplainsCheck};
+ghost use Rattle.sat_checker.specs.inner.WalkResults.{AssumesMore, WalksBucket};
+ghost use Rattle.sat_checker.specs.inner.LookCounts.{LooksUpTo};
+ghost use Rattle.sat_checker.specs.inner.Reasons.{clause_at, clauses_by_hash, clauses_by_hashes, noted_length};
+ghost use Rattle.sat_checker.specs.inner.Reasons.{NotesReasons, RecordsWalk};
+ghost use Rattle.sat_checker.specs.inner.Reasons.{ReachesConflict, ExplainsCheck};
 ghost use Rattle.sat_checker.specs.inner.AssumedRoom.{HasClauseRoom, HasClausesRoom, HasStoredRoom, signed};
-ghost use Rattle.sat_checker.specs.inner.AssumedRoom.{DeniedInRoom};
-ghost use Rattle.sat_checker.specs.inner.SlotView.{literals_at, bucket_in, bucket_of, live, live_length};
-ghost use Rattle.sat_checker.specs.inner.Walk.{clause_state, walk_on, walk_buckets, denied_in_turn};
+ghost use Rattle.sat_checker.specs.inner.AssumedRoom.{NegationsAssumedInRoom};
+ghost use Rattle.sat_checker.specs.inner.SlotView.{literals_at, bucket_in, bucket_of, live_clauses, live_literal_count};
+ghost use Rattle.sat_checker.specs.inner.Walk.{clause_state, walk_clause, walk_buckets, negations_assumed};
 
 pub(crate) mod in_turn;
 pub(crate) mod needed;
@@ -32,7 +33,7 @@ use std::alloc::AllocError;
 /// Assumes the literal that the clause at `place` implies, if there is one, and notes the clause. Returns `true` if the
 /// clause is falsified. Runs out of memory only if there is no room for a literal of the clause.
 #[tactic(auto, using(crate::proofs::lemmas::propagation::Walking::meeting))]
-fn meet(
+fn visit(
     clauses: &Clauses,
     place: usize,
     assigned: &mut Assigned,
@@ -40,7 +41,7 @@ fn meet(
     looks: &mut Looks,
 ) -> Result<bool, AllocError>
     requires { place < length clauses.now }
-    ensures met { IfOk result (λ conflict. walk_on (clause_state assigned.old.literals (literals_at clauses.now place))
+    ensures reached { IfOk result (λ conflict. walk_clause (clause_state assigned.old.literals (literals_at clauses.now place))
         assigned.old.literals ≡ (if conflict then None else Some assigned.new.literals)) }
     ensures short { OnErr result (HasClauseRoom assigned.old.room (literals_at clauses.now place) → ⊥) }
     ensures extends { AssumesMore assigned.old assigned.new }
@@ -91,7 +92,7 @@ fn walk_bucket(
         → assigned.new.room ≡ assigned.old.room }
     ensures looks { LooksUpTo (total_length (bucket_in hash clauses.now)) looks.old looks.new }
     ensures noted { IfOk result (λ b. RecordsWalk clauses.now b passed.old assigned.old.literals
-        (filed hash clauses.now) passed.new assigned.new.literals) }
+        (clauses_by_hash hash clauses.now) passed.new assigned.new.literals) }
     ensures read { IfOk result
         (λ _. noted_length clauses.now passed.new + looks.old ≤ noted_length clauses.now passed.old + looks.new) }
 {
@@ -100,7 +101,7 @@ fn walk_bucket(
     };
     let mut next = Some(first);
     while let Some(place) = next {
-        if meet(clauses, place, assigned, passed, looks)? {
+        if visit(clauses, place, assigned, passed, looks)? {
             return Ok(Walked::Conflict);
         }
         next = clauses.next(hash, place);
@@ -120,12 +121,12 @@ fn walk_hashes(
 ) -> Result<bool, AllocError>
     ensures found { IfOk result
         (λ yes. yes ≡ walk_buckets assigned.old.literals (map (bucket_of clauses.now) hashes.now)) }
-    ensures short { OnErr result (HasStoredRoom assigned.old.room (live clauses.now) → ⊥) }
+    ensures short { OnErr result (HasStoredRoom assigned.old.room (live_clauses clauses.now) → ⊥) }
     ensures extends { AssumesMore assigned.old assigned.new }
-    ensures same { HasStoredRoom assigned.old.room (live clauses.now) → assigned.new.room ≡ assigned.old.room }
-    ensures looks { LooksUpTo (length hashes.now * live_length clauses.now) looks.old looks.new }
+    ensures same { HasStoredRoom assigned.old.room (live_clauses clauses.now) → assigned.new.room ≡ assigned.old.room }
+    ensures looks { LooksUpTo (length hashes.now * live_literal_count clauses.now) looks.old looks.new }
     ensures noted { IfOk result (λ yes. IsTrue yes
-        → MeetsConflict clauses.now passed.old assigned.old.literals (named hashes.now clauses.now) passed.new) }
+        → ReachesConflict clauses.now passed.old assigned.old.literals (clauses_by_hashes hashes.now clauses.now) passed.new) }
     ensures read { IfOk result
         (λ _. noted_length clauses.now passed.new + looks.old ≤ noted_length clauses.now passed.old + looks.new) }
 {
@@ -143,8 +144,8 @@ fn walk_hashes(
 /// the first literal of the clause that is already true, and returns `true` if there is one.
 #[tactic(auto, using(crate::proofs::lemmas::propagation::Denied::denying))]
 fn deny(assigned: &mut Assigned, literals: &[Lit], negate: bool) -> Result<bool, AllocError>
-    ensures denied { IfOk result (λ met. denied_in_turn assigned.old.literals (signed negate literals.now)
-        ≡ (if met then None else Some assigned.new.literals)) }
+    ensures denied { IfOk result (λ reached. negations_assumed assigned.old.literals (signed negate literals.now)
+        ≡ (if reached then None else Some assigned.new.literals)) }
     ensures extends { AssumesMore assigned.old assigned.new }
 {
     for literal in literals {
@@ -160,9 +161,9 @@ fn deny(assigned: &mut Assigned, literals: &[Lit], negate: bool) -> Result<bool,
 /// Assumes what `deny` assumes, as far as there is room. Returns `true` if a literal of the clause was already true, or
 /// the clause contains both signs of a variable. Never allocates.
 fn deny_in_room(assigned: &mut Assigned, literals: &[Lit], negate: bool) -> bool
-    ensures met { MatchBool result ((list_any (is_among assigned.old.literals) (signed negate literals.now) ≡ true)
+    ensures reached { MatchBool result ((list_any (is_among assigned.old.literals) (signed negate literals.now) ≡ true)
         ⊎ (is_tautology (signed negate literals.now) ≡ true))
-        (DeniedInRoom assigned.old (signed negate literals.now) assigned.new) }
+        (NegationsAssumedInRoom assigned.old (signed negate literals.now) assigned.new) }
     ensures extends { AssumesMore assigned.old assigned.new }
     ensures same { assigned.new.room ≡ assigned.old.room }
 {
@@ -194,13 +195,13 @@ pub(crate) fn check_in_room(
     looks: &mut Looks,
 ) -> Result<bool, AllocError>
     requires { noted_length clauses.now passed.old ≡ 0 }
-    ensures exact { IfOk result (λ yes. HasStoredRoom assigned.old.room (live clauses.now) → IsTrue yes
+    ensures exact { IfOk result (λ yes. HasStoredRoom assigned.old.room (live_clauses clauses.now) → IsTrue yes
         ↔ PassesCheck assigned.old.literals (signed negate literals.now)
         (map (bucket_of clauses.now) hashes.now)) }
-    ensures short { OnErr result (HasStoredRoom assigned.old.room (live clauses.now) → ⊥) }
+    ensures short { OnErr result (HasStoredRoom assigned.old.room (live_clauses clauses.now) → ⊥) }
     ensures extends { AssumesMore assigned.old assigned.new }
-    ensures same { HasStoredRoom assigned.old.room (live clauses.now) → assigned.new.room ≡ assigned.old.room }
-    ensures looks { LooksUpTo (length hashes.now * live_length clauses.now) looks.old looks.new }
+    ensures same { HasStoredRoom assigned.old.room (live_clauses clauses.now) → assigned.new.room ≡ assigned.old.room }
+    ensures looks { LooksUpTo (length hashes.now * live_literal_count clauses.now) looks.old looks.new }
     ensures lost { passed.new.lost ≡ true }
     ensures read { IfOk result (λ _. noted_length clauses.now passed.new + looks.old ≤ looks.new) }
 {
@@ -227,12 +228,12 @@ pub(crate) fn check_clause_with_hashes(
     passed: &mut Passed,
     looks: &mut Looks,
 ) -> Result<bool, AllocError>
-    ensures exact { IfOk result (λ yes. HasStoredRoom assigned.old.room (live clauses.now) → IsTrue yes
+    ensures exact { IfOk result (λ yes. HasStoredRoom assigned.old.room (live_clauses clauses.now) → IsTrue yes
         ↔ PassesCheck assigned.old.literals (signed negate literals.now)
         (map (bucket_of clauses.now) hashes.now)) }
-    ensures short { OnErr result (HasStoredRoom assigned.old.room (live clauses.now) → ⊥) }
+    ensures short { OnErr result (HasStoredRoom assigned.old.room (live_clauses clauses.now) → ⊥) }
     ensures extends { AssumesMore assigned.old assigned.new }
-    ensures looks { LooksUpTo (length hashes.now * live_length clauses.now) looks.old looks.new }
+    ensures looks { LooksUpTo (length hashes.now * live_literal_count clauses.now) looks.old looks.new }
     ensures explained { IfOk result (λ yes. IsTrue yes → passed.new.lost ≡ false
         → ExplainsCheck clauses.now passed.new assigned.old.literals (signed negate literals.now) hashes.now) }
     ensures read { IfOk result (λ _. noted_length clauses.now passed.new + looks.old ≤ looks.new) }

@@ -1,21 +1,22 @@
 //! The checker's state, and how each step changes it.
 ghost use Rattle.std.specs.Prelude.{ℕ, List, ◌≡◌, ◌+◌, ◌*◌, false, None, Some, MatchBool, OnErr, OnOk};
 ghost use Rattle.sat_checker.specs.Stored.{Stored, nothing_stored};
-ghost use Rattle.sat_checker.specs.Looks.{literal_count};
-ghost use Rattle.sat_checker.specs.Accepts.{MayBeDeleted, MayBeAdded};
+ghost use Rattle.sat_checker.specs.Looks.{stored_literal_count};
+ghost use Rattle.sat_checker.specs.Accepts.{CanBeDeleted, CanBeAdded};
 ghost use Rattle.sat_base.specs.steps.Steps.{SolverVarName, UserVarName, ChangeSamplingMode, AddClause, AtClause};
 ghost use Rattle.sat_base.specs.steps.Steps.{ChangeHashBits, Assumptions, End, UnitClauses, DeleteClause, Model};
 ghost use Rattle.sat_base.specs.steps.Steps.{FailedAssumptions, DeleteVar};
 ghost use Rattle.sat_base.specs.steps.StepViews.{deletion_of, step_of};
-ghost use Rattle.sat_checker.specs.announcements.Announcements.{derived, input};
-ghost use Rattle.sat_checker.specs.inner.FormulaView.{Explained};
-ghost use Rattle.sat_checker.specs.inner.Looking.{LooksOver};
+ghost use Rattle.sat_checker.specs.announcements.Announcements.{announced_derived, announced_input};
+ghost use Rattle.sat_checker.specs.inner.FormulaView.{NotesExplainCheck};
+ghost use Rattle.sat_checker.specs.inner.LookCounts.{LooksOver};
 ghost use Rattle.sat_checker.specs.inner.Reasons.{noted_length};
-ghost use Rattle.sat_checker.specs.inner.StateView.{RepresentsStored, KeepsFiled, ChangesStored, with_added_clause};
+ghost use Rattle.sat_checker.specs.inner.StateView.{RepresentsStored, RepresentsFiled, ChangesStored};
+ghost use Rattle.sat_checker.specs.inner.StateView.{with_added_clause};
 ghost use Rattle.sat_checker.specs.inner.StateView.{with_derived};
-ghost use Rattle.sat_checker.specs.inner.StateView.{DecidesStep, KeepsUnlessAccepted, LooksWithin};
-ghost use Rattle.sat_checker.specs.inner.VariablesView.{KeepsData};
-ghost use Rattle.sat_checker.specs.listeners.AnnouncingView.{AreLong};
+ghost use Rattle.sat_checker.specs.inner.StateView.{DecidesStep, KeepsDataUnlessAccepted, LooksWithin};
+ghost use Rattle.sat_checker.specs.inner.VariablesView.{KeepsVariableData};
+ghost use Rattle.sat_checker.specs.listeners.AnnouncingView.{HasNoStoredUnitClause};
 ghost use Rattle.sat_checker.specs.listeners.NotedView.{Announces, AppendsAnnouncements};
 
 pub(crate) mod lit_set;
@@ -46,7 +47,7 @@ impl CheckerState {
     /// Checks a `SolverVarName` step. If it is accepted, applies it and returns `true`.
     fn solver_var_name(&mut self, var: Var, name: Option<Var>) -> Result<bool, StoreError>
         ensures decides { DecidesStep result self.old (SolverVarName var name) self.new }
-        ensures kept { KeepsUnlessAccepted result self.old self.new }
+        ensures kept { KeepsDataUnlessAccepted result self.old self.new }
     {
         if let Some(solver) = name {
             self.formula.store.set_solver_name(var, Some(solver))?;
@@ -65,7 +66,7 @@ impl CheckerState {
         notes: &mut Notes,
     ) -> Result<bool, StoreError>
         ensures decides { DecidesStep result self.old (UserVarName var user) self.new }
-        ensures kept { KeepsUnlessAccepted result self.old self.new }
+        ensures kept { KeepsDataUnlessAccepted result self.old self.new }
         ensures noted { Announces result self.old (UserVarName var user) notes.old notes.new }
     {
         if !self.variables.may_rename(var, user) {
@@ -89,7 +90,7 @@ impl CheckerState {
         notes: &mut Notes,
     ) -> Result<bool, StoreError>
         ensures decides { DecidesStep result self.old (ChangeSamplingMode var sample) self.new }
-        ensures kept { KeepsUnlessAccepted result self.old self.new }
+        ensures kept { KeepsDataUnlessAccepted result self.old self.new }
         ensures noted { Announces result self.old (ChangeSamplingMode var sample) notes.old notes.new }
     {
         let before = self.variables.data(var);
@@ -111,7 +112,7 @@ impl CheckerState {
         looks: &mut Looks,
     ) -> Result<bool, StoreError>
         ensures decides { DecidesStep result self.old (AddClause clause.now) self.new }
-        ensures kept { KeepsUnlessAccepted result self.old self.new }
+        ensures kept { KeepsDataUnlessAccepted result self.old self.new }
         ensures looks { LooksWithin self.old (AddClause clause.now) looks.old looks.new }
         ensures noted { Announces result self.old (AddClause clause.now) notes.old notes.new }
     {
@@ -134,10 +135,10 @@ impl CheckerState {
         looks: &mut Looks,
     ) -> Result<(), StoreError>
         ensures stored { ChangesStored result self.old (with_added_clause clause.now) self.new }
-        ensures kept { OnErr result (KeepsData self.old.variables self.new.variables) }
-        ensures noted { OnOk result ((f : Stored) → KeepsFiled self.old f
-            → AppendsAnnouncements notes.old (input clause.now f) notes.new) }
-        ensures looks { LooksOver (KeepsFiled self.old) (λ f. 2 * literal_count f) looks.old looks.new }
+        ensures kept { OnErr result (KeepsVariableData self.old.variables self.new.variables) }
+        ensures noted { OnOk result ((f : Stored) → RepresentsFiled self.old f
+            → AppendsAnnouncements notes.old (announced_input clause.now f) notes.new) }
+        ensures looks { LooksOver (RepresentsFiled self.old) (λ f. 2 * stored_literal_count f) looks.old looks.new }
     {
         let literals = sorted_set(&mut self.buffer, clause)?;
         self.formula.note_input(literals, notes, looks)?;
@@ -156,7 +157,7 @@ impl CheckerState {
         looks: &mut Looks,
     ) -> Result<bool, StoreError>
         ensures decides { DecidesStep result self.old (AtClause redundant clause.now hashes.now) self.new }
-        ensures kept { KeepsUnlessAccepted result self.old self.new }
+        ensures kept { KeepsDataUnlessAccepted result self.old self.new }
         ensures looks { LooksWithin self.old (AtClause redundant clause.now hashes.now) looks.old looks.new }
         ensures noted { Announces result self.old (AtClause redundant clause.now hashes.now) notes.old notes.new }
     {
@@ -181,14 +182,14 @@ impl CheckerState {
         looks: &mut Looks,
     ) -> Result<(), StoreError>
         requires { self.old.formula.passed.lost ≡ false
-            → (hashes : List ℕ) × Explained self.old.formula clause.now hashes }
+            → (hashes : List ℕ) × NotesExplainCheck self.old.formula clause.now hashes }
         ensures stored { ChangesStored result self.old (with_derived redundant clause.now) self.new }
-        ensures kept { OnErr result (KeepsData self.old.variables self.new.variables) }
-        ensures noted { OnOk result ((f : Stored) (hashes : List ℕ) → KeepsFiled self.old f → AreLong f
-            → (self.old.formula.passed.lost ≡ false → Explained self.old.formula clause.now hashes)
-            → AppendsAnnouncements notes.old (derived redundant clause.now hashes f) notes.new) }
-        ensures looks { LooksOver (KeepsFiled self.old)
-            (λ f. noted_length self.old.formula.store.clauses self.old.formula.passed + literal_count f)
+        ensures kept { OnErr result (KeepsVariableData self.old.variables self.new.variables) }
+        ensures noted { OnOk result ((f : Stored) (hashes : List ℕ) → RepresentsFiled self.old f → HasNoStoredUnitClause f
+            → (self.old.formula.passed.lost ≡ false → NotesExplainCheck self.old.formula clause.now hashes)
+            → AppendsAnnouncements notes.old (announced_derived redundant clause.now hashes f) notes.new) }
+        ensures looks { LooksOver (RepresentsFiled self.old)
+            (λ f. noted_length self.old.formula.store.clauses self.old.formula.passed + stored_literal_count f)
             looks.old looks.new }
     {
         let literals = sorted_set(&mut self.buffer, clause)?;
@@ -203,7 +204,7 @@ impl CheckerState {
     /// Applies a `ChangeHashBits` step, which is always accepted, and returns `true`.
     fn change_hash_bits(&mut self, bits: HashBits) -> Result<bool, StoreError>
         ensures decides { DecidesStep result self.old (ChangeHashBits bits) self.new }
-        ensures kept { KeepsUnlessAccepted result self.old self.new }
+        ensures kept { KeepsDataUnlessAccepted result self.old self.new }
     {
         self.formula.store.set_bits(bits);
         Ok(true)
@@ -212,7 +213,7 @@ impl CheckerState {
     /// Applies an `Assumptions` step, which is always accepted, and returns `true`.
     fn assumptions(&mut self, literals: &[Lit], notes: &mut Notes) -> Result<bool, StoreError>
         ensures decides { DecidesStep result self.old (Assumptions literals.now) self.new }
-        ensures kept { KeepsUnlessAccepted result self.old self.new }
+        ensures kept { KeepsDataUnlessAccepted result self.old self.new }
         ensures noted { Announces result self.old (Assumptions literals.now) notes.old notes.new }
     {
         self.assumed.replace(literals)?;
@@ -224,7 +225,7 @@ impl CheckerState {
     /// Applies an `End` step, which is always accepted, and returns `true`.
     fn end(&mut self) -> Result<bool, StoreError>
         ensures decides { DecidesStep result self.old End self.new }
-        ensures kept { KeepsUnlessAccepted result self.old self.new }
+        ensures kept { KeepsDataUnlessAccepted result self.old self.new }
     {
         self.formula.status.ended = true;
         Ok(true)
@@ -238,7 +239,7 @@ impl CheckerState {
         looks: &mut Looks,
     ) -> Result<bool, StoreError>
         ensures decides { DecidesStep result self.old (UnitClauses units.now) self.new }
-        ensures kept { KeepsUnlessAccepted result self.old self.new }
+        ensures kept { KeepsDataUnlessAccepted result self.old self.new }
         ensures looks { LooksWithin self.old (UnitClauses units.now) looks.old looks.new }
         ensures noted { Announces result self.old (UnitClauses units.now) notes.old notes.new }
     {
@@ -260,7 +261,7 @@ impl CheckerState {
         looks: &mut Looks,
     ) -> Result<bool, StoreError>
         ensures decides { DecidesStep result self.old (DeleteClause clause.now (deletion_of proof)) self.new }
-        ensures kept { KeepsUnlessAccepted result self.old self.new }
+        ensures kept { KeepsDataUnlessAccepted result self.old self.new }
         ensures looks { LooksWithin self.old (DeleteClause clause.now (deletion_of proof)) looks.old looks.new }
         ensures noted { Announces result self.old (DeleteClause clause.now (deletion_of proof)) notes.old notes.new }
     {
@@ -292,7 +293,7 @@ impl CheckerState {
         looks: &mut Looks,
     ) -> Result<bool, StoreError>
         ensures decides { DecidesStep result self.old (Model assignment.now) self.new }
-        ensures kept { KeepsUnlessAccepted result self.old self.new }
+        ensures kept { KeepsDataUnlessAccepted result self.old self.new }
         ensures looks { LooksWithin self.old (Model assignment.now) looks.old looks.new }
         ensures noted { Announces result self.old (Model assignment.now) notes.old notes.new }
     {
@@ -313,7 +314,7 @@ impl CheckerState {
         looks: &mut Looks,
     ) -> Result<bool, StoreError>
         ensures decides { DecidesStep result self.old (FailedAssumptions core.now hashes.now) self.new }
-        ensures kept { KeepsUnlessAccepted result self.old self.new }
+        ensures kept { KeepsDataUnlessAccepted result self.old self.new }
         ensures looks { LooksWithin self.old (FailedAssumptions core.now hashes.now) looks.old looks.new }
         ensures noted { Announces result self.old (FailedAssumptions core.now hashes.now) notes.old notes.new }
     {
@@ -335,7 +336,7 @@ impl CheckerState {
     /// Checks a `DeleteVar` step. If it is accepted, applies it and returns `true`. Counts no looks.
     fn delete_var(&mut self, var: Var, notes: &mut Notes) -> Result<bool, StoreError>
         ensures decides { DecidesStep result self.old (DeleteVar var) self.new }
-        ensures kept { KeepsUnlessAccepted result self.old self.new }
+        ensures kept { KeepsDataUnlessAccepted result self.old self.new }
         ensures noted { Announces result self.old (DeleteVar var) notes.old notes.new }
     {
         if !self.may_delete(var) {
@@ -351,7 +352,7 @@ impl CheckerState {
     /// clause of two or more literals.
     fn may_delete(&self, var: Var) -> bool
         ensures { (f : Stored) → RepresentsStored self.now f
-            → MatchBool result (MayBeDeleted f var) (MayBeDeleted f var → ⊥) }
+            → MatchBool result (CanBeDeleted f var) (CanBeDeleted f var → ⊥) }
     {
         let data = self.variables.data(var);
         if !data.known {
@@ -388,7 +389,7 @@ impl CheckerState {
         looks: &mut Looks,
     ) -> Result<bool, StoreError>
         ensures decides { DecidesStep result self.old (step_of step.now) self.new }
-        ensures kept { KeepsUnlessAccepted result self.old self.new }
+        ensures kept { KeepsDataUnlessAccepted result self.old self.new }
         ensures looks { LooksWithin self.old (step_of step.now) looks.old looks.new }
         ensures noted { Announces result self.old (step_of step.now) notes.old notes.new }
     {
@@ -424,7 +425,7 @@ impl CheckerState {
     /// unknown or has the mode sample.
     pub fn may_add(&self, clause: &[Lit]) -> bool
         ensures { (f : Stored) → RepresentsStored self.now f
-            → MatchBool result (MayBeAdded f clause.now) (MayBeAdded f clause.now → ⊥) }
+            → MatchBool result (CanBeAdded f clause.now) (CanBeAdded f clause.now → ⊥) }
     {
         self.formula.status.unsat || self.variables.are_sampling(clause)
     }

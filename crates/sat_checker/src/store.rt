@@ -1,15 +1,17 @@
 //! The stored clauses of two or more literals, with the hashes by which steps name them.
-ghost use Rattle.std.specs.Prelude.{ℕ, List, true, false, length, ◌≡◌, [], ◌+◌, ◌*◌, ◌<◌, ◌≤◌, ◌^◌, Some, IfOk, OnOk, Err};
+ghost use Rattle.std.specs.Prelude.{ℕ, List, true, false, length, ◌≡◌, [], ◌+◌, ◌*◌, ◌<◌, ◌≤◌, ◌^◌, Some, IfOk, OnOk};
+ghost use Rattle.std.specs.Prelude.{Err};
 ghost use Rattle.std.specs.Prelude.{MatchBool};
-ghost use Rattle.sat_checker.specs.inner.Looking.{LooksOver, LooksUpTo};
+ghost use Rattle.sat_checker.specs.inner.LookCounts.{LooksOver, LooksUpTo};
 ghost use Rattle.sat_checker.specs.inner.Marks.{IsIncreasing};
 ghost use Rattle.sat_checker.specs.Stored.{Stored, nothing_stored};
-ghost use Rattle.sat_checker.specs.Looks.{literal_count};
-ghost use Rattle.sat_checker.specs.inner.StoreView.{RepresentsClauses, rehashed, StoreEffect, PlacesIds, KeepsIds};
-ghost use Rattle.sat_checker.specs.inner.StoreView.{TakesCount};
-ghost use Rattle.sat_checker.specs.inner.StoreView.{with_less, store_count_in, found_in};
-ghost use Rattle.sat_checker.specs.inner.SlotView.{slot_ids, live, live_length, gone_count};
-ghost use Rattle.sat_checker.specs.Storing.{clause_with, clause_numbered, with_solver_name};
+ghost use Rattle.sat_checker.specs.Looks.{stored_literal_count};
+ghost use Rattle.sat_checker.specs.inner.StoreView.{RepresentsClauses, rehashed, StoreEffect, AppendsNewId};
+ghost use Rattle.sat_checker.specs.inner.StoreView.{PreservesIdOrder};
+ghost use Rattle.sat_checker.specs.inner.StoreView.{RemovesCountOrRefuses};
+ghost use Rattle.sat_checker.specs.inner.StoreView.{with_count_removed, store_count_in, found_clause};
+ghost use Rattle.sat_checker.specs.inner.SlotView.{slot_ids, live_clauses, live_literal_count, removed_count};
+ghost use Rattle.sat_checker.specs.Storing.{clause_with, clause_with_id, with_solver_name};
 ghost use Rattle.sat_checker.specs.Accepts.{IsStrictSubset};
 ghost use Rattle.sat_checker.specs.LiteralSets.{mentions, canonical};
 ghost use Rattle.sat_checker.specs.inner.ModelTests.{are_all_true, irredundant_length};
@@ -97,7 +99,7 @@ impl Store {
     #[inline(always)]
     pub fn rehash_if_needed(&mut self, looks: &mut Looks)
         ensures filed { self.new ≡ rehashed self.old }
-        ensures looks { LooksOver (RepresentsClauses (rehashed self.old)) literal_count looks.old looks.new }
+        ensures looks { LooksOver (RepresentsClauses (rehashed self.old)) stored_literal_count looks.old looks.new }
     {
         if !self.stale {
             return;
@@ -110,7 +112,7 @@ impl Store {
     fn rehash(&mut self, looks: &mut Looks)
         requires { self.old.stale ≡ true }
         ensures filed { self.new ≡ rehashed self.old }
-        ensures looks { LooksUpTo (live_length self.old.clauses) looks.old looks.new }
+        ensures looks { LooksUpTo (live_literal_count self.old.clauses) looks.old looks.new }
     {
         self.clauses.rehash(&self.hasher, looks);
         self.stale = false;
@@ -128,13 +130,13 @@ impl Store {
         requires { IsIncreasing literals.now }
         ensures ok { IfOk result (λ placed. (f : Stored) → RepresentsClauses self.old f
             → StoreEffect self.new f id redundant literals.now placed.id placed.is_new) }
-        ensures placed { IfOk result (λ placed. PlacesIds self.old.clauses self.new.clauses id placed.is_new) }
+        ensures placed { IfOk result (λ placed. AppendsNewId self.old.clauses self.new.clauses id placed.is_new) }
         ensures counted { IfOk result (λ placed. (f : Stored) → RepresentsClauses self.old f
             → store_count_in false (clause_with literals.now f.clauses) ≡ placed.irredundant) }
         // The count to be increased is already at its maximum.
         ensures full { result ≡ Err StoreError.CounterEnd → (f : Stored) → RepresentsClauses self.old f
             → 2 ^ 64 ≤ store_count_in redundant (clause_with literals.now f.clauses) + 1 }
-        ensures looks { LooksOver (RepresentsClauses self.old) literal_count looks.old looks.new }
+        ensures looks { LooksOver (RepresentsClauses self.old) stored_literal_count looks.old looks.new }
     {
         let hash = self.hasher.clause_hash(literals);
         let Some(place) = self.clauses.find(hash, literals, looks) else {
@@ -161,8 +163,8 @@ impl Store {
     #[inline(never)]
     pub fn stored(&self, literals: &[Lit], looks: &mut Looks) -> Option<Found>
         ensures found { (f : Stored) → RepresentsClauses self.now f
-            → clause_with literals.now f.clauses ≡ found_in literals.now result }
-        ensures looks { LooksOver (RepresentsClauses self.now) literal_count looks.old looks.new }
+            → clause_with literals.now f.clauses ≡ found_clause literals.now result }
+        ensures looks { LooksOver (RepresentsClauses self.now) stored_literal_count looks.old looks.new }
     {
         let hash = self.hasher.clause_hash(literals);
         let Some(place) = self.clauses.find(hash, literals, looks) else {
@@ -180,9 +182,9 @@ impl Store {
     /// this count is zero.
     pub fn delete_clause(&mut self, redundant: bool, literals: &[Lit], looks: &mut Looks) -> bool
         ensures deleted { (f : Stored) → RepresentsClauses self.old f
-            → TakesCount result redundant literals.now f (RepresentsClauses self.new (with_less redundant literals.now f)) }
+            → RemovesCountOrRefuses result redundant literals.now f (RepresentsClauses self.new (with_count_removed redundant literals.now f)) }
         ensures ids { slot_ids self.new.clauses ≡ slot_ids self.old.clauses }
-        ensures looks { LooksOver (RepresentsClauses self.old) literal_count looks.old looks.new }
+        ensures looks { LooksOver (RepresentsClauses self.old) stored_literal_count looks.old looks.new }
     {
         let hash = self.hasher.clause_hash(literals);
         let Some(place) = self.clauses.find(hash, literals, looks) else {
@@ -196,14 +198,15 @@ impl Store {
     }
 
     /// Subtracts one from the redundant count of the first clause with the hash of the assumed literals, if the clause
-    /// consists of exactly these literals. Returns `true` if this is done. Otherwise, nothing changes.
+    /// consists of exactly these literals and that count is positive. Returns `true` if this is done. Otherwise,
+    /// nothing changes.
     pub fn delete_assumed(&mut self, assigned: &Assigned, looks: &mut Looks) -> bool
         ensures deleted { (f : Stored) → RepresentsClauses self.old f → MatchBool result
             ((0 < store_count_in true (clause_with (canonical assigned.now.literals) f.clauses))
-            × RepresentsClauses self.new (with_less true (canonical assigned.now.literals) f))
+            × RepresentsClauses self.new (with_count_removed true (canonical assigned.now.literals) f))
             (RepresentsClauses self.new f) }
         ensures ids { slot_ids self.new.clauses ≡ slot_ids self.old.clauses }
-        ensures looks { LooksOver (RepresentsClauses self.old) literal_count looks.old looks.new }
+        ensures looks { LooksOver (RepresentsClauses self.old) stored_literal_count looks.old looks.new }
     {
         let literals = assigned.literals();
         let _count = self.clauses.len();
@@ -225,9 +228,9 @@ impl Store {
     /// much of the buffer. This changes the places of other clauses. If memory runs out, all clauses are kept.
     pub fn compact(&mut self, looks: &mut Looks) -> Result<(), AllocError>
         ensures kept { (f : Stored) → RepresentsClauses self.old f → RepresentsClauses self.new f }
-        ensures ids { KeepsIds self.old.clauses self.new.clauses }
-        ensures few { OnOk result (2 * gone_count self.new.clauses ≤ length self.new.clauses) }
-        ensures looks { LooksOver (RepresentsClauses self.old) literal_count looks.old looks.new }
+        ensures ids { PreservesIdOrder self.old.clauses self.new.clauses }
+        ensures few { OnOk result (2 * removed_count self.new.clauses ≤ length self.new.clauses) }
+        ensures looks { LooksOver (RepresentsClauses self.old) stored_literal_count looks.old looks.new }
     {
         self.clauses.compact(looks)
     }
@@ -269,12 +272,12 @@ impl Store {
     pub fn has_strict_part(&self, id: u64, literals: &[Lit], looks: &mut Looks) -> bool
         requires { IsIncreasing literals.now }
         ensures part { IsIncreasing (slot_ids self.now.clauses) → MatchBool result
-            (IsStrictSubset (clause_numbered id (live self.now.clauses)) literals.now)
-            (IsStrictSubset (clause_numbered id (live self.now.clauses)) literals.now → ⊥) }
-        ensures looks { LooksOver (RepresentsClauses self.now) literal_count looks.old looks.new }
+            (IsStrictSubset (clause_with_id id (live_clauses self.now.clauses)) literals.now)
+            (IsStrictSubset (clause_with_id id (live_clauses self.now.clauses)) literals.now → ⊥) }
+        ensures looks { LooksOver (RepresentsClauses self.now) stored_literal_count looks.old looks.new }
         // If the clause is present, only its literals are looked at.
         ensures lent { (c : List ℕ) → IsIncreasing (slot_ids self.now.clauses)
-            → clause_numbered id (live self.now.clauses) ≡ Some c → looks.new ≡ looks.old + length c }
+            → clause_with_id id (live_clauses self.now.clauses) ≡ Some c → looks.new ≡ looks.old + length c }
     {
         let _count = self.clauses.len();
         let Some(place) = self.clauses.place_of(id) else {
@@ -287,9 +290,9 @@ impl Store {
     /// literals. Ids must increase with places.
     pub fn has_part_assumed(&self, id: u64, assigned: &Assigned, looks: &mut Looks) -> bool
         ensures part { IsIncreasing (slot_ids self.now.clauses) → MatchBool result
-            (IsStrictSubset (clause_numbered id (live self.now.clauses)) assigned.now.literals)
-            (IsStrictSubset (clause_numbered id (live self.now.clauses)) assigned.now.literals → ⊥) }
-        ensures looks { LooksOver (RepresentsClauses self.now) literal_count looks.old looks.new }
+            (IsStrictSubset (clause_with_id id (live_clauses self.now.clauses)) assigned.now.literals)
+            (IsStrictSubset (clause_with_id id (live_clauses self.now.clauses)) assigned.now.literals → ⊥) }
+        ensures looks { LooksOver (RepresentsClauses self.now) stored_literal_count looks.old looks.new }
     {
         let _count = self.clauses.len();
         let Some(place) = self.clauses.place_of(id) else {
@@ -303,7 +306,7 @@ impl Store {
     pub fn assumed_count(&self, redundant: bool, assigned: &Assigned, looks: &mut Looks) -> u64
         ensures found { (f : Stored) → RepresentsClauses self.now f
             → result ≡ store_count_in redundant (clause_with (canonical assigned.now.literals) f.clauses) }
-        ensures looks { LooksOver (RepresentsClauses self.now) literal_count looks.old looks.new }
+        ensures looks { LooksOver (RepresentsClauses self.now) stored_literal_count looks.old looks.new }
     {
         self.clauses.assumed_count(redundant, assigned, looks)
     }
@@ -320,7 +323,7 @@ impl Store {
     pub fn are_satisfied(&self, assigned: &Assigned, looks: &mut Looks) -> bool
         ensures found { (f : Stored) → RepresentsClauses (rehashed self.now) f
             → result ≡ are_all_true assigned.now.literals f.clauses }
-        ensures looks { LooksOver (RepresentsClauses (rehashed self.now)) literal_count looks.old looks.new }
+        ensures looks { LooksOver (RepresentsClauses (rehashed self.now)) stored_literal_count looks.old looks.new }
         // If the result is true, exactly the literals of the irredundant clauses were looked at.
         ensures all { (f : Stored) → RepresentsClauses (rehashed self.now) f → result ≡ true
             → looks.new ≡ looks.old + irredundant_length f.clauses }

@@ -4,18 +4,18 @@ ghost use Rattle.std.specs.Prelude.{reverse, IfOk, IsTrue, OnOk, OnErr, filter, 
 ghost use Rattle.sat_base.specs.values.Literals.{negated, variable};
 ghost use Rattle.std.specs.List.{list_any};
 ghost use Rattle.sat_checker.specs.LiteralSets.{is_among};
-ghost use Rattle.sat_checker.specs.announcements.Needed.{true_unit};
-ghost use Rattle.sat_checker.specs.inner.Looking.{LooksOver};
+ghost use Rattle.sat_checker.specs.announcements.Needed.{satisfying_unit};
+ghost use Rattle.sat_checker.specs.inner.LookCounts.{LooksOver};
 ghost use Rattle.sat_checker.specs.inner.Marks.{NoRepeats};
 ghost use Rattle.sat_checker.specs.inner.LitNumbers.{AreTrailPlaces};
 ghost use Rattle.sat_checker.specs.inner.Reasons.{noted_length, ExplainsCheck};
 ghost use Rattle.sat_checker.specs.Storing.{unit_id};
 ghost use Rattle.sat_checker.specs.Stored.{Stored, unit_literals};
 ghost use Rattle.sat_checker.specs.Accepts.{PassesByHashes};
-ghost use Rattle.sat_checker.specs.Looks.{literal_count};
+ghost use Rattle.sat_checker.specs.Looks.{stored_literal_count};
 ghost use Rattle.sat_checker.specs.inner.StoreView.{RepresentsClauses};
-ghost use Rattle.sat_checker.specs.inner.InTurn.{PassAfter};
-ghost use Rattle.sat_checker.specs.inner.AssumedRoom.{signed, with_room, RoomStays, HasClauseRoom, HasStoredRoom};
+ghost use Rattle.sat_checker.specs.inner.InTurn.{OtherUnitsPassInTurn};
+ghost use Rattle.sat_checker.specs.inner.AssumedRoom.{signed, with_room, RoomIsKept, HasClauseRoom, HasStoredRoom};
 
 pub mod assigned;
 pub(crate) mod lit_numbers;
@@ -152,7 +152,7 @@ impl Units {
     pub fn make_room_for(&mut self, literals: &[Lit]) -> Result<(), AllocError>
         ensures room { OnOk result (HasClauseRoom self.new.room literals.now) }
         ensures units { self.new.units ≡ self.old.units }
-        ensures stays { RoomStays self.old.room self.new.room }
+        ensures stays { RoomIsKept self.old.room self.new.room }
     {
         make_room_for(&mut self.assigned, literals)
     }
@@ -167,7 +167,7 @@ impl Units {
     /// Returns the id of the first of the literals that is a unit, if there is one.
     #[tactic(auto, using(crate::proofs::lemmas::announcements::Listing::finding_true))]
     pub fn true_id(&self, literals: &[Lit]) -> Option<u64>
-        ensures { result ≡ true_unit literals.now self.now.units }
+        ensures { result ≡ satisfying_unit literals.now self.now.units }
     {
         for lit in literals {
             if let Some(id) = self.id(*lit) {
@@ -237,9 +237,9 @@ impl Units {
         ensures short { OnErr result ((f : Stored) → RepresentsClauses store.now f
             → HasStoredRoom self.old.room f.clauses → ⊥) }
         ensures units { self.new.units ≡ self.old.units }
-        ensures stays { RoomStays self.old.room self.new.room }
+        ensures stays { RoomIsKept self.old.room self.new.room }
         ensures looks { LooksOver (RepresentsClauses store.now)
-            (λ f. length hashes.now * literal_count f) looks.old looks.new }
+            (λ f. length hashes.now * stored_literal_count f) looks.old looks.new }
         ensures explained { IfOk result (λ passes. IsTrue passes → passed.new.lost ≡ false
             → ExplainsCheck store.now.clauses passed.new (map (λ u. u.literal) self.old.units)
             (signed negate literals.now) hashes.now) }
@@ -271,12 +271,12 @@ impl Units {
     ) -> Result<bool, AllocError>
         ensures exact { IfOk result (λ pass. (f : Stored) → RepresentsClauses store.now f
             → map (λ u. u.literal) self.old.units ≡ unit_literals f → HasStoredRoom self.old.room f.clauses
-            → IsTrue pass ↔ PassAfter f units.now) }
+            → IsTrue pass ↔ OtherUnitsPassInTurn f units.now) }
         ensures short { OnErr result ((f : Stored) → RepresentsClauses store.now f
             → HasStoredRoom self.old.room f.clauses → ⊥) }
         ensures units { self.new.units ≡ self.old.units }
         ensures looks { LooksOver (RepresentsClauses store.now)
-            (λ f. (length units.now - 1) * literal_count f) looks.old looks.new }
+            (λ f. (length units.now - 1) * stored_literal_count f) looks.old looks.new }
     {
         let count = self.assigned.len();
         let answer = pass_in_turn(store, units, &mut self.assigned, passed, looks);

@@ -4,8 +4,8 @@ ghost use Rattle.std.specs.Prelude.{IfSome, None, MatchBool};
 ghost use Rattle.sat_base.specs.values.Literals.{var_limit};
 ghost use Rattle.sat_checker.specs.Accepts.{VariablesDistinct};
 ghost use Rattle.sat_checker.specs.LiteralSets.{is_tautology};
-ghost use Rattle.sat_checker.specs.inner.Clashes.{clash, clashes_with, AllBelow, MarksCodes, NoClash};
-ghost use Rattle.sat_checker.specs.inner.Clashes.{NoneBetween};
+ghost use Rattle.sat_checker.specs.inner.Clashes.{has_clash, clashes_with, CodesBelow, MarksCodes, NoClash};
+ghost use Rattle.sat_checker.specs.inner.Clashes.{NoCodeBetween};
 
 use sat_base::Lit;
 
@@ -34,7 +34,7 @@ pub(crate) fn are_apart(literals: &[Lit]) -> bool
 /// Goes over the literals once for each window of codes that contains any, and marks the codes that occur.
 #[inline(never)]
 fn have_clash(literals: &[Lit], repeats: bool) -> bool
-    ensures { result ≡ clash repeats literals.now }
+    ensures { result ≡ has_clash repeats literals.now }
 {
     let mut marks = [false; WINDOW];
     let mut low = 0;
@@ -52,8 +52,8 @@ fn have_clash(literals: &[Lit], repeats: bool) -> bool
 fn first_window(literals: &[Lit], low: usize) -> Option<usize>
     requires { low % 2 ≡ 0 }
     ensures some { IfSome result (λ start. (low ≤ start) × ((start % 2 ≡ 0) × ((start < 2 * var_limit)
-        × NoneBetween low start literals.now))) }
-    ensures none { result ≡ None → AllBelow low literals.now }
+        × NoCodeBetween low start literals.now))) }
+    ensures none { result ≡ None → CodesBelow low literals.now }
 {
     let mut least = LIMIT;
     for lit in literals {
@@ -81,7 +81,7 @@ fn clash_in_window(literals: &[Lit], repeats: bool, start: usize, marks: &mut [b
     requires even { start % 2 ≡ 0 }
     requires count { length marks.old ≡ 2 ^ 14 }
     ensures count { length marks.new ≡ 2 ^ 14 }
-    ensures found { result ≡ true → clash repeats literals.now ≡ true }
+    ensures found { result ≡ true → has_clash repeats literals.now ≡ true }
     ensures clear { result ≡ false → NoClash repeats 0 start (start + 2 ^ 14) literals.now }
 {
     clear(marks);

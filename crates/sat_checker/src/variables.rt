@@ -3,11 +3,12 @@ ghost use Rattle.std.specs.Prelude.{ℕ, true, false, ◌≡◌, ◌==◌, None,
 ghost use Rattle.std.specs.Prelude.{if◌then◌else◌};
 ghost use Rattle.sat_base.specs.values.Literals.{variable};
 ghost use Rattle.sat_checker.specs.LiteralSets.{is_among};
-ghost use Rattle.sat_checker.specs.Stored.{Hide, Sample, Variable, Witness, unknown};
+ghost use Rattle.sat_checker.specs.Stored.{Hide, Sample, Variable, Witness, initial_variable};
 ghost use Rattle.sat_checker.specs.inner.VariablesView.{mode_in, variable_of_data, variable_at, holder_at, known_if};
 ghost use Rattle.sat_checker.specs.inner.VariablesView.{unknown_data, AreSampling, HasDataRoom, HaveDataRoom};
-ghost use Rattle.sat_checker.specs.inner.VariablesView.{KeepsData, KeepsVariables, VariablesAllow, VariablesAnswer};
-ghost use Rattle.sat_checker.specs.inner.VariablesView.{VariablesJudge};
+ghost use Rattle.sat_checker.specs.inner.VariablesView.{KeepsVariableData, StoresVariables, VariablesAllow};
+ghost use Rattle.sat_checker.specs.inner.VariablesView.{VariablesDecideEffect};
+ghost use Rattle.sat_checker.specs.inner.VariablesView.{VariablesDecide};
 ghost use Rattle.sat_base.specs.steps.Steps.{UserVarName, ChangeSamplingMode};
 
 use sat_base::{ClauseHash, Lit, MaybeVar, Table, Var};
@@ -63,7 +64,7 @@ pub struct VarData {
 impl VarData {
     /// Returns the data of a variable that is not known yet.
     pub fn unknown() -> VarData
-        ensures variable { variable_of_data result ≡ unknown }
+        ensures variable { variable_of_data result ≡ initial_variable }
         ensures data { result ≡ unknown_data }
     {
         VarData {
@@ -84,7 +85,7 @@ pub struct Variables {
 impl Variables {
     /// Creates a table in which no variable is known.
     pub fn new(alloc: Global) -> Variables
-        ensures variables { (v : ℕ) → variable_at result v ≡ unknown }
+        ensures variables { (v : ℕ) → variable_at result v ≡ initial_variable }
         ensures holders { (name : ℕ) → holder_at result name ≡ None }
     {
         Variables {
@@ -111,7 +112,7 @@ impl Variables {
     fn set(&mut self, var: Var, state: VarData) -> Result<(), AllocError>
         ensures variables { OnOk result ((v : ℕ) →
             variable_at self.new v ≡ (if v == var then variable_of_data state else variable_at self.old v)) }
-        ensures err { OnErr result (KeepsData self.old self.new) }
+        ensures err { OnErr result (KeepsVariableData self.old self.new) }
         ensures holders { (name : ℕ) → holder_at self.new name ≡ holder_at self.old name }
     {
         self.data.set(var.index(), state, VarData::unknown())
@@ -135,7 +136,7 @@ impl Variables {
     pub fn ensure_var(&mut self, var: Var) -> Result<(), AllocError>
         ensures variables { OnOk result
             ((v : ℕ) → variable_at self.new v ≡ (known_if (v == var) (variable_at self.old v))) }
-        ensures err { OnErr result (KeepsData self.old self.new) }
+        ensures err { OnErr result (KeepsVariableData self.old self.new) }
         ensures holders { (name : ℕ) → holder_at self.new name ≡ holder_at self.old name }
     {
         if self.is_near_known(var) {
@@ -149,7 +150,7 @@ impl Variables {
     fn ensure_far(&mut self, var: Var) -> Result<(), AllocError>
         ensures variables { OnOk result
             ((v : ℕ) → variable_at self.new v ≡ (known_if (v == var) (variable_at self.old v))) }
-        ensures err { OnErr result (KeepsData self.old self.new) }
+        ensures err { OnErr result (KeepsVariableData self.old self.new) }
         ensures holders { (name : ℕ) → holder_at self.new name ≡ holder_at self.old name }
     {
         let old = self.data(var);
@@ -170,7 +171,7 @@ impl Variables {
     fn make_room(&mut self, var: Var) -> Result<(), AllocError>
         ensures room { OnOk result (HasDataRoom self.new var) }
         ensures others { (v : ℕ) → HasDataRoom self.old v → HasDataRoom self.new v }
-        ensures same { KeepsData self.old self.new }
+        ensures same { KeepsVariableData self.old self.new }
         ensures holders { (name : ℕ) → holder_at self.new name ≡ holder_at self.old name }
     {
         self.data.make_room(var.index(), VarData::unknown())
@@ -212,7 +213,7 @@ impl Variables {
     #[tactic(auto, using(crate::proofs::lemmas::variables::Keeping::ensuring))]
     fn make_room_for(&mut self, literals: &[Lit]) -> Result<(), AllocError>
         ensures room { OnOk result (HaveDataRoom self.new (map variable literals.now)) }
-        ensures same { KeepsData self.old self.new }
+        ensures same { KeepsVariableData self.old self.new }
         ensures holders { (name : ℕ) → holder_at self.new name ≡ holder_at self.old name }
     {
         for lit in literals {
@@ -240,7 +241,7 @@ impl Variables {
     pub fn ensure_vars(&mut self, literals: &[Lit]) -> Result<(), AllocError>
         ensures variables { OnOk result ((v : ℕ) →
             variable_at self.new v ≡ known_if (is_among (map variable literals.now) v) (variable_at self.old v)) }
-        ensures err { OnErr result (KeepsData self.old self.new) }
+        ensures err { OnErr result (KeepsVariableData self.old self.new) }
         ensures holders { (name : ℕ) → holder_at self.new name ≡ holder_at self.old name }
     {
         if self.are_near_known(literals) {
@@ -254,9 +255,9 @@ impl Variables {
     /// Makes the variables of the literals known. The mode of those that were unknown is sample. If memory runs out, no
     /// data changes.
     pub fn learn(&mut self, literals: &[Lit]) -> Result<(), AllocError>
-        ensures ok { OnOk result ((g : ℕ → Variable) → KeepsVariables self.old g
-            → KeepsVariables self.new (λ v. known_if (is_among (map variable literals.now) v) (g v))) }
-        ensures err { OnErr result (KeepsData self.old self.new) }
+        ensures ok { OnOk result ((g : ℕ → Variable) → StoresVariables self.old g
+            → StoresVariables self.new (λ v. known_if (is_among (map variable literals.now) v) (g v))) }
+        ensures err { OnErr result (KeepsVariableData self.old self.new) }
     {
         self.ensure_vars(literals)
     }
@@ -265,7 +266,7 @@ impl Variables {
     #[tactic(auto, using(crate::proofs::lemmas::variables::Keeping::ensuring_units))]
     fn make_unit_room(&mut self, units: &[(Lit, ClauseHash)]) -> Result<(), AllocError>
         ensures room { OnOk result (HaveDataRoom self.new (map variable (map (λ u. u.0) units.now))) }
-        ensures same { KeepsData self.old self.new }
+        ensures same { KeepsVariableData self.old self.new }
         ensures holders { (name : ℕ) → holder_at self.new name ≡ holder_at self.old name }
     {
         for unit in units {
@@ -291,9 +292,9 @@ impl Variables {
     /// Makes the variables of the units known. The mode of those that were unknown is sample. If memory runs out, no
     /// data changes.
     pub fn learn_units(&mut self, units: &[(Lit, ClauseHash)]) -> Result<(), AllocError>
-        ensures ok { OnOk result ((g : ℕ → Variable) → KeepsVariables self.old g
-            → KeepsVariables self.new (λ v. known_if (is_among (map variable (map (λ u. u.0) units.now)) v) (g v))) }
-        ensures err { OnErr result (KeepsData self.old self.new) }
+        ensures ok { OnOk result ((g : ℕ → Variable) → StoresVariables self.old g
+            → StoresVariables self.new (λ v. known_if (is_among (map variable (map (λ u. u.0) units.now)) v) (g v))) }
+        ensures err { OnErr result (KeepsVariableData self.old self.new) }
     {
         self.make_unit_room(units)?;
         self.set_units_known(units);
@@ -302,9 +303,9 @@ impl Variables {
 
     /// Makes the variable known. If it was unknown, its mode is sample. If memory runs out, no data changes.
     pub fn learn_var(&mut self, var: Var) -> Result<(), AllocError>
-        ensures ok { OnOk result ((g : ℕ → Variable) → KeepsVariables self.old g
-            → KeepsVariables self.new (λ v. known_if (is_among (var ∷ []) v) (g v))) }
-        ensures err { OnErr result (KeepsData self.old self.new) }
+        ensures ok { OnOk result ((g : ℕ → Variable) → StoresVariables self.old g
+            → StoresVariables self.new (λ v. known_if (is_among (var ∷ []) v) (g v))) }
+        ensures err { OnErr result (KeepsVariableData self.old self.new) }
     {
         self.ensure_var(var)
     }
@@ -312,7 +313,7 @@ impl Variables {
     /// Returns `true` if `var` may get the name `name`: the name is free, and the variable has no name and isn't
     /// hidden.
     fn may_get_name(&self, var: Var, name: Var) -> bool
-        ensures { VariablesJudge self.now (UserVarName var (Some name)) result }
+        ensures { VariablesDecide self.now (UserVarName var (Some name)) result }
     {
         if self.holder(name).is_some() {
             return false;
@@ -329,7 +330,7 @@ impl Variables {
 
     /// Returns `true` if `var` may get the name `user`, or, if `user` is `None`, may lose its name.
     pub(crate) fn may_rename(&self, var: Var, user: Option<Var>) -> bool
-        ensures { VariablesJudge self.now (UserVarName var user) result }
+        ensures { VariablesDecide self.now (UserVarName var user) result }
     {
         match user {
             Some(name) => self.may_get_name(var, name),
@@ -340,10 +341,10 @@ impl Variables {
     /// Gives `var` the name `name`, and makes the variable known. Returns `true` if this is allowed, that is, if the
     /// name is free and the variable has no name and isn't hidden. If memory runs out, no data changes.
     pub fn add_user_mapping(&mut self, var: Var, name: Var) -> Result<bool, AllocError>
-        ensures answers { IfOk result (VariablesAnswer self.old (UserVarName var (Some name)) self.new) }
-        ensures judged { OnErr result (VariablesAllow self.old (UserVarName var (Some name))) }
+        ensures answers { IfOk result (VariablesDecideEffect self.old (UserVarName var (Some name)) self.new) }
+        ensures on_error { OnErr result (VariablesAllow self.old (UserVarName var (Some name))) }
         ensures refused { IfOk result (λ given. given ≡ false → self.new ≡ self.old) }
-        ensures err { OnErr result (KeepsData self.old self.new) }
+        ensures err { OnErr result (KeepsVariableData self.old self.new) }
     {
         if !self.may_get_name(var, name) {
             return Ok(false);
@@ -364,10 +365,10 @@ impl Variables {
     /// Removes a variable's name, and hides the variable. Returns `true` if the variable had a name. If memory runs
     /// out, no data changes.
     pub fn remove_user_mapping(&mut self, var: Var) -> Result<bool, AllocError>
-        ensures answers { IfOk result (VariablesAnswer self.old (UserVarName var None) self.new) }
-        ensures judged { OnErr result (VariablesAllow self.old (UserVarName var None)) }
+        ensures answers { IfOk result (VariablesDecideEffect self.old (UserVarName var None) self.new) }
+        ensures on_error { OnErr result (VariablesAllow self.old (UserVarName var None)) }
         ensures refused { IfOk result (λ taken. taken ≡ false → self.new ≡ self.old) }
-        ensures err { OnErr result (KeepsData self.old self.new) }
+        ensures err { OnErr result (KeepsVariableData self.old self.new) }
     {
         let old = self.data(var);
         let Some(name) = old.name.get() else {
@@ -388,10 +389,10 @@ impl Variables {
     /// Gives `var` the name `user`, or removes its name if `user` is `None`. Returns `true` if this is allowed. If
     /// memory runs out, no data changes.
     pub(crate) fn rename(&mut self, var: Var, user: Option<Var>) -> Result<bool, AllocError>
-        ensures answers { IfOk result (VariablesAnswer self.old (UserVarName var user) self.new) }
-        ensures judged { OnErr result (VariablesAllow self.old (UserVarName var user)) }
+        ensures answers { IfOk result (VariablesDecideEffect self.old (UserVarName var user) self.new) }
+        ensures on_error { OnErr result (VariablesAllow self.old (UserVarName var user)) }
         ensures refused { IfOk result (λ renamed. renamed ≡ false → self.new ≡ self.old) }
-        ensures err { OnErr result (KeepsData self.old self.new) }
+        ensures err { OnErr result (KeepsVariableData self.old self.new) }
     {
         match user {
             Some(name) => self.add_user_mapping(var, name),
@@ -402,10 +403,10 @@ impl Variables {
     /// Sets the mode of a known variable: sample if `sample` is true, and witness otherwise. Returns `true` if the
     /// variable is known. If memory runs out, no data changes.
     pub fn set_mode(&mut self, var: Var, sample: bool) -> Result<bool, AllocError>
-        ensures answers { IfOk result (VariablesAnswer self.old (ChangeSamplingMode var sample) self.new) }
-        ensures judged { OnErr result (VariablesAllow self.old (ChangeSamplingMode var sample)) }
+        ensures answers { IfOk result (VariablesDecideEffect self.old (ChangeSamplingMode var sample) self.new) }
+        ensures on_error { OnErr result (VariablesAllow self.old (ChangeSamplingMode var sample)) }
         ensures refused { IfOk result (λ set. set ≡ false → self.new ≡ self.old) }
-        ensures err { OnErr result (KeepsData self.old self.new) }
+        ensures err { OnErr result (KeepsVariableData self.old self.new) }
     {
         let old = self.data(var);
         if !old.known {
@@ -425,8 +426,8 @@ impl Variables {
 
     /// Makes a variable unknown again. The variable must not have a name. Never allocates.
     pub fn forget(&mut self, var: Var)
-        ensures { (g : ℕ → Variable) → KeepsVariables self.old g → (g var).name ≡ None
-            → KeepsVariables self.new (λ w. if w == var then unknown else g w) }
+        ensures { (g : ℕ → Variable) → StoresVariables self.old g → (g var).name ≡ None
+            → StoresVariables self.new (λ w. if w == var then initial_variable else g w) }
     {
         self.data.reset(var.index(), VarData::unknown());
     }

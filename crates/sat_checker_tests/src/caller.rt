@@ -4,9 +4,9 @@ ghost use Rattle.sat_base.specs.steps.Steps.{Step, End};
 ghost use Rattle.sat_base.specs.values.Clauses.{Valuation};
 ghost use Rattle.sat_checker.specs.Fold.{Holds};
 ghost use Rattle.sat_checker.specs.CheckerView.{kernel_of};
-ghost use Rattle.sat_checker.specs.KernelView.{HasAccepted, KernelIsSettled};
-ghost use Rattle.sat_checker.specs.ProofView.{GaveSteps, taken_after};
-ghost use Rattle.sat_checker.specs.ClausesView.{after_additions};
+ghost use Rattle.sat_checker.specs.KernelView.{KernelHasAccepted, KernelHasNoPendingConflict};
+ghost use Rattle.sat_checker.specs.ProofView.{GaveSteps, steps_after};
+ghost use Rattle.sat_checker.specs.ClausesView.{steps_after_additions};
 
 use sat_base::{CnfFormula, Counted, CountedRead, DimacsParser};
 use sat_checker::{Checker, CheckerError};
@@ -21,7 +21,7 @@ fn is_refuted<R: CountedRead>(
 ) -> Result<bool, CheckerError>
     ensures { IfOk result (λ refuted. (passed : List Step) × (rest : List ℕ)
         × GaveSteps (R.seen proof.old) (R.seen proof.new) (passed ++ End ∷ []) rest
-        × (refuted ≡ true → (a : Valuation) → Holds (taken_after passed (after_additions formula.now.clauses [])) a
+        × (refuted ≡ true → (a : Valuation) → Holds (steps_after passed (steps_after_additions formula.now.clauses [])) a
         → ⊥)) }
 {
     let mut checker = Checker::new(alloc);
@@ -36,11 +36,11 @@ fn is_refuted_by<R: CountedRead>(
     formula: &CnfFormula,
     proof: &mut R,
 ) -> Result<bool, CheckerError>
-    requires valid { HasAccepted (kernel_of checker.old) [] }
-    requires settled { KernelIsSettled (kernel_of checker.old) }
+    requires valid { KernelHasAccepted (kernel_of checker.old) [] }
+    requires settled { KernelHasNoPendingConflict (kernel_of checker.old) }
     ensures { IfOk result (λ refuted. (passed : List Step) × (rest : List ℕ)
         × GaveSteps (R.seen proof.old) (R.seen proof.new) (passed ++ End ∷ []) rest
-        × (refuted ≡ true → (a : Valuation) → Holds (taken_after passed (after_additions formula.now.clauses [])) a
+        × (refuted ≡ true → (a : Valuation) → Holds (steps_after passed (steps_after_additions formula.now.clauses [])) a
         → ⊥)) }
 {
     checker.add_formula(formula)?;

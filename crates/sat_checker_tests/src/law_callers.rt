@@ -5,8 +5,8 @@ ghost use Rattle.sat_base.specs.steps.Steps.{AddClause, AtClause, DeleteClause, 
 ghost use Rattle.sat_base.specs.steps.StepText.{SpellsSteps};
 ghost use Rattle.sat_checker.specs.Accepts.{AcceptsAll, IsStrictSubset, PassesByHashes, ready_after, stored_after};
 ghost use Rattle.sat_checker.specs.Contents.{contents};
-ghost use Rattle.sat_checker.specs.Leading.{IsStoredByHash};
-ghost use Rattle.sat_checker.specs.ProofView.{most_bytes, taken_after};
+ghost use Rattle.sat_checker.specs.ConflictPropagation.{IsStoredByHash};
+ghost use Rattle.sat_checker.specs.ProofView.{most_bytes, steps_after};
 ghost use Rattle.sat_checker.specs.Counters.{ExhaustsCounters};
 ghost use Rattle.sat_checker.specs.Stored.{Stored};
 ghost use Rattle.sat_checker.specs.Storing.{last_literals};
@@ -52,7 +52,7 @@ fn derived_is_part()
 /// States that ids are not exhausted when a clause is read from a text of at most `most_bytes` bytes.
 fn clause_has_an_id()
     ensures { (steps : List Step) (clause text : List ℕ) → SpellsSteps (steps ++ AddClause clause ∷ []) text
-        → length text ≤ most_bytes → ExhaustsCounters (AddClause clause) (stored_after (taken_after steps [])) → ⊥ }
+        → length text ≤ most_bytes → ExhaustsCounters (AddClause clause) (stored_after (steps_after steps [])) → ⊥ }
 {
     bytes_bound_ids();
 }

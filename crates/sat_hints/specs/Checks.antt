@@ -3,15 +3,15 @@ use Rattle.std.specs.Prelude.{ℕ, ◌+◌, ◌≡◌, ◌⊎◌, Bool, false, N
 use Rattle.sat_base.specs.text.Tokenizing.{capped}
 use Rattle.sat_checker.specs.LiteralSets.{is_tautology}
 use Rattle.sat_checker.specs.Propagation.{IsFalsified, IsUnit}
-use Rattle.sat_hints.specs.Lines.{Line, AreLines, text_of, SpellsLine, BeginsWithLine}
-use Rattle.sat_hints.specs.Hints.{clauses_under, IsInOrder, named_ids, assumed_by, UsesVariable, IsHintDerivation, derives_empty, count_of_cores}
+use Rattle.sat_hints.specs.Lines.{Line, LinesAreWithinLimits, text_of, SpellsLine, BeginsWithLine}
+use Rattle.sat_hints.specs.Hints.{clauses_under, IsInOrder, named_ids, assumed_by, RenewsUsedVariable, IsHintDerivation, derives_empty, core_count}
 use Rattle.sat_hints.specs.declared.answer.HintWhy.{HintWhy}
 use Rattle.sat_hints.specs.declared.answer.HintWhy.TheVariants.{Syntax, IdOrder, UnknownId, NotUnit, NotFalsified, VarInUse}
 use Rattle.sat_hints.specs.declared.answer.HintVerdict.{HintVerdict}
 use Rattle.sat_hints.specs.declared.answer.HintVerdict.TheVariants.{Proved, Bad}
 
--- `SomeIsNotUnit assumed clauses` holds if under the assumed literals, the clauses are unit in turn up to some clause
--- before the last, which is not unit.
+-- `SomeIsNotUnit assumed clauses` holds if some clause before the last is not unit when it is visited: under the
+-- assumed literals and the open literals of the clauses before it, all of which are unit in turn.
 abbrev pub SomeIsNotUnit : List ℕ → List (List ℕ) → Type 0
 SomeIsNotUnit assumed [] = ⊥
 SomeIsNotUnit assumed (clause ∷ []) = ⊥
@@ -25,10 +25,10 @@ LastIsNotFalsified assumed [] = Unit {0}
 LastIsNotFalsified assumed (clause ∷ []) = IsFalsified assumed clause → ⊥
 LastIsNotFalsified assumed (clause ∷ next ∷ rest) = (l : ℕ) × IsUnit assumed clause l × LastIsNotFalsified (l ∷ assumed) (next ∷ rest)
 
--- `TriesLine earlier line Fails` holds if the line is in order and derives a clause or a core, the clauses that it
--- names are present, it assumes no variable with both signs, and `Fails` holds of the literals that it assumes and
--- these clauses.
-pub record TriesLine (earlier : List Line) (line : Line) (Fails : List ℕ → List (List ℕ) → Type 0) : Type 0 where
+-- `RefutationFails earlier line Fails` holds if the line derives a clause or a core, is in order, names only present
+-- clauses and assumes no variable with both signs, and `Fails` holds of the literals that it assumes and the clauses
+-- that it names.
+pub record RefutationFails (earlier : List Line) (line : Line) (Fails : List ℕ → List (List ℕ) → Type 0) : Type 0 where
   pub in_order : IsInOrder earlier line
   pub clauses : List (List ℕ)
   pub present : clauses_under (named_ids line) earlier ≡ Some clauses
@@ -37,17 +37,18 @@ pub record TriesLine (earlier : List Line) (line : Line) (Fails : List ℕ → L
   pub consistent : is_tautology assumed ≡ false
   pub fails : Fails assumed clauses
 
--- `IsFaultOf earlier line why` holds if `why` is the first of these reasons why the line is at fault after the earlier
--- lines: its id is not above the last clause's id,
+-- `IsFaultOf earlier line why` holds if `why` is the first fault of the line after the earlier lines: its id is not
+-- above the last clause's, it names a clause that is not present, the clauses that it names do not conflict, or it
+-- makes a variable new that is in use.
 abbrev pub IsFaultOf : List Line → Line → HintWhy → Type 0
 IsFaultOf earlier line IdOrder = IsInOrder earlier line → ⊥
--- a clause that it names is not present,
+-- a clause that it names is not present
 IsFaultOf earlier line UnknownId = IsInOrder earlier line × (clauses_under (named_ids line) earlier ≡ None)
--- the clauses that it names do not lead to a conflict,
-IsFaultOf earlier line NotUnit = TriesLine earlier line SomeIsNotUnit
-IsFaultOf earlier line NotFalsified = TriesLine earlier line LastIsNotFalsified
--- or the variable that it makes new is in use.
-IsFaultOf earlier line VarInUse = UsesVariable earlier line
+-- the clauses that it names do not lead to a conflict: one before the last is not unit, or the last is not falsified
+IsFaultOf earlier line NotUnit = RefutationFails earlier line SomeIsNotUnit
+IsFaultOf earlier line NotFalsified = RefutationFails earlier line LastIsNotFalsified
+-- a present clause of two or more literals contains the variable that it makes new
+IsFaultOf earlier line VarInUse = RenewsUsedVariable earlier line
 IsFaultOf earlier line Syntax = ⊥
 
 -- `IsAtFault earlier bytes why` holds if the bytes of a line are at fault after the earlier lines for the reason `why`:
@@ -63,7 +64,7 @@ pub record IsBadAt (text : List ℕ) (line : ℕ) (why : HintWhy) : Type 0 where
   pub bytes : List ℕ
   pub rest : List ℕ
   pub whole : text ≡ text_of earlier ++ (bytes ++ rest)
-  pub are : AreLines earlier
+  pub are : LinesAreWithinLimits earlier
   pub derivation : IsHintDerivation earlier
   pub first : BeginsWithLine bytes rest
   pub fault : IsAtFault earlier bytes why
@@ -74,14 +75,14 @@ pub record IsBadAt (text : List ℕ) (line : ℕ) (why : HintWhy) : Type 0 where
 pub record IsProof (text : List ℕ) (empty : Bool) (cores lines : ℕ) : Type 0 where
   pub all : List Line
   pub whole : text ≡ text_of all
-  pub are : AreLines all
+  pub are : LinesAreWithinLimits all
   pub derivation : IsHintDerivation all
   pub says_empty : empty ≡ derives_empty all
-  pub counts_cores : cores ≡ capped (count_of_cores all)
+  pub counts_cores : cores ≡ capped (core_count all)
   pub counts_lines : lines ≡ capped (length all)
 
--- `VerdictHolds verdict text` holds if the text is the text of a derivation with the counts of `Proved`, or its line
--- with the number of `Bad` is at fault for this reason.
+-- `VerdictHolds verdict text` holds if the verdict is `Proved` and the entire text is a derivation with the counts that
+-- it gives, or if it is `Bad` and the first line at fault is the one that it gives, for the reason that it gives.
 abbrev pub VerdictHolds : HintVerdict → List ℕ → Type 0
 VerdictHolds (Proved empty cores lines) text = IsProof text empty cores lines
 VerdictHolds (Bad line why) text = IsBadAt text line why

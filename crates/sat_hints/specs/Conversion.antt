@@ -4,17 +4,18 @@ use Rattle.sat_base.specs.steps.Steps.{Step}
 use Rattle.sat_checker.specs.announcements.Announcements.{Announcement, Notice, all_notices_after}
 use Rattle.sat_checker.specs.announcements.Announcements as notices
 use Rattle.sat_base.specs.text.Tokenizing.{capped}
-use Rattle.sat_hints.specs.Lines.{Line, Input, Derived, Gone, Core, Fresh, text_of}
-use Rattle.sat_hints.specs.Hints.{derives_empty, count_of_cores}
+use Rattle.sat_hints.specs.Lines.{Line, Input, Derived, Removed, Core, Fresh, text_of}
+use Rattle.sat_hints.specs.Hints.{derives_empty, core_count}
 use Rattle.sat_hints.specs.declared.answer.HintVerdict.{HintVerdict}
 use Rattle.sat_hints.specs.declared.answer.HintVerdict.TheVariants.{Proved}
 
--- the line that removes the clause, or `None` if the clause is kept
-abbrev pub gone_unless : Bool → ℕ → Option Line
-gone_unless true id = None
-gone_unless false id = Some (Gone id)
+-- the line that removes the clause under this id, or `None` if the flag, which says that the clause is kept, is true
+abbrev pub removal_line : Bool → ℕ → Option Line
+removal_line true id = None
+removal_line false id = Some (Removed id)
 
--- the line of an announcement, if it has one
+-- the line of an announcement: for a new input or derived clause, the removal of a clause, a core, or a deleted
+-- variable (`Fresh`); otherwise `None`
 abbrev pub announced_line : Announcement → Option Line
 announced_line (notices.UserVar v user) = None
 announced_line (notices.DeleteVar v) = Some (Fresh v)
@@ -23,8 +24,8 @@ announced_line (notices.DuplicatedClause id same clause) = None
 announced_line (notices.TautologicalClause id clause) = None
 announced_line (notices.AtClause id redundant clause ids) = Some (Derived id clause ids)
 announced_line (notices.MakeIrredundant id clause) = None
-announced_line (notices.DeleteClause id clause) = Some (Gone id)
-announced_line (notices.DeleteAtClause id kept clause ids) = gone_unless kept id
+announced_line (notices.DeleteClause id clause) = Some (Removed id)
+announced_line (notices.DeleteAtClause id kept clause ids) = removal_line kept id
 announced_line (notices.DeleteRatClause id kept clause) = None
 announced_line (notices.Model assignment) = None
 announced_line (notices.Assumptions assumptions) = None
@@ -40,14 +41,15 @@ abbrev pub announced_lines : List Notice → List Line → List Line
 announced_lines [] earlier = earlier
 announced_lines (t ∷ ts) earlier = announced_lines ts (with_line (announced_line t.announcement) earlier)
 
--- the lines of accepted steps; both lists have the newest first
-abbrev pub lines_of : List Step → List Line
-lines_of steps = announced_lines (all_notices_after steps) []
+-- the lines of accepted steps, including the empty clause of a pending unit conflict; both lists have the newest first
+abbrev pub lines_of_steps : List Step → List Line
+lines_of_steps steps = announced_lines (all_notices_after steps) []
 
--- the text of the lines of accepted steps
+-- the text of the lines of accepted steps, the oldest line first in the text; the steps have the newest first
 abbrev pub hint_text : List Step → List ℕ
-hint_text steps = text_of (lines_of steps)
+hint_text steps = text_of (lines_of_steps steps)
 
--- the verdict `Proved` for the lines of accepted steps, with counts capped at 2^64-1
+-- the verdict `Proved` with the counts of the lines of accepted steps, capped at 2^64-1, and whether they derive an
+-- empty clause
 abbrev pub hint_verdict : List Step → HintVerdict
-hint_verdict steps = let lines : List Line = lines_of steps in Proved (derives_empty lines) (capped (count_of_cores lines)) (capped (length lines))
+hint_verdict steps = let lines : List Line = lines_of_steps steps in Proved (derives_empty lines) (capped (core_count lines)) (capped (length lines))

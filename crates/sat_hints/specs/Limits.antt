@@ -5,12 +5,12 @@ use Rattle.sat_base.specs.values.Literals.{var_limit}
 use Rattle.sat_base.specs.steps.Steps.{Step, DeleteVar, AddClause, AtClause, UnitClauses, FailedAssumptions}
 use Rattle.sat_hints.specs.Lines.{AreLiteralCodes}
 
--- `FitsStep step` holds if the step's deleted variable, literals of a clause or a core, or units are within their
--- limits; nothing is required of other steps.
-abbrev pub FitsStep : Step → Type 0
-FitsStep (DeleteVar v) = v < var_limit
-FitsStep (AddClause clause) = AreLiteralCodes clause
-FitsStep (AtClause redundant clause hashes) = AreLiteralCodes clause
-FitsStep (UnitClauses units) = AllByRecursion (λ u. u.0 < 2 * var_limit) units
-FitsStep (FailedAssumptions core hashes) = AreLiteralCodes core
-FitsStep step = Unit {0}
+-- `StepIsWithinLimits step` holds if the variable that the step deletes, or those of the literals of its clause, core
+-- or units, are below 2^28; nothing is required of other steps.
+abbrev pub StepIsWithinLimits : Step → Type 0
+StepIsWithinLimits (DeleteVar v) = v < var_limit
+StepIsWithinLimits (AddClause clause) = AreLiteralCodes clause
+StepIsWithinLimits (AtClause redundant clause hashes) = AreLiteralCodes clause
+StepIsWithinLimits (UnitClauses units) = AllByRecursion (λ u. u.0 < 2 * var_limit) units
+StepIsWithinLimits (FailedAssumptions core hashes) = AreLiteralCodes core
+StepIsWithinLimits step = Unit {0}

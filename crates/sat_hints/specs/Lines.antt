@@ -8,7 +8,7 @@ use Rattle.sat_base.specs.dimacs.DimacsText.{number_text}
 pub data Line : Type 0 where
   Input : ℕ → List ℕ → Line  -- a clause of the formula, under this id
   Derived : ℕ → List ℕ → List ℕ → Line  -- a clause under this id, and the ids of those that it follows from
-  Gone : ℕ → Line  -- the clause under this id is removed
+  Removed : ℕ → Line  -- the clause under this id is removed
   Core : List ℕ → List ℕ → Line  -- literals that fail together, and the ids of the clauses by which they do
   Fresh : ℕ → Line  -- a variable is new: its units are removed, and it may have another value than before
 
@@ -16,27 +16,29 @@ pub data Line : Type 0 where
 abbrev pub AreIds : List ℕ → Type 0
 AreIds = AllByRecursion (λ id. id < 2 ^ 64 - 1)
 
--- `AreVariables vs` holds if every variable is an index below the limit.
+-- `AreVariables vs` holds if every variable is an index below 2^28.
 abbrev pub AreVariables : List ℕ → Type 0
 AreVariables = AllByRecursion (λ v. v < var_limit)
 
--- `AreLiteralCodes ls` holds if every literal is a code whose variable is below the limit.
+-- `AreLiteralCodes ls` holds if every literal is a code whose variable is below 2^28.
 abbrev pub AreLiteralCodes : List ℕ → Type 0
 AreLiteralCodes = AllByRecursion (λ l. l < 2 * var_limit)
 
--- `IsLine line` holds if the ids, the literals and the variable of the line are within their limits.
-abbrev pub IsLine : Line → Type 0
-IsLine (Input id clause) = AreIds (id ∷ []) × AreLiteralCodes clause
-IsLine (Derived id clause ids) = AreIds (id ∷ []) × AreLiteralCodes clause × AreIds ids
-IsLine (Gone id) = AreIds (id ∷ [])
-IsLine (Core core ids) = AreLiteralCodes core × AreIds ids
-IsLine (Fresh v) = AreVariables (v ∷ [])
+-- `LineIsWithinLimits line` holds if the ids of the line are below 2^64-1, and its variables, also those of its
+-- literals, below 2^28.
+abbrev pub LineIsWithinLimits : Line → Type 0
+LineIsWithinLimits (Input id clause) = AreIds (id ∷ []) × AreLiteralCodes clause
+LineIsWithinLimits (Derived id clause ids) = AreIds (id ∷ []) × AreLiteralCodes clause × AreIds ids
+LineIsWithinLimits (Removed id) = AreIds (id ∷ [])
+LineIsWithinLimits (Core core ids) = AreLiteralCodes core × AreIds ids
+LineIsWithinLimits (Fresh v) = AreVariables (v ∷ [])
 
--- `AreLines lines` holds if the ids, literals and variables of all lines are within their limits.
-abbrev pub AreLines : List Line → Type 0
-AreLines = AllByRecursion IsLine
+-- `LinesAreWithinLimits lines` holds if in all lines, the ids are below 2^64-1 and the variables, also those of
+-- literals, below 2^28.
+abbrev pub LinesAreWithinLimits : List Line → Type 0
+LinesAreWithinLimits = AllByRecursion LineIsWithinLimits
 
--- the words of the items, each followed by a space
+-- the texts that `word` gives for the items, each followed by a space (32)
 abbrev pub spaced_words : (ℕ → List ℕ) → List ℕ → List ℕ
 spaced_words word [] = []
 spaced_words word (x ∷ xs) = word x ++ (32 ∷ spaced_words word xs)
@@ -61,11 +63,11 @@ literal_words = spaced_words number_text
 abbrev pub line_text : Line → List ℕ
 line_text (Input id clause) = codes "i " ++ (id_words (id ∷ []) ++ (literal_words clause ++ codes "0\n"))
 line_text (Derived id clause ids) = codes "d " ++ (id_words (id ∷ []) ++ (literal_words clause ++ (codes "0 " ++ (id_words ids ++ codes "0\n"))))
-line_text (Gone id) = codes "x " ++ (id_words (id ∷ []) ++ codes "0\n")
+line_text (Removed id) = codes "x " ++ (id_words (id ∷ []) ++ codes "0\n")
 line_text (Core core ids) = codes "f " ++ (literal_words core ++ (codes "0 " ++ (id_words ids ++ codes "0\n")))
 line_text (Fresh v) = codes "e " ++ (variable_words (v ∷ []) ++ codes "0\n")
 
--- the text of lines, which have the newest first
+-- the text of all lines, the oldest line first in the text; the list has the newest first
 abbrev pub text_of : List Line → List ℕ
 text_of [] = []
 text_of (line ∷ earlier) = text_of earlier ++ line_text line
@@ -73,14 +75,14 @@ text_of (line ∷ earlier) = text_of earlier ++ line_text line
 -- `SpellsLine bytes line` holds if the bytes are the text of the line, and its ids, literals and variable are within
 -- their limits.
 abbrev pub SpellsLine : List ℕ → Line → Type 0
-SpellsLine bytes line = IsLine line × (bytes ≡ line_text line)
+SpellsLine bytes line = LineIsWithinLimits line × (bytes ≡ line_text line)
 
--- `HasNoEnd bytes` holds if no byte is LF.
-abbrev pub HasNoEnd : List ℕ → Type 0
-HasNoEnd = AllByRecursion (λ b. b ≡ 10 → ⊥)
+-- `HasNoLf bytes` holds if no byte is LF (10).
+abbrev pub HasNoLf : List ℕ → Type 0
+HasNoLf = AllByRecursion (λ b. b ≡ 10 → ⊥)
 
 -- `BeginsWithLine bytes rest` holds if `bytes` is the first line of a text, and `rest` follows it. The line has any
 -- content, and LF ends it. Only the last line of a text may lack the LF, if it is not empty.
 pub data BeginsWithLine (bytes rest : List ℕ) : Type 0 where
-  ended : (front : List ℕ) → HasNoEnd front → bytes ≡ front ++ (10 ∷ []) → BeginsWithLine bytes rest
-  cut_off : HasNoEnd bytes → (bytes ≡ [] → ⊥) → rest ≡ [] → BeginsWithLine bytes rest
+  ended : (front : List ℕ) → HasNoLf front → bytes ≡ front ++ (10 ∷ []) → BeginsWithLine bytes rest
+  cut_off : HasNoLf bytes → (bytes ≡ [] → ⊥) → rest ≡ [] → BeginsWithLine bytes rest

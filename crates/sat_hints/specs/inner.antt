@@ -4,7 +4,7 @@ pub mod Prefixes
 pub mod Clauses
 pub mod UsesView
 pub mod ActiveClauses
-pub mod Course
+pub mod Refutation
 pub mod LineChecking
 pub mod Holding
 pub mod LineWriting

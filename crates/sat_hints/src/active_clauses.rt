@@ -1,10 +1,11 @@
 //! The clauses that are present in a text in which variables may become new.
 ghost use Rattle.std.specs.Prelude.{◌≡◌, ◌≢◌, ◌⊎◌, ℕ, [], None, Some, IfOk, OnErr, OnOk, MatchBool, MatchOption};
 ghost use Rattle.sat_checker.specs.SortedSets.{IsIncreasing};
-ghost use Rattle.sat_hints.specs.inner.Clauses.{AllBelow};
-ghost use Rattle.sat_hints.specs.inner.ActiveClauses.{active_clause, is_stale, DropsClause, FindsClause};
-ghost use Rattle.sat_hints.specs.inner.ActiveClauses.{RenewsVariable};
-ghost use Rattle.sat_hints.specs.inner.ActiveClauses.{AddsActiveClause, ActiveClausesInvariant, IsUsed, SinceWithin};
+ghost use Rattle.sat_hints.specs.inner.Clauses.{IdsBelow};
+ghost use Rattle.sat_hints.specs.inner.ActiveClauses.{active_clause, is_stale, RemovesActiveClause, FindsActiveClause};
+ghost use Rattle.sat_hints.specs.inner.ActiveClauses.{MakesVariableNew};
+ghost use Rattle.sat_hints.specs.inner.ActiveClauses.{AddsActiveClause, ActiveClausesInvariant, IsUsed};
+ghost use Rattle.sat_hints.specs.inner.ActiveClauses.{UnitBoundsWithin};
 
 use crate::present::Present;
 use crate::uses::Uses;
@@ -18,39 +19,39 @@ pub(crate) struct ActiveClauses {
     uses: Uses,
     /// For each variable, a bound on ids: units of the variable with ids below the bound were added before it last
     /// became new.
-    since: Table<u64>,
+    unit_bounds: Table<u64>,
 }
 
 impl ActiveClauses {
     /// Returns an empty collection of clauses. Never allocates.
     pub(crate) fn new(alloc: Global) -> ActiveClauses
-        ensures standing { ActiveClausesInvariant result }
+        ensures active { ActiveClausesInvariant result }
         ensures none { result.present.ids.items ≡ [] }
         ensures clauses { (id : ℕ) → active_clause result id ≡ None }
-        ensures since { SinceWithin result 0 }
+        ensures unit_bounds { UnitBoundsWithin result 0 }
     {
         ActiveClauses {
             present: Present::new(alloc),
             uses: Uses::new(alloc),
-            since: Table::new(alloc),
+            unit_bounds: Table::new(alloc),
         }
     }
 
     /// Returns `true` if `clause`, stored under `id`, is a unit that was added before its variable last became new.
     #[inline(always)]
     fn is_stale(&self, id: u64, clause: &[Lit]) -> bool
-        ensures { result ≡ is_stale self.now.since id clause.now }
+        ensures { result ≡ is_stale self.now.unit_bounds id clause.now }
     {
         if clause.len() != 1 {
             return false;
         }
-        id < self.since.get(clause[0].index(), 0)
+        id < self.unit_bounds.get(clause[0].index(), 0)
     }
 
     /// Returns the place of the clause under `id`, or `None` if no clause is present.
     pub(crate) fn find(&self, id: u64) -> Option<usize>
         requires { ActiveClausesInvariant self.now }
-        ensures { MatchOption result (active_clause self.now id ≡ None) (FindsClause self.now id) }
+        ensures { MatchOption result (active_clause self.now id ≡ None) (FindsActiveClause self.now id) }
     {
         let place = self.present.find(id)?;
         if self.is_stale(id, self.present.clause(place)) {
@@ -75,9 +76,9 @@ impl ActiveClauses {
 
     /// Adds a clause, given as a sorted set, under `id`, which must be above all earlier ids.
     pub(crate) fn push(&mut self, id: u64, clause: &[Lit]) -> Result<(), AllocError>
-        requires standing { ActiveClausesInvariant self.old }
-        requires above { AllBelow self.old.present.ids.items id }
-        requires since { SinceWithin self.old id }
+        requires active { ActiveClausesInvariant self.old }
+        requires above { IdsBelow self.old.present.ids.items id }
+        requires unit_bounds { UnitBoundsWithin self.old id }
         requires increasing { IsIncreasing clause.now }
         ensures { OnOk result (AddsActiveClause self.old self.new id clause.now) }
     {
@@ -89,9 +90,9 @@ impl ActiveClauses {
     /// Removes the clause under `id`. Returns `true` if a clause was present.
     pub(crate) fn remove(&mut self, id: u64) -> Result<bool, AllocError>
         requires { ActiveClausesInvariant self.old }
-        ensures takes { IfOk result (λ was. MatchBool was ((active_clause self.old id ≢ None) × DropsClause self.old self.new id)
+        ensures takes { IfOk result (λ was. MatchBool was ((active_clause self.old id ≢ None) × RemovesActiveClause self.old self.new id)
             ((active_clause self.old id ≡ None) × (self.new ≡ self.old))) }
-        ensures judged { OnErr result (active_clause self.old id ≢ None) }
+        ensures on_error { OnErr result (active_clause self.old id ≢ None) }
     {
         let Some(place) = self.find(id) else {
             return Ok(false);
@@ -112,12 +113,12 @@ impl ActiveClauses {
 
     /// Makes a variable new, which removes its units. The ids of all clauses must be below `bound`.
     pub(crate) fn forget_units(&mut self, var: Var, bound: u64) -> Result<(), AllocError>
-        requires standing { ActiveClausesInvariant self.old }
-        requires above { AllBelow self.old.present.ids.items bound }
-        requires since { SinceWithin self.old bound }
-        ensures { OnOk result (RenewsVariable self.old self.new var bound) }
+        requires active { ActiveClausesInvariant self.old }
+        requires above { IdsBelow self.old.present.ids.items bound }
+        requires unit_bounds { UnitBoundsWithin self.old bound }
+        ensures { OnOk result (MakesVariableNew self.old self.new var bound) }
     {
         self.uses.begin(&self.present)?;
-        self.since.set(var.index(), bound, 0)
+        self.unit_bounds.set(var.index(), bound, 0)
     }
 }

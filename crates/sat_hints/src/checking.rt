@@ -1,16 +1,18 @@
 //! Checking a hint text, line by line.
 ghost use Rattle.std.specs.Prelude.{◌≡◌, ◌<◌, ◌≤◌, ◌+◌, ◌⊎◌, List, ℕ, [], length, take, IfErr, IfOk, IsErrOf, OnErr};
 ghost use Rattle.std.specs.Prelude.{MatchOption, OnOk, vec_len};
-ghost use Rattle.sat_base.specs.device.Device.{GaveEnough, ReadFails, most_reads, piece_size};
-ghost use Rattle.sat_hints.specs.Lines.{Line, HasNoEnd};
+ghost use Rattle.sat_base.specs.device.Device.{GaveEnough, ReadFails, max_reads, max_read_size};
+ghost use Rattle.sat_hints.specs.Lines.{Line, HasNoLf};
 ghost use Rattle.sat_hints.specs.Checks.{VerdictHolds};
-ghost use Rattle.sat_hints.specs.Faults.{GaveUpToFault};
-ghost use Rattle.sat_hints.specs.inner.LineChecking.{HasTakenLines, IsReadyChecker};
+ghost use Rattle.sat_hints.specs.Faults.{GaveTextBeforeFault};
+ghost use Rattle.sat_hints.specs.inner.LineChecking.{HasAcceptedLines, IsReadyChecker};
 ghost use Rattle.sat_hints.specs.inner.LineReading.{BeginsWithNoLine};
 ghost use Rattle.sat_hints.specs.inner.LineRoom.{HasListRoom, KeepsListRoom};
-ghost use Rattle.sat_hints.specs.inner.Holding.{HasRead, IsReadyIf, IsWholeLine, ReadsFurther, IsRightIfVerdict};
-ghost use Rattle.sat_hints.specs.inner.Holding.{AcceptsLineBytes, ChecksLineBytes, ChecksNext, HasRoomFor, HasRoomIf, StopsAtEnd};
-ghost use Rattle.sat_hints.specs.inner.Holding.{StopsReading, TakesPiece};
+ghost use Rattle.sat_hints.specs.inner.Holding.{HasReadText, IsReadyIf, IsWholeLine, ReadsFurther, VerdictIsCorrect};
+ghost use Rattle.sat_hints.specs.inner.Holding.{AcceptsLineBytes, ChecksLineBytes, ChecksNextChunk, HasRoomFor};
+ghost use Rattle.sat_hints.specs.inner.Holding.{HasRoomIf};
+ghost use Rattle.sat_hints.specs.inner.Holding.{CanRunOutOfMemoryAtEnd};
+ghost use Rattle.sat_hints.specs.inner.Holding.{CanRunOutOfMemory, ReadsChunk};
 
 use crate::answer::{HintFault, HintVerdict, HintWhy};
 use crate::line_checking::LineChecker;
@@ -39,7 +41,7 @@ struct Checking {
 /// Returns the length of the first line, including its LF, or `None` if there is no LF among the bytes.
 #[inline(always)]
 fn line_end(bytes: &[u8]) -> Option<usize>
-    ensures { MatchOption result (HasNoEnd bytes.now)
+    ensures { MatchOption result (HasNoLf bytes.now)
         (λ end. (0 < end) × (end ≤ length bytes.now) × IsWholeLine (take end bytes.now)) }
 {
     for (place, byte) in bytes.iter().enumerate() {
@@ -52,7 +54,7 @@ fn line_end(bytes: &[u8]) -> Option<usize>
 
 /// Reads and checks a line, given as bytes, for whose lists there must be room. Returns why the line is at fault, or
 /// `None`. Runs out of memory only if the line is not at fault.
-fn take_line(
+fn check_line(
     lists: &mut Lists,
     checker: &mut LineChecker,
     bytes: &[u8],
@@ -60,9 +62,9 @@ fn take_line(
     requires ready { IsReadyChecker checker.old }
     requires room { HasListRoom lists.old (length bytes.now) }
     ensures ready { IfOk result (λ why. IsReadyIf why checker.new) }
-    ensures takes { IfOk result (λ why. IsWholeLine bytes.now → (lines : List Line) → HasTakenLines checker.old lines
+    ensures takes { IfOk result (λ why. IsWholeLine bytes.now → (lines : List Line) → HasAcceptedLines checker.old lines
         → ChecksLineBytes why checker.old checker.new lines bytes.now) }
-    ensures judged { OnErr result (IsWholeLine bytes.now → (lines : List Line) → HasTakenLines checker.old lines
+    ensures on_error { OnErr result (IsWholeLine bytes.now → (lines : List Line) → HasAcceptedLines checker.old lines
         → AcceptsLineBytes lines bytes.now) }
     ensures room { KeepsListRoom lists.old lists.new }
 {
@@ -76,7 +78,7 @@ impl Checking {
     /// Returns a checker that has read nothing. Never allocates.
     fn new(alloc: Global) -> Checking
         ensures ready { IsReadyChecker result.checker }
-        ensures read { HasRead result [] }
+        ensures read { HasReadText result [] }
         ensures none { vec_len result.held ≡ 0 }
     {
         Checking {
@@ -90,7 +92,7 @@ impl Checking {
     /// Reserves memory for the next chunk: to complete the line that has begun, and to read its lists. So a complete
     /// line that is at fault is refused even if memory runs out.
     fn make_room(&mut self) -> Result<(), AllocError>
-        ensures room { OnOk result (HasRoomFor self.new piece_size) }
+        ensures room { OnOk result (HasRoomFor self.new max_read_size) }
         ensures checker { self.new.checker ≡ self.old.checker }
         ensures place { self.new.place ≡ self.old.place }
         ensures held { self.new.held.items ≡ self.old.held.items }
@@ -106,7 +108,7 @@ impl Checking {
         requires { vec_len self.old.held ≡ 0 }
         ensures room { HasRoomFor self.new result }
         ensures least { 0 < result }
-        ensures most { result ≤ piece_size }
+        ensures most { result ≤ max_read_size }
         ensures checker { self.new.checker ≡ self.old.checker }
         ensures place { self.new.place ≡ self.old.place }
         ensures held { self.new.held.items ≡ self.old.held.items }
@@ -128,11 +130,11 @@ impl Checking {
         ensures ready { IfOk result (λ why. IsReadyIf why self.new.checker) }
         ensures empty { IfOk result (λ why. self.new.held.items ≡ []) }
         ensures reads { IfOk result (λ why. ReadsFurther why self.old bytes.now self.new) }
-        ensures stops { OnErr result (StopsAtEnd self.old bytes.now) }
+        ensures stops { OnErr result (CanRunOutOfMemoryAtEnd self.old bytes.now) }
         ensures room { KeepsListRoom self.old.lists self.new.lists }
     {
         self.held.extend_from_slice(bytes)?;
-        let why = take_line(&mut self.lists, &mut self.checker, &self.held)?;
+        let why = check_line(&mut self.lists, &mut self.checker, &self.held)?;
         self.held.clear();
         self.place = Place::Letter;
         Ok(why)
@@ -142,11 +144,11 @@ impl Checking {
     /// fault if no line can continue with them.
     fn hold(&mut self, bytes: &[u8]) -> Result<Option<HintWhy>, AllocError>
         requires ready { IsReadyChecker self.old.checker }
-        requires inside { HasNoEnd bytes.now }
+        requires inside { HasNoLf bytes.now }
         ensures ready { IfOk result (λ why. IsReadyIf why self.new.checker) }
         ensures room { IfOk result (λ why. HasRoomIf why self.new) }
         ensures reads { IfOk result (λ why. ReadsFurther why self.old bytes.now self.new) }
-        ensures stops { OnErr result (StopsReading self.old bytes.now) }
+        ensures stops { OnErr result (CanRunOutOfMemory self.old bytes.now) }
     {
         let Some(place) = following(self.place, bytes) else {
             return Ok(Some(HintWhy::Syntax));
@@ -166,7 +168,7 @@ impl Checking {
         ensures ready { IfOk result (λ why. IsReadyIf why self.new.checker) }
         ensures room { IfOk result (λ why. HasRoomIf why self.new) }
         ensures reads { IfOk result (λ why. ReadsFurther why self.old bytes.now self.new) }
-        ensures stops { OnErr result (StopsReading self.old bytes.now) }
+        ensures stops { OnErr result (CanRunOutOfMemory self.old bytes.now) }
     {
         match line_end(bytes) {
             Some(_) => Ok(Some(HintWhy::Syntax)),
@@ -182,7 +184,7 @@ impl Checking {
         ensures ready { IfOk result (λ why. IsReadyIf why self.new.checker) }
         ensures room { IfOk result (λ why. HasRoomIf why self.new) }
         ensures reads { IfOk result (λ why. ReadsFurther why self.old piece.now self.new) }
-        ensures stops { OnErr result (StopsReading self.old piece.now) }
+        ensures stops { OnErr result (CanRunOutOfMemory self.old piece.now) }
     {
         let mut rest = piece;
         while let Some(found) = self.lists.read_line(rest) {
@@ -204,7 +206,7 @@ impl Checking {
         ensures ready { IfOk result (λ why. IsReadyIf why self.new.checker) }
         ensures room { IfOk result (λ why. HasRoomIf why self.new) }
         ensures reads { IfOk result (λ why. ReadsFurther why self.old piece.now self.new) }
-        ensures stops { OnErr result (StopsReading self.old piece.now) }
+        ensures stops { OnErr result (CanRunOutOfMemory self.old piece.now) }
     {
         if self.held.is_empty() {
             return self.feed_in_place(piece);
@@ -220,12 +222,12 @@ impl Checking {
     }
 
     /// Does what `feed` does, but returns a verdict if a line is at fault.
-    fn take_piece(&mut self, piece: &[u8]) -> Result<Option<HintVerdict>, HintFault>
+    fn check_chunk(&mut self, piece: &[u8]) -> Result<Option<HintVerdict>, HintFault>
         requires ready { IsReadyChecker self.old.checker }
         requires room { HasRoomFor self.old (length piece.now) }
         ensures memory { IfErr result (λ e. e ≡ HintFault.OutOfMemory) }
-        ensures takes { IfOk result (λ verdict. TakesPiece verdict self.old piece.now self.new) }
-        ensures stops { OnErr result (StopsReading self.old piece.now) }
+        ensures takes { IfOk result (λ verdict. ReadsChunk verdict self.old piece.now self.new) }
+        ensures stops { OnErr result (CanRunOutOfMemory self.old piece.now) }
     {
         match self.feed(piece)? {
             Some(why) => Ok(Some(self.checker.bad(why))),
@@ -235,7 +237,7 @@ impl Checking {
 
     /// Returns the verdict on the text, which must end after the bytes that have been read so far.
     fn finish(&self) -> HintVerdict
-        ensures { (text : List ℕ) → HasRead self.now text → VerdictHolds result text }
+        ensures { (text : List ℕ) → HasReadText self.now text → VerdictHolds result text }
     {
         if self.held.is_empty() {
             return self.checker.proved();
@@ -253,13 +255,13 @@ impl Checking {
         requires ready { IsReadyChecker self.old.checker }
         requires room { HasRoomFor self.old (length chunk.old) }
         requires some { 0 < length chunk.old }
-        requires few { length chunk.old ≤ piece_size }
+        requires few { length chunk.old ≤ max_read_size }
         ensures calls { (R.seen text.new).calls ≡ (R.seen text.old).calls + 1 }
-        ensures checks { ChecksNext result (R.seen text.old) (R.seen text.new) self.old self.new }
+        ensures checks { ChecksNextChunk result (R.seen text.old) (R.seen text.new) self.old self.new }
     {
         match text.read_counted(chunk) {
             Ok(0) => Ok(Some(self.finish())),
-            Ok(count) => self.take_piece(&chunk[..count]),
+            Ok(count) => self.check_chunk(&chunk[..count]),
             Err(_) => Err(HintFault::Read),
         }
     }
@@ -267,15 +269,15 @@ impl Checking {
     /// Reads and checks a text, up to the first line at fault. Returns the verdict on the text.
     fn check_text<R: CountedRead>(&mut self, text: &mut R) -> Result<HintVerdict, HintFault>
         requires ready { IsReadyChecker self.old.checker }
-        requires fresh { HasRead self.old [] }
+        requires fresh { HasReadText self.old [] }
         requires none { vec_len self.old.held ≡ 0 }
-        ensures given { GaveEnough (R.seen text.old) (R.seen text.new) (IsRightIfVerdict result) }
-        ensures stops { IfErr result (GaveUpToFault (R.seen text.old) (R.seen text.new)) }
+        ensures given { GaveEnough (R.seen text.old) (R.seen text.new) (VerdictIsCorrect result) }
+        ensures stops { IfErr result (GaveTextBeforeFault (R.seen text.old) (R.seen text.new)) }
         ensures kept { IsErrOf result HintFault.Read ⊎ ((R.seen text.new).failures ≡ (R.seen text.old).failures) }
         ensures read { IsErrOf result HintFault.Read → ReadFails (R.seen text.old) (R.seen text.new) }
         ensures some { IsErrOf result HintFault.OutOfMemory
             → length (R.seen text.old).given < length (R.seen text.new).given }
-        ensures reads { (R.seen text.new).calls ≤ (R.seen text.old).calls + most_reads }
+        ensures reads { (R.seen text.new).calls ≤ (R.seen text.old).calls + max_reads }
     {
         let mut chunk = [0; PIECE];
         let mut most = self.first_room();
@@ -294,17 +296,17 @@ impl Checking {
 /// at fault.
 pub fn check<R: CountedRead>(alloc: Global, text: &mut R) -> Result<HintVerdict, HintFault>
     // The verdict is correct for the text that was read, whatever follows.
-    ensures given { GaveEnough (R.seen text.old) (R.seen text.new) (IsRightIfVerdict result) }
+    ensures given { GaveEnough (R.seen text.old) (R.seen text.new) (VerdictIsCorrect result) }
     // After a fault, the text that was read is a derivation and a proper prefix of a line, or memory ran out for a line that
     // is accepted. No read found the end.
-    ensures stops { IfErr result (GaveUpToFault (R.seen text.old) (R.seen text.new)) }
+    ensures stops { IfErr result (GaveTextBeforeFault (R.seen text.old) (R.seen text.new)) }
     // If a read fails, the error `Read` is returned, and the read is not repeated.
     ensures kept { IsErrOf result HintFault.Read ⊎ ((R.seen text.new).failures ≡ (R.seen text.old).failures) }
     ensures read { IsErrOf result HintFault.Read → ReadFails (R.seen text.old) (R.seen text.new) }
     // Memory runs out only after bytes have been read.
     ensures some { IsErrOf result HintFault.OutOfMemory
         → length (R.seen text.old).given < length (R.seen text.new).given }
-    ensures reads { (R.seen text.new).calls ≤ (R.seen text.old).calls + most_reads }
+    ensures reads { (R.seen text.new).calls ≤ (R.seen text.old).calls + max_reads }
 {
     let mut checking = Checking::new(alloc);
     checking.check_text(text)

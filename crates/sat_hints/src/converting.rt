@@ -1,15 +1,15 @@
 //! Writing the hint text of a certificate.
 ghost use Rattle.std.specs.Prelude.{◌≡◌, [], false};
 ghost use Rattle.std.specs.Option.{option_map};
-ghost use Rattle.sat_checker.specs.CheckerView.{kernel_of, seen_of};
-ghost use Rattle.sat_checker.specs.KernelView.{kernel_has_failed, KernelIsSettled, HasAccepted};
+ghost use Rattle.sat_checker.specs.CheckerView.{kernel_of, view_of};
+ghost use Rattle.sat_checker.specs.KernelView.{kernel_has_failed, KernelHasNoPendingConflict, KernelHasAccepted};
 ghost use Rattle.sat_checker.specs.listeners.AnnouncementView.{announcement_of};
 ghost use Rattle.sat_checker.specs.listeners.ProcessingView.{listeners_of};
 ghost use Rattle.sat_hints.specs.Conversion.{announced_line};
 ghost use Rattle.sat_hints.specs.Converts.{Converts};
 ghost use Rattle.sat_hints.specs.inner.LineReading.{line_of_view};
 ghost use Rattle.sat_hints.specs.inner.LineWriting.{outlet, PutsText};
-ghost use Rattle.sat_hints.specs.inner.LinesWritten.{hint_of, WritesLines};
+ghost use Rattle.sat_hints.specs.inner.LinesWritten.{hint_error_of, SendsHintText};
 ghost use Rattle.sat_hints.specs.inner.AnnouncedLines.{text_if, PutsAnnouncedLine};
 
 use crate::error::HintError;
@@ -36,7 +36,7 @@ fn announced_line<'a>(step: &CheckedProofStep<'a>) -> Option<HintLine<'a>>
             clause,
             ids: propagations,
         }),
-        CheckedProofStep::DeleteClause { id, clause: _ } => Some(HintLine::Gone { id: *id }),
+        CheckedProofStep::DeleteClause { id, clause: _ } => Some(HintLine::Removed { id: *id }),
         CheckedProofStep::DeleteAtClause {
             id,
             keep_as_redundant,
@@ -46,7 +46,7 @@ fn announced_line<'a>(step: &CheckedProofStep<'a>) -> Option<HintLine<'a>>
             if *keep_as_redundant {
                 None
             } else {
-                Some(HintLine::Gone { id: *id })
+                Some(HintLine::Removed { id: *id })
             }
         }
         CheckedProofStep::FailedAssumptions {
@@ -98,7 +98,7 @@ impl<W: CountedWrite + Drop> ProofProcessor for LineWriter<W> {
 
 /// Returns the `HintError` for an error from a checker whose only listener is the line writer.
 fn hint_error(error: CheckerError) -> HintError
-    ensures { result ≡ hint_of error }
+    ensures { result ≡ hint_error_of error }
 {
     match error {
         CheckerError::IoError => HintError::Read,
@@ -118,12 +118,12 @@ fn write_checked<R: CountedRead, W: CountedWrite + Drop>(
     certificate: &mut R,
     lines: &mut LineWriter<W>,
 ) -> Result<(), HintError>
-    requires valid { HasAccepted (kernel_of checker.old) [] }
+    requires valid { KernelHasAccepted (kernel_of checker.old) [] }
     requires goes_on { kernel_has_failed (kernel_of checker.old) ≡ false }
-    requires settled { KernelIsSettled (kernel_of checker.old) }
-    requires listeners { listeners_of (seen_of checker.old).listeners ≡ record { processors = []; transcripts = [] } }
+    requires settled { KernelHasNoPendingConflict (kernel_of checker.old) }
+    requires listeners { listeners_of (view_of checker.old).listeners ≡ record { processors = []; transcripts = [] } }
     requires well { lines.old.failed ≡ false }
-    ensures { WritesLines result (R.seen certificate.old) (R.seen certificate.new) (outlet W.seen lines.old)
+    ensures { SendsHintText result (R.seen certificate.old) (R.seen certificate.new) (outlet W.seen lines.old)
         (outlet W.seen lines.new) }
 {
     match checker.check_proof_with(certificate, lines) {
@@ -139,7 +139,7 @@ fn write_lines<R: CountedRead, W: CountedWrite + Drop>(
     lines: &mut LineWriter<W>,
 ) -> Result<(), HintError>
     requires { lines.old.failed ≡ false }
-    ensures { WritesLines result (R.seen certificate.old) (R.seen certificate.new) (outlet W.seen lines.old)
+    ensures { SendsHintText result (R.seen certificate.old) (R.seen certificate.new) (outlet W.seen lines.old)
         (outlet W.seen lines.new) }
 {
     let mut checker = Checker::new(alloc);

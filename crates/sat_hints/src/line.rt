@@ -18,7 +18,7 @@ pub(crate) enum HintLine<'a> {
         ids: &'a [u64],
     },
     /// `x ID 0`: a clause is removed.
-    Gone {
+    Removed {
         id: u64,
     },
     /// `f LITS 0 IDS 0`: literals that can't all be true. If they are assumed, the clauses under `ids` are unit in

@@ -2,11 +2,12 @@
 ghost use Rattle.std.specs.Prelude.{◌≡◌, ◌≤◌, ◌+◌, ◌^◌, ◌-◌, ◌<◌, ℕ, [], None, Some, IfOk, OnErr, OnOk};
 ghost use Rattle.sat_base.specs.text.Tokenizing.{capped};
 ghost use Rattle.sat_checker.specs.LiteralSets.{canonical};
-ghost use Rattle.sat_hints.specs.Lines.{Input, Derived, Gone, Core, Fresh, IsLine};
+ghost use Rattle.sat_hints.specs.Lines.{Input, Derived, Removed, Core, Fresh, LineIsWithinLimits};
 ghost use Rattle.sat_hints.specs.inner.LineReading.{line_of_view, IsId};
 ghost use Rattle.sat_checker.specs.inner.AssumedRoom.{signed};
-ghost use Rattle.sat_hints.specs.inner.LineChecking.{HasTakenLines, IsReadyChecker, IsSame, MayFollow, WhyNotRefuted};
-ghost use Rattle.sat_hints.specs.inner.LineChecking.{StoresClause, TakesNext, TakesOne};
+ghost use Rattle.sat_hints.specs.inner.LineChecking.{HasAcceptedLines, IsReadyChecker, SameExceptRoom, FollowsAccepted};
+ghost use Rattle.sat_hints.specs.inner.LineChecking.{WhyNotRefuted};
+ghost use Rattle.sat_hints.specs.inner.LineChecking.{StoresClause, LineResult, UncountedLineResult};
 
 use crate::active_clauses::ActiveClauses;
 use crate::answer::{HintVerdict, HintWhy};
@@ -20,7 +21,7 @@ use std::alloc::{AllocError, Global};
 /// The state after the lines so far, and buffers that are reused.
 #[derive(Drop)]
 pub(crate) struct LineChecker {
-    standing: ActiveClauses,
+    active: ActiveClauses,
     /// The assumed literals. There is room for the literals of present clauses, and for their negations.
     assumed: Assigned,
     /// A buffer for the sorted literals of the next clause, which is used if the clause isn't sorted.
@@ -48,10 +49,10 @@ impl LineChecker {
     /// Returns a checker that has read no line. Never allocates.
     pub(crate) fn new(alloc: Global) -> LineChecker
         ensures ready { IsReadyChecker result }
-        ensures taken { HasTakenLines result [] }
+        ensures taken { HasAcceptedLines result [] }
     {
         LineChecker {
-            standing: ActiveClauses::new(alloc),
+            active: ActiveClauses::new(alloc),
             assumed: Assigned::new(alloc),
             set: Vec::new(alloc),
             least_id: 0,
@@ -69,8 +70,8 @@ impl LineChecker {
         ensures { OnOk result (StoresClause self.old self.new id clause.now) }
     {
         let set = sorted_set(&mut self.set, clause)?;
-        self.standing.push(id, set)?;
-        self.assumed.allow(self.standing.present.near_limit());
+        self.active.push(id, set)?;
+        self.assumed.allow(self.active.present.near_limit());
         make_room_for(&mut self.assumed, set)?;
         self.least_id = id + 1;
         Ok(())
@@ -81,18 +82,18 @@ impl LineChecker {
     /// are present.
     fn refute(&mut self, literals: &[Lit], negate: bool, ids: &[u64]) -> Option<HintWhy>
         requires { IsReadyChecker self.old }
-        ensures same { IsSame self.old self.new }
-        ensures refutes { WhyNotRefuted self.old.standing (signed negate literals.now) ids.now result }
+        ensures same { SameExceptRoom self.old self.new }
+        ensures refutes { WhyNotRefuted self.old.active (signed negate literals.now) ids.now result }
     {
-        conflict(&self.standing, ids, literals, negate, &mut self.assumed)
+        conflict(&self.active, ids, literals, negate, &mut self.assumed)
     }
 
     /// Checks an `i` line. Returns why the line is at fault, or `None`.
     fn input(&mut self, id: u64, clause: &[Lit]) -> Result<Option<HintWhy>, AllocError>
         requires ready { IsReadyChecker self.old }
         requires within { IsId id }
-        ensures takes { IfOk result (λ why. TakesOne why self.old self.new (Input id clause.now)) }
-        ensures judged { OnErr result (MayFollow self.old (Input id clause.now)) }
+        ensures takes { IfOk result (λ why. UncountedLineResult why self.old self.new (Input id clause.now)) }
+        ensures on_error { OnErr result (FollowsAccepted self.old (Input id clause.now)) }
     {
         if id < self.least_id {
             return Ok(Some(HintWhy::IdOrder));
@@ -110,8 +111,8 @@ impl LineChecker {
     ) -> Result<Option<HintWhy>, AllocError>
         requires ready { IsReadyChecker self.old }
         requires within { IsId id }
-        ensures takes { IfOk result (λ why. TakesOne why self.old self.new (Derived id clause.now ids.now)) }
-        ensures judged { OnErr result (MayFollow self.old (Derived id clause.now ids.now)) }
+        ensures takes { IfOk result (λ why. UncountedLineResult why self.old self.new (Derived id clause.now ids.now)) }
+        ensures on_error { OnErr result (FollowsAccepted self.old (Derived id clause.now ids.now)) }
     {
         if id < self.least_id {
             return Ok(Some(HintWhy::IdOrder));
@@ -126,12 +127,12 @@ impl LineChecker {
     }
 
     /// Checks an `x` line. Returns why the line is at fault, or `None`.
-    fn gone(&mut self, id: u64) -> Result<Option<HintWhy>, AllocError>
+    fn removed(&mut self, id: u64) -> Result<Option<HintWhy>, AllocError>
         requires { IsReadyChecker self.old }
-        ensures takes { IfOk result (λ why. TakesOne why self.old self.new (Gone id)) }
-        ensures judged { OnErr result (MayFollow self.old (Gone id)) }
+        ensures takes { IfOk result (λ why. UncountedLineResult why self.old self.new (Removed id)) }
+        ensures on_error { OnErr result (FollowsAccepted self.old (Removed id)) }
     {
-        if self.standing.remove(id)? {
+        if self.active.remove(id)? {
             return Ok(None);
         }
         Ok(Some(HintWhy::UnknownId))
@@ -140,7 +141,7 @@ impl LineChecker {
     /// Checks an `f` line. Returns why the line is at fault, or `None`.
     fn core(&mut self, core: &[Lit], ids: &[u64]) -> Option<HintWhy>
         requires { IsReadyChecker self.old }
-        ensures { TakesOne result self.old self.new (Core core.now ids.now) }
+        ensures { UncountedLineResult result self.old self.new (Core core.now ids.now) }
     {
         match self.refute(core, false, ids) {
             Some(why) => return Some(why),
@@ -153,27 +154,27 @@ impl LineChecker {
     /// Checks an `e` line. Returns why the line is at fault, or `None`.
     fn fresh(&mut self, var: Var) -> Result<Option<HintWhy>, AllocError>
         requires { IsReadyChecker self.old }
-        ensures takes { IfOk result (λ why. TakesOne why self.old self.new (Fresh var)) }
-        ensures judged { OnErr result (MayFollow self.old (Fresh var)) }
+        ensures takes { IfOk result (λ why. UncountedLineResult why self.old self.new (Fresh var)) }
+        ensures on_error { OnErr result (FollowsAccepted self.old (Fresh var)) }
     {
-        if self.standing.is_used(var) {
+        if self.active.is_used(var) {
             return Ok(Some(HintWhy::VarInUse));
         }
-        self.standing.forget_units(var, self.least_id)?;
+        self.active.forget_units(var, self.least_id)?;
         Ok(None)
     }
 
     /// Checks the next line, without counting it. Returns why the line is at fault, or `None`.
-    fn take_unnumbered(&mut self, line: &HintLine<'_>) -> Result<Option<HintWhy>, AllocError>
+    fn check_uncounted(&mut self, line: &HintLine<'_>) -> Result<Option<HintWhy>, AllocError>
         requires ready { IsReadyChecker self.old }
-        requires within { IsLine (line_of_view line.now) }
-        ensures takes { IfOk result (λ why. TakesOne why self.old self.new (line_of_view line.now)) }
-        ensures judged { OnErr result (MayFollow self.old (line_of_view line.now)) }
+        requires within { LineIsWithinLimits (line_of_view line.now) }
+        ensures takes { IfOk result (λ why. UncountedLineResult why self.old self.new (line_of_view line.now)) }
+        ensures on_error { OnErr result (FollowsAccepted self.old (line_of_view line.now)) }
     {
         match line {
             HintLine::Input { id, clause } => self.input(*id, clause),
             HintLine::Derived { id, clause, ids } => self.derived(*id, clause, ids),
-            HintLine::Gone { id } => self.gone(*id),
+            HintLine::Removed { id } => self.removed(*id),
             HintLine::Core { core, ids } => Ok(self.core(core, ids)),
             HintLine::Fresh { var } => self.fresh(*var),
         }
@@ -183,12 +184,12 @@ impl LineChecker {
     /// fault.
     pub(crate) fn take(&mut self, line: &HintLine<'_>) -> Result<Option<HintWhy>, AllocError>
         requires ready { IsReadyChecker self.old }
-        requires within { IsLine (line_of_view line.now) }
+        requires within { LineIsWithinLimits (line_of_view line.now) }
         ensures ready { IfOk result (λ why. why ≡ None → IsReadyChecker self.new) }
-        ensures takes { IfOk result (λ why. TakesNext why self.old self.new (line_of_view line.now)) }
-        ensures judged { OnErr result (MayFollow self.old (line_of_view line.now)) }
+        ensures takes { IfOk result (λ why. LineResult why self.old self.new (line_of_view line.now)) }
+        ensures on_error { OnErr result (FollowsAccepted self.old (line_of_view line.now)) }
     {
-        let why = self.take_unnumbered(line)?;
+        let why = self.check_uncounted(line)?;
         if why.is_none() {
             self.lines = self.lines.saturating_add(1);
         }

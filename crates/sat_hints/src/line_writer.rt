@@ -1,8 +1,8 @@
 //! Writing lines of a hint text, through a buffer.
 ghost use Rattle.std.specs.Prelude.{◌≡◌, ◌+◌, ◌<◌, ◌∷◌, ◌++◌, [], false, decimal};
-ghost use Rattle.sat_hints.specs.Lines.{Input, Derived, Gone, Core, Fresh, id_words, line_text, literal_words};
+ghost use Rattle.sat_hints.specs.Lines.{Input, Derived, Removed, Core, Fresh, id_words, line_text, literal_words};
 ghost use Rattle.sat_hints.specs.inner.LineReading.{line_of_view};
-ghost use Rattle.sat_hints.specs.inner.LineWriting.{outlet, both_words, sign_text, PutsText};
+ghost use Rattle.sat_hints.specs.inner.LineWriting.{outlet, lists_text, sign_text, PutsText};
 
 use crate::items::{MOST_BYTES, write_ids, write_literals};
 use crate::line::HintLine;
@@ -238,7 +238,7 @@ impl<W: CountedWrite> LineWriter<W> {
 
     /// Appends `LITS 0 IDS 0` and an LF.
     fn put_both(&mut self, literals: &[Lit], ids: &[u64])
-        ensures { PutsText (both_words literals.now ids.now) (outlet W.seen self.old) (outlet W.seen self.new) }
+        ensures { PutsText (lists_text literals.now ids.now) (outlet W.seen self.old) (outlet W.seen self.new) }
     {
         self.put_literals(literals);
         self.put_all(b"0 ");
@@ -267,8 +267,8 @@ impl<W: CountedWrite> LineWriter<W> {
     }
 
     /// Appends an `x` line.
-    fn put_gone(&mut self, id: u64)
-        ensures { PutsText (line_text (Gone id)) (outlet W.seen self.old) (outlet W.seen self.new) }
+    fn put_removed(&mut self, id: u64)
+        ensures { PutsText (line_text (Removed id)) (outlet W.seen self.old) (outlet W.seen self.new) }
     {
         self.put_all(b"x ");
         self.put_id(id);
@@ -299,7 +299,7 @@ impl<W: CountedWrite> LineWriter<W> {
         match line {
             HintLine::Input { id, clause } => self.put_input(*id, clause),
             HintLine::Derived { id, clause, ids } => self.put_derived(*id, clause, ids),
-            HintLine::Gone { id } => self.put_gone(*id),
+            HintLine::Removed { id } => self.put_removed(*id),
             HintLine::Core { core, ids } => self.put_core(core, ids),
             HintLine::Fresh { var } => self.put_fresh(*var),
         }

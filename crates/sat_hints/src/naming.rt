@@ -5,12 +5,12 @@ ghost use Rattle.sat_hints.specs.inner.ActiveClauses.{active_clauses, ActiveClau
 use crate::active_clauses::ActiveClauses;
 
 /// Returns `true` if a clause is present under every id in `ids`.
-pub(crate) fn are_present(standing: &ActiveClauses, ids: &[u64]) -> bool
-    requires { ActiveClausesInvariant standing.now }
-    ensures { MatchBool result (active_clauses standing.now ids.now ≢ None) (active_clauses standing.now ids.now ≡ None) }
+pub(crate) fn are_present(active: &ActiveClauses, ids: &[u64]) -> bool
+    requires { ActiveClausesInvariant active.now }
+    ensures { MatchBool result (active_clauses active.now ids.now ≢ None) (active_clauses active.now ids.now ≡ None) }
 {
     for id in ids {
-        let Some(_place) = standing.find(*id) else {
+        let Some(_place) = active.find(*id) else {
             return false;
         };
     }

@@ -1,7 +1,7 @@
 //! Reading numbers and literals, which are decimal, have no leading zeros, and are followed by a single space.
 ghost use Rattle.std.specs.Prelude.{MatchOption};
 ghost use Rattle.sat_base.specs.dimacs.DimacsText.{number_text};
-ghost use Rattle.sat_base.specs.text.NumberWords.{BeginsWithWord, NoWord};
+ghost use Rattle.sat_base.specs.text.NumberWords.{BeginsWithWord, BeginsWithNoWord};
 ghost use Rattle.sat_hints.specs.Lines.{id_text};
 ghost use Rattle.sat_hints.specs.inner.LineReading.{IsId, IsLiteralCode, IsVariableIndex};
 
@@ -10,7 +10,7 @@ use sat_base::{Lit, Var, read_number, take_text};
 /// Reads an ID, which is an id plus one, and the space after it. Returns the id and the remaining bytes.
 #[inline(always)]
 pub(crate) fn read_id(bytes: &[u8]) -> Option<(u64, &[u8])>
-    ensures { MatchOption result (NoWord id_text IsId bytes.now)
+    ensures { MatchOption result (BeginsWithNoWord id_text IsId bytes.now)
         (λ x. BeginsWithWord id_text IsId bytes.now x.0 x.1.now) }
 {
     let (number, rest) = read_number(bytes, u64::MAX)?;
@@ -20,7 +20,7 @@ pub(crate) fn read_id(bytes: &[u8]) -> Option<(u64, &[u8])>
 /// Reads the number of a variable, and the space after it. Returns the index of the variable and the remaining bytes.
 #[inline(always)]
 pub(crate) fn read_variable(bytes: &[u8]) -> Option<(usize, &[u8])>
-    ensures { MatchOption result (NoWord id_text IsVariableIndex bytes.now)
+    ensures { MatchOption result (BeginsWithNoWord id_text IsVariableIndex bytes.now)
         (λ x. BeginsWithWord id_text IsVariableIndex bytes.now x.0 x.1.now) }
 {
     let (number, rest) = read_number(bytes, Var::max_count() as u64)?;
@@ -30,7 +30,7 @@ pub(crate) fn read_variable(bytes: &[u8]) -> Option<(usize, &[u8])>
 /// Reads a literal, and the space after it. Returns the literal and the remaining bytes.
 #[inline(always)]
 pub(crate) fn read_literal(bytes: &[u8]) -> Option<(Lit, &[u8])>
-    ensures { MatchOption result (NoWord number_text IsLiteralCode bytes.now)
+    ensures { MatchOption result (BeginsWithNoWord number_text IsLiteralCode bytes.now)
         (λ x. BeginsWithWord number_text IsLiteralCode bytes.now x.0 x.1.now) }
 {
     match take_text(bytes, b"-") {

@@ -1,7 +1,8 @@
 //! A byte-by-byte test for whether bytes can begin a line.
 ghost use Rattle.std.specs.Prelude.{◌≡◌, ◌≤◌, ◌∷◌, []};
-ghost use Rattle.sat_hints.specs.Lines.{HasNoEnd};
-ghost use Rattle.sat_hints.specs.inner.Prefixes.{letter_place, limit_of, next_of, sign_place, zero_place, LeadsToPlace, ReachesPlace};
+ghost use Rattle.sat_hints.specs.Lines.{HasNoLf};
+ghost use Rattle.sat_hints.specs.inner.Prefixes.{letter_place, limit_of, next_of, sign_place, zero_place, LeadsToPlace};
+ghost use Rattle.sat_hints.specs.inner.Prefixes.{ReachesPlace};
 ghost use Rattle.sat_hints.specs.declared.prefixes.Place.TheVariants.{Digits, Item};
 
 use sat_base::{Var, append_digit};
@@ -14,7 +15,7 @@ pub(crate) enum Part {
     /// `ID LITS 0 IDS 0`
     DerivedId,
     /// `ID 0`
-    GoneId,
+    RemovedId,
     /// `VAR 0`
     FreshVar,
     /// `LITS 0`
@@ -50,7 +51,7 @@ fn limit(part: Part) -> u64
 {
     match part {
         Part::FreshVar | Part::Clause | Part::Lists => Var::max_count() as u64,
-        Part::InputId | Part::DerivedId | Part::GoneId | Part::Ids | Part::End => u64::MAX,
+        Part::InputId | Part::DerivedId | Part::RemovedId | Part::Ids | Part::End => u64::MAX,
     }
 }
 
@@ -62,7 +63,7 @@ fn next(part: Part) -> Part
         Part::InputId | Part::Clause => Part::Clause,
         Part::DerivedId | Part::Lists => Part::Lists,
         Part::Ids => Part::Ids,
-        Part::GoneId | Part::FreshVar | Part::End => Part::End,
+        Part::RemovedId | Part::FreshVar | Part::End => Part::End,
     }
 }
 
@@ -74,7 +75,7 @@ fn following_letter(byte: u8) -> Option<Place>
         return Some(Place::Space(Part::DerivedId));
     }
     if byte == b'x' {
-        return Some(Place::Space(Part::GoneId));
+        return Some(Place::Space(Part::RemovedId));
     }
     if byte == b'i' {
         return Some(Place::Space(Part::InputId));
@@ -95,7 +96,7 @@ fn after_zero(part: Part) -> Option<Place>
     match part {
         Part::Clause | Part::Ids | Part::End => Some(Place::Over),
         Part::Lists => Some(Place::Space(Part::Ids)),
-        Part::InputId | Part::DerivedId | Part::GoneId | Part::FreshVar => None,
+        Part::InputId | Part::DerivedId | Part::RemovedId | Part::FreshVar => None,
     }
 }
 
@@ -160,7 +161,7 @@ fn after_byte(place: Place, byte: u8) -> Option<Place>
 
 /// Returns the place after `bytes`, the next bytes of a line, or `None` if no line can continue with `bytes`.
 pub(crate) fn following(place: Place, bytes: &[u8]) -> Option<Place>
-    requires { HasNoEnd bytes.now }
+    requires { HasNoLf bytes.now }
     ensures leads { LeadsToPlace place bytes.now result }
     ensures reaches { ReachesPlace place bytes.now result }
 {

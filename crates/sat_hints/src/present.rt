@@ -2,8 +2,9 @@
 ghost use Rattle.std.specs.Prelude.{◌≡◌, ◌<◌, ℕ, [], None, length, slice_index, slice_index_or, OnOk, MatchOption};
 ghost use Rattle.std.specs.Prelude.{false};
 ghost use Rattle.sat_checker.specs.SortedSets.{IsIncreasing};
-ghost use Rattle.sat_hints.specs.inner.Clauses.{present_clause_at, clause_in, occurrences_of, AddsPresentClause, AllBelow, FindsPresentClause};
-ghost use Rattle.sat_hints.specs.inner.Clauses.{IsStore, SamePresentClauses, Loses};
+ghost use Rattle.sat_hints.specs.inner.Clauses.{present_clause_at, clause_in, occurrences_of, AddsPresentClause};
+ghost use Rattle.sat_hints.specs.inner.Clauses.{IdsBelow, FindsPresentClause};
+ghost use Rattle.sat_hints.specs.inner.Clauses.{PresentInvariant, SamePresentClauses, RemovesPresentClause};
 
 use crate::guesses::Guesses;
 use sat_base::{FlatLists, Lit};
@@ -14,7 +15,7 @@ use std::alloc::{AllocError, Global};
 pub(crate) struct Present {
     ids: Vec<u64>,
     clauses: FlatLists<Lit>,
-    gone: Vec<bool>,
+    removed: Vec<bool>,
     guesses: Guesses,
     /// The number of stored clauses plus the number of their literals. `unused` is the same sum for the
     /// removed clauses.
@@ -26,7 +27,7 @@ pub(crate) struct Present {
 impl Present {
     /// Returns an empty collection of clauses. Never allocates.
     pub(crate) fn new(alloc: Global) -> Present
-        ensures store { IsStore result }
+        ensures store { PresentInvariant result }
         ensures none { result.ids.items ≡ [] }
         ensures clauses { (id : ℕ) → clause_in result id ≡ None }
         ensures times { (l : ℕ) → occurrences_of result l ≡ 0 }
@@ -34,7 +35,7 @@ impl Present {
         Present {
             ids: Vec::new(alloc),
             clauses: FlatLists::new(alloc),
-            gone: Vec::new(alloc),
+            removed: Vec::new(alloc),
             guesses: Guesses::new(alloc),
             total: 0,
             unused: 0,
@@ -45,14 +46,14 @@ impl Present {
     /// Returns the place of the clause under `id`, or `None` if no clause is present.
     #[inline(always)]
     pub(crate) fn find(&self, id: u64) -> Option<usize>
-        requires { IsStore self.now }
+        requires { PresentInvariant self.now }
         ensures { MatchOption result (clause_in self.now id ≡ None)
             (FindsPresentClause self.now id) }
     {
         let Ok(place) = self.guesses.search(&self.ids, id) else {
             return None;
         };
-        if self.gone[place] {
+        if self.removed[place] {
             return None;
         }
         Some(place)
@@ -81,23 +82,23 @@ impl Present {
     }
 
     /// Returns `true` if the clause at `place` is removed.
-    pub(crate) fn is_gone(&self, place: usize) -> bool
-        requires { place < length self.now.gone.items }
-        ensures { result ≡ slice_index_or self.now.gone.items place false }
+    pub(crate) fn is_removed(&self, place: usize) -> bool
+        requires { place < length self.now.removed.items }
+        ensures { result ≡ slice_index_or self.now.removed.items place false }
     {
-        self.gone[place]
+        self.removed[place]
     }
 
     /// Adds a clause, given as a sorted set, under `id`, which must be above all earlier ids.
     pub(crate) fn push(&mut self, id: u64, clause: &[Lit]) -> Result<(), AllocError>
-        requires store { IsStore self.old }
-        requires above { AllBelow self.old.ids.items id }
+        requires store { PresentInvariant self.old }
+        requires above { IdsBelow self.old.ids.items id }
         requires increasing { IsIncreasing clause.now }
         ensures { OnOk result (AddsPresentClause self.old self.new id clause.now) }
     {
         self.guesses.note(id, self.ids.len())?;
         self.ids.push(id)?;
-        self.gone.push(false)?;
+        self.removed.push(false)?;
         self.clauses.push(clause)?;
         self.total = self.total.saturating_add(clause.len()).saturating_add(1);
         Ok(())
@@ -105,9 +106,9 @@ impl Present {
 
     /// Removes the clause at `place`, and drops the removed clauses from memory if there are many.
     pub(crate) fn remove(&mut self, place: usize) -> Result<(), AllocError>
-        requires store { IsStore self.old }
+        requires store { PresentInvariant self.old }
         requires within { place < length self.old.clauses }
-        ensures { OnOk result (Loses self.old self.new (slice_index self.old.ids.items place)) }
+        ensures { OnOk result (RemovesPresentClause self.old self.new (slice_index self.old.ids.items place)) }
     {
         self.take_out(place);
         self.compact_if_sparse()
@@ -115,18 +116,18 @@ impl Present {
 
     /// Marks the clause at `place` as removed.
     fn take_out(&mut self, place: usize)
-        requires store { IsStore self.old }
+        requires store { PresentInvariant self.old }
         requires within { place < length self.old.clauses }
-        ensures { Loses self.old self.new (slice_index self.old.ids.items place) }
+        ensures { RemovesPresentClause self.old self.new (slice_index self.old.ids.items place) }
     {
-        self.gone[place] = true;
+        self.removed[place] = true;
         let count = self.clauses.get(place).len();
         self.unused = self.unused.saturating_add(count).saturating_add(1);
     }
 
     /// Drops the removed clauses from memory if they make up more than half of the stored data.
     fn compact_if_sparse(&mut self) -> Result<(), AllocError>
-        requires { IsStore self.old }
+        requires { PresentInvariant self.old }
         ensures { OnOk result (SamePresentClauses self.old self.new) }
     {
         if self.unused <= self.total / 2 {
@@ -137,7 +138,7 @@ impl Present {
 
     /// Drops the removed clauses from memory.
     fn compact(&mut self) -> Result<(), AllocError>
-        requires { IsStore self.old }
+        requires { PresentInvariant self.old }
         ensures { OnOk result (SamePresentClauses self.old self.new) }
     {
         let mut kept = Present::new(self.alloc);
@@ -149,15 +150,15 @@ impl Present {
 
     /// Appends the present clauses, in order, to `kept`, which must be empty.
     fn keep_in(&self, kept: &mut Present) -> Result<(), AllocError>
-        requires store { IsStore self.now }
+        requires store { PresentInvariant self.now }
         requires none { kept.old.ids.items ≡ [] }
-        requires empty { IsStore kept.old }
+        requires empty { PresentInvariant kept.old }
         requires clauses { (id : ℕ) → clause_in kept.old id ≡ None }
         requires times { (l : ℕ) → occurrences_of kept.old l ≡ 0 }
         ensures { OnOk result (SamePresentClauses self.now kept.new) }
     {
         for place in 0..self.ids.len() {
-            if self.gone[place] {
+            if self.removed[place] {
                 continue;
             }
             kept.push(self.ids[place], self.clauses.get(place))?;

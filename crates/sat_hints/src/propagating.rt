@@ -1,7 +1,7 @@
 //! A test for whether clauses are unit in turn, with the last one falsified, which does not depend on memory.
 ghost use Rattle.std.specs.Prelude.{◌≡◌, ◌≢◌, ◌⊎◌, [], true, false, None, MatchBool};
 ghost use Rattle.sat_checker.specs.LiteralSets.{is_tautology};
-ghost use Rattle.sat_checker.specs.inner.AssumedRoom.{AgreesOn, RoomStays, signed};
+ghost use Rattle.sat_checker.specs.inner.AssumedRoom.{AgreeWithinRoom, RoomIsKept, signed};
 ghost use Rattle.sat_hints.specs.inner.LineChecking.{refutation_failure_of, WhyNotRefuted};
 ghost use Rattle.sat_hints.specs.inner.ActiveClauses.{active_clauses, HasRoomForPresent, ActiveClausesInvariant};
 
@@ -19,7 +19,7 @@ fn assume_roomy(assumed: &mut Assigned, literals: &[Lit], negate: bool) -> bool
     requires { assumed.old.literals ≡ [] }
     ensures assumes { MatchBool result (is_tautology (signed negate literals.now) ≡ true)
         ((is_tautology (signed negate literals.now) ≡ false)
-        × AgreesOn assumed.old.room assumed.new.literals (signed negate literals.now)) }
+        × AgreeWithinRoom assumed.old.room assumed.new.literals (signed negate literals.now)) }
     ensures room { assumed.new.room ≡ assumed.old.room }
 {
     if include_both_signs(literals) {
@@ -38,8 +38,8 @@ fn assume_all(assumed: &mut Assigned, literals: &[Lit], negate: bool) -> bool
     requires { assumed.old.literals ≡ [] }
     ensures assumes { MatchBool result (is_tautology (signed negate literals.now) ≡ true)
         ((is_tautology (signed negate literals.now) ≡ false)
-        × AgreesOn assumed.old.room assumed.new.literals (signed negate literals.now)) }
-    ensures stays { RoomStays assumed.old.room assumed.new.room }
+        × AgreeWithinRoom assumed.old.room assumed.new.literals (signed negate literals.now)) }
+    ensures stays { RoomIsKept assumed.old.room assumed.new.room }
 {
     for literal in literals {
         let lit = *literal ^ negate;
@@ -62,22 +62,22 @@ fn assume_all(assumed: &mut Assigned, literals: &[Lit], negate: bool) -> bool
 
 /// Returns the fault of a line that names a clause that is not unit in turn. `following` must be the ids that the line
 /// names after that clause. If no clause is present under one of these ids, the fault is `UnknownId`.
-fn not_unit(standing: &ActiveClauses, following: &[u64]) -> HintWhy
-    requires { ActiveClausesInvariant standing.now }
-    ensures { (active_clauses standing.now following.now ≡ None) × (result ≡ HintWhy.UnknownId)
-        ⊎ (active_clauses standing.now following.now ≢ None) × (result ≡ HintWhy.NotUnit) }
+fn not_unit(active: &ActiveClauses, following: &[u64]) -> HintWhy
+    requires { ActiveClausesInvariant active.now }
+    ensures { (active_clauses active.now following.now ≡ None) × (result ≡ HintWhy.UnknownId)
+        ⊎ (active_clauses active.now following.now ≢ None) × (result ≡ HintWhy.NotUnit) }
 {
-    if are_present(standing, following) {
+    if are_present(active, following) {
         return HintWhy::NotUnit;
     }
     HintWhy::UnknownId
 }
 
 /// Returns why the clauses under `ids` do not lead to a conflict under the assumed literals. Returns `None` if they do.
-fn follow(standing: &ActiveClauses, ids: &[u64], assumed: &mut Assigned) -> Option<HintWhy>
-    requires standing { ActiveClausesInvariant standing.now }
-    requires room { HasRoomForPresent assumed.old.room standing.now }
-    ensures follows { result ≡ refutation_failure_of assumed.old.literals (active_clauses standing.now ids.now) }
+fn follow(active: &ActiveClauses, ids: &[u64], assumed: &mut Assigned) -> Option<HintWhy>
+    requires active { ActiveClausesInvariant active.now }
+    requires room { HasRoomForPresent assumed.old.room active.now }
+    ensures follows { result ≡ refutation_failure_of assumed.old.literals (active_clauses active.now ids.now) }
     ensures room { assumed.new.room ≡ assumed.old.room }
 {
     if ids.is_empty() {
@@ -85,15 +85,15 @@ fn follow(standing: &ActiveClauses, ids: &[u64], assumed: &mut Assigned) -> Opti
     }
     let last = ids.len() - 1;
     for turn in 0..last {
-        let Some(clause) = standing.find_clause(ids[turn]) else {
+        let Some(clause) = active.find_clause(ids[turn]) else {
             return Some(HintWhy::UnknownId);
         };
         match look_at(assumed, clause) {
             Look::Opens(lit) => assumed.assume_in_room(lit),
-            Look::Falsified | Look::Rests => return Some(not_unit(standing, &ids[turn + 1..])),
+            Look::Falsified | Look::Rests => return Some(not_unit(active, &ids[turn + 1..])),
         }
     }
-    let Some(clause) = standing.find_clause(ids[last]) else {
+    let Some(clause) = active.find_clause(ids[last]) else {
         return Some(HintWhy::UnknownId);
     };
     match look_at(assumed, clause) {
@@ -106,22 +106,22 @@ fn follow(standing: &ActiveClauses, ids: &[u64], assumed: &mut Assigned) -> Opti
 /// `negate` is true. Returns `None` if they do, or if the literals include both signs of a variable and all clauses are
 /// present.
 fn conflict_under(
-    standing: &ActiveClauses,
+    active: &ActiveClauses,
     ids: &[u64],
     literals: &[Lit],
     negate: bool,
     assumed: &mut Assigned,
 ) -> Option<HintWhy>
-    requires standing { ActiveClausesInvariant standing.now }
-    requires room { HasRoomForPresent assumed.old.room standing.now }
+    requires active { ActiveClausesInvariant active.now }
+    requires room { HasRoomForPresent assumed.old.room active.now }
     requires nothing { assumed.old.literals ≡ [] }
-    ensures runs { WhyNotRefuted standing.now (signed negate literals.now) ids.now result }
-    ensures stays { RoomStays assumed.old.room assumed.new.room }
+    ensures runs { WhyNotRefuted active.now (signed negate literals.now) ids.now result }
+    ensures stays { RoomIsKept assumed.old.room assumed.new.room }
 {
     if !assume_all(assumed, literals, negate) {
-        return follow(standing, ids, assumed);
+        return follow(active, ids, assumed);
     }
-    if are_present(standing, ids) {
+    if are_present(active, ids) {
         return None;
     }
     Some(HintWhy::UnknownId)
@@ -130,20 +130,20 @@ fn conflict_under(
 /// Does what `conflict_under` does, then undoes what was assumed, and returns the same. Nothing may be assumed
 /// beforehand.
 pub(crate) fn conflict(
-    standing: &ActiveClauses,
+    active: &ActiveClauses,
     ids: &[u64],
     literals: &[Lit],
     negate: bool,
     assumed: &mut Assigned,
 ) -> Option<HintWhy>
-    requires standing { ActiveClausesInvariant standing.now }
-    requires room { HasRoomForPresent assumed.old.room standing.now }
+    requires active { ActiveClausesInvariant active.now }
+    requires room { HasRoomForPresent assumed.old.room active.now }
     requires nothing { assumed.old.literals ≡ [] }
-    ensures runs { WhyNotRefuted standing.now (signed negate literals.now) ids.now result }
+    ensures runs { WhyNotRefuted active.now (signed negate literals.now) ids.now result }
     ensures nothing { assumed.new.literals ≡ [] }
-    ensures stays { RoomStays assumed.old.room assumed.new.room }
+    ensures stays { RoomIsKept assumed.old.room assumed.new.room }
 {
-    let why = conflict_under(standing, ids, literals, negate, assumed);
+    let why = conflict_under(active, ids, literals, negate, assumed);
     assumed.undo_to(0);
     why
 }

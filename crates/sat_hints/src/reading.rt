@@ -1,8 +1,10 @@
 //! Reading the line at the start of a slice of bytes.
-ghost use Rattle.std.specs.Prelude.{◌≡◌, ◌≤◌, ◌+◌, ◌*◌, ◌++◌, List, ℕ, codes, length, vec_capacity, MatchOption, OnOk, []};
+ghost use Rattle.std.specs.Prelude.{◌≡◌, ◌≤◌, ◌+◌, ◌*◌, ◌++◌, List, ℕ, codes, length, vec_capacity, MatchOption, OnOk};
+ghost use Rattle.std.specs.Prelude.{[]};
 ghost use Rattle.sat_base.specs.dimacs.DimacsText.{number_text};
 ghost use Rattle.sat_hints.specs.Lines.{id_text};
-ghost use Rattle.sat_hints.specs.inner.LineReading.{BeginsWithBoth, BeginsWithNoLine, BeginsWithOne, BeginsWithWords};
+ghost use Rattle.sat_hints.specs.inner.LineReading.{BeginsWithBothLists, BeginsWithNoLine, BeginsWithLiteralList};
+ghost use Rattle.sat_hints.specs.inner.LineReading.{BeginsWithWords};
 ghost use Rattle.sat_hints.specs.inner.LineReading.{IsId, IsLiteralCode, BeginsWithHintLine, line_of_view, line_with};
 ghost use Rattle.sat_hints.specs.inner.LineRoom.{HasListRoom, KeepsListRoom};
 
@@ -24,7 +26,7 @@ pub(crate) struct Lists {
 pub(crate) enum Head {
     Input { id: u64 },
     Derived { id: u64 },
-    Gone { id: u64 },
+    Removed { id: u64 },
     Core,
     Fresh { var: Var },
 }
@@ -91,7 +93,7 @@ impl Lists {
                 clause: literals,
                 ids,
             },
-            Head::Gone { id } => HintLine::Gone { id },
+            Head::Removed { id } => HintLine::Removed { id },
             Head::Core => HintLine::Core {
                 core: literals,
                 ids,
@@ -114,8 +116,8 @@ impl Lists {
     fn read_one<'a>(&mut self, bytes: &'a [u8]) -> Option<&'a [u8]>
         requires { HasListRoom self.old (length bytes.now) }
         ensures list { MatchOption result
-            ((ls : List ℕ) (tail : List ℕ) → BeginsWithOne bytes.now ls tail → ⊥)
-            (λ rest. BeginsWithOne bytes.now self.new.literals.items rest.now) }
+            ((ls : List ℕ) (tail : List ℕ) → BeginsWithLiteralList bytes.now ls tail → ⊥)
+            (λ rest. BeginsWithLiteralList bytes.now self.new.literals.items rest.now) }
         ensures room { KeepsListRoom self.old self.new }
     {
         let rest = read_literals(bytes, &mut self.literals);
@@ -126,8 +128,8 @@ impl Lists {
     fn read_both<'a>(&mut self, bytes: &'a [u8]) -> Option<&'a [u8]>
         requires { HasListRoom self.old (length bytes.now) }
         ensures lists { MatchOption result
-            ((ls : List ℕ) (ids : List ℕ) (tail : List ℕ) → BeginsWithBoth bytes.now ls ids tail → ⊥)
-            (λ rest. BeginsWithBoth bytes.now self.new.literals.items self.new.ids.items rest.now) }
+            ((ls : List ℕ) (ids : List ℕ) (tail : List ℕ) → BeginsWithBothLists bytes.now ls ids tail → ⊥)
+            (λ rest. BeginsWithBothLists bytes.now self.new.literals.items self.new.ids.items rest.now) }
         ensures room { KeepsListRoom self.old self.new }
     {
         let rest = read_literals(bytes, &mut self.literals);
@@ -197,7 +199,7 @@ impl Lists {
             return self.read_derived(rest);
         }
         if let Some(rest) = take_text(bytes, b"x ") {
-            return read_gone(rest);
+            return read_removed(rest);
         }
         if let Some(rest) = take_text(bytes, b"i ") {
             return self.read_input(rest);
@@ -213,13 +215,13 @@ impl Lists {
 }
 
 /// Reads the rest of an `x` line, after `x `. Returns the line's head and the remaining bytes.
-fn read_gone(bytes: &[u8]) -> Option<(Head, &[u8])>
+fn read_removed(bytes: &[u8]) -> Option<(Head, &[u8])>
     ensures { MatchOption result (BeginsWithNoLine (codes "x " ++ bytes.now))
         (λ x. (ls : List ℕ) (ids : List ℕ) → BeginsWithHintLine (codes "x " ++ bytes.now) (line_with x.0 ls ids) x.1.now) }
 {
     let (id, following) = read_id(bytes)?;
     let rest = take_text(following, b"0\n")?;
-    Some((Head::Gone { id }, rest))
+    Some((Head::Removed { id }, rest))
 }
 
 /// Reads the rest of an `e` line, after `e `. Returns the line's head and the remaining bytes.

@@ -3,8 +3,8 @@ ghost use Rattle.std.specs.Prelude.{◌≡◌, ◌+◌, ◌*◌, ◌≤◌, ◌<
 ghost use Rattle.sat_checker.specs.LiteralSets.{mentions};
 ghost use Rattle.sat_checker.specs.SortedSets.{IsIncreasing};
 ghost use Rattle.sat_checker.specs.inner.OccurrenceView.{count_at};
-ghost use Rattle.sat_hints.specs.inner.Clauses.{occurrences_of, times_long, IsStore};
-ghost use Rattle.sat_hints.specs.inner.UsesView.{if_counting, uses_at};
+ghost use Rattle.sat_hints.specs.inner.Clauses.{occurrences_of, count_in_long, PresentInvariant};
+ghost use Rattle.sat_hints.specs.inner.UsesView.{count_if_counting, uses_at};
 
 use crate::present::Present;
 use sat_base::{Lit, Var};
@@ -33,8 +33,8 @@ fn mentions(clause: &[Lit], var: Var) -> bool
 
 /// Returns `true` if the clause has two or more literals, and contains the variable.
 fn is_long_with(clause: &[Lit], var: Var) -> bool
-    ensures { MatchBool result (0 < times_long (2 * var) clause.now + times_long (2 * var + 1) clause.now)
-        (times_long (2 * var) clause.now + times_long (2 * var + 1) clause.now ≡ 0) }
+    ensures { MatchBool result (0 < count_in_long (2 * var) clause.now + count_in_long (2 * var + 1) clause.now)
+        (count_in_long (2 * var) clause.now + count_in_long (2 * var + 1) clause.now ≡ 0) }
 {
     if clause.len() < 2 {
         return false;
@@ -44,12 +44,12 @@ fn is_long_with(clause: &[Lit], var: Var) -> bool
 
 /// Returns `true` if a present clause of two or more literals contains the variable.
 fn is_in_long(present: &Present, var: Var) -> bool
-    requires { IsStore present.now }
+    requires { PresentInvariant present.now }
     ensures { MatchBool result (0 < occurrences_of present.now (2 * var) + occurrences_of present.now (2 * var + 1))
         (occurrences_of present.now (2 * var) + occurrences_of present.now (2 * var + 1) ≡ 0) }
 {
     for place in 0..present.len() {
-        if present.is_gone(place) {
+        if present.is_removed(place) {
             continue;
         }
         if is_long_with(present.clause(place), var) {
@@ -62,8 +62,8 @@ fn is_in_long(present: &Present, var: Var) -> bool
 /// Counts the literals of a clause, if it has two or more literals.
 fn count(counts: &mut Occurrences, clause: &[Lit]) -> Result<(), AllocError>
     requires increasing { IsIncreasing clause.now }
-    requires few { (l : ℕ) → count_at counts.old l + times_long l clause.now < 2 ^ 32 }
-    ensures { OnOk result ((l : ℕ) → count_at counts.new l ≡ count_at counts.old l + times_long l clause.now) }
+    requires few { (l : ℕ) → count_at counts.old l + count_in_long l clause.now < 2 ^ 32 }
+    ensures { OnOk result ((l : ℕ) → count_at counts.new l ≡ count_at counts.old l + count_in_long l clause.now) }
 {
     if clause.len() < 2 {
         return Ok(());
@@ -85,13 +85,13 @@ fn check_countable(present: &Present) -> Result<(), AllocError>
 
 /// Counts the literals of all present clauses of two or more literals.
 fn count_all(counts: &mut Occurrences, present: &Present) -> Result<(), AllocError>
-    requires store { IsStore present.now }
+    requires store { PresentInvariant present.now }
     requires none { (l : ℕ) → count_at counts.old l ≡ 0 }
     ensures { OnOk result ((l : ℕ) → count_at counts.new l ≡ occurrences_of present.now l) }
 {
     check_countable(present)?;
     for place in 0..present.len() {
-        if present.is_gone(place) {
+        if present.is_removed(place) {
             continue;
         }
         count(counts, present.clause(place))?;
@@ -115,10 +115,10 @@ impl Uses {
     /// as a sorted set.
     pub(crate) fn add(&mut self, present: &Present, clause: &[Lit]) -> Result<(), AllocError>
         requires increasing { IsIncreasing clause.now }
-        requires few { (l : ℕ) → uses_at self.old l + times_long l clause.now ≤ length present.now.ids.items }
+        requires few { (l : ℕ) → uses_at self.old l + count_in_long l clause.now ≤ length present.now.ids.items }
         ensures counting { OnOk result (self.new.counting ≡ self.old.counting) }
         ensures counted { OnOk result ((l : ℕ)
-            → uses_at self.new l ≡ uses_at self.old l + if_counting self.old.counting (times_long l clause.now)) }
+            → uses_at self.new l ≡ uses_at self.old l + count_if_counting self.old.counting (count_in_long l clause.now)) }
     {
         if !self.counting {
             return Ok(());
@@ -129,9 +129,9 @@ impl Uses {
 
     /// If counting has started, subtracts the literals of a clause that is being removed.
     pub(crate) fn subtract(&mut self, clause: &[Lit])
-        requires { (l : ℕ) → if_counting self.old.counting (times_long l clause.now) ≤ uses_at self.old l }
+        requires { (l : ℕ) → count_if_counting self.old.counting (count_in_long l clause.now) ≤ uses_at self.old l }
         ensures counting { self.new.counting ≡ self.old.counting }
-        ensures counted { (l : ℕ) → uses_at self.new l + if_counting self.old.counting (times_long l clause.now)
+        ensures counted { (l : ℕ) → uses_at self.new l + count_if_counting self.old.counting (count_in_long l clause.now)
             ≡ uses_at self.old l }
     {
         if !self.counting || clause.len() < 2 {
@@ -142,8 +142,8 @@ impl Uses {
 
     /// Starts counting, unless counting has already started: counts the literals of all present clauses.
     pub(crate) fn begin(&mut self, present: &Present) -> Result<(), AllocError>
-        requires store { IsStore present.now }
-        requires counted { (l : ℕ) → uses_at self.old l ≡ if_counting self.old.counting (occurrences_of present.now l) }
+        requires store { PresentInvariant present.now }
+        requires counted { (l : ℕ) → uses_at self.old l ≡ count_if_counting self.old.counting (occurrences_of present.now l) }
         ensures counting { OnOk result (self.new.counting ≡ true) }
         ensures counted { OnOk result ((l : ℕ) → uses_at self.new l ≡ occurrences_of present.now l) }
     {
@@ -158,8 +158,8 @@ impl Uses {
     /// Returns `true` if a present clause of two or more literals contains the variable. If counting has not started,
     /// searches all clauses.
     pub(crate) fn has(&self, present: &Present, var: Var) -> bool
-        requires store { IsStore present.now }
-        requires counted { (l : ℕ) → uses_at self.now l ≡ if_counting self.now.counting (occurrences_of present.now l) }
+        requires store { PresentInvariant present.now }
+        requires counted { (l : ℕ) → uses_at self.now l ≡ count_if_counting self.now.counting (occurrences_of present.now l) }
         ensures { MatchBool result (0 < occurrences_of present.now (2 * var) + occurrences_of present.now (2 * var + 1))
             (occurrences_of present.now (2 * var) + occurrences_of present.now (2 * var + 1) ≡ 0) }
     {

@@ -15,5 +15,5 @@ pub mod Undone
 pub mod Backtracked
 pub mod Implied
 pub mod Lending
-pub mod Causes
+pub mod ReasonLits
 pub mod TrailWord

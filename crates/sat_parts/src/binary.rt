@@ -7,7 +7,7 @@ ghost use Rattle.sat_parts.specs.prop.Values.{is_unassigned_var};
 ghost use Rattle.sat_parts.specs.prop.Binaries.{implied_by, with_implied, without_last_implied, with_binary};
 ghost use Rattle.sat_parts.specs.prop.Binaries.{with_binary_lists};
 ghost use Rattle.sat_parts.specs.prop.Binaries.{unassigned_among, implications, RemovesAssigned};
-ghost use Rattle.sat_parts.specs.prop.Places.{no_place, place_at, part_of, lists_of, ArePlaces, CopiesPadded};
+ghost use Rattle.sat_parts.specs.prop.Places.{no_place, place_at, lits_at_place, lists_of, ArePlaces, CopiesPadded};
 
 use crate::prop::assignment::Assignment;
 use sat_base::Lit;
@@ -164,7 +164,7 @@ fn open_part(lits: &mut Vec<Lit>, place: Place, assignment: &Assignment, index: 
     ensures few { result ≤ place.len }
     ensures size { length lits.new.items ≡ length lits.old.items }
     ensures kept { take result (drop place.start lits.new.items)
-        ≡ unassigned_among assignment.now.current index (part_of lits.old.items place) }
+        ≡ unassigned_among assignment.now.current index (lits_at_place lits.old.items place) }
     ensures rest { (k : ℕ) → (k < place.start) ⊎ (place.start + place.len ≤ k)
         → slice_index lits.new.items k ≡ slice_index lits.old.items k }
 {

@@ -1,7 +1,8 @@
 //! Computes the glue of clauses, which is the number of distinct levels among the literals of a clause.
 ghost use Rattle.std.specs.Prelude.{ℕ, ◌≡◌, ◌<◌, ◌≤◌, min, length, take, slice_index_or, false};
 ghost use Rattle.sat_store.specs.clause.Buffer.{IsClause, lits_at};
-ghost use Rattle.sat_parts.specs.clause.Glue.{levels_of, count_distinct, HaveNodes, HaveFlags, AreClear, MarksLevels};
+ghost use Rattle.sat_parts.specs.clause.Glue.{levels_of, count_distinct, LitsHaveNodes, LevelsHaveFlags, FlagsAreClear};
+ghost use Rattle.sat_parts.specs.clause.Glue.{FlagsMarkLevels};
 
 use crate::prop::graph::ImplGraph;
 use sat_base::Lit;
@@ -9,9 +10,9 @@ use sat_store::{ClauseAlloc, ClauseRef, TmpFlags};
 
 /// Returns the number of distinct levels among the literals. All flags must be false, and are false again afterwards.
 pub fn compute_glue(flags: &mut TmpFlags, graph: &ImplGraph, lits: &[Lit]) -> usize
-    requires nodes { HaveNodes graph.now lits.now }
-    requires levels { HaveFlags graph.now flags.old.flags.items lits.now }
-    requires clear { AreClear flags.old.flags.items }
+    requires nodes { LitsHaveNodes graph.now lits.now }
+    requires levels { LevelsHaveFlags graph.now flags.old.flags.items lits.now }
+    requires clear { FlagsAreClear flags.old.flags.items }
     ensures glue { result ≡ count_distinct (levels_of graph.now lits.now) }
     ensures clear { flags.new.flags.items ≡ flags.old.flags.items }
 {
@@ -22,12 +23,12 @@ pub fn compute_glue(flags: &mut TmpFlags, graph: &ImplGraph, lits: &[Lit]) -> us
 
 /// Sets the flag of every level among the literals, and returns the number of levels.
 fn mark_levels(flags: &mut TmpFlags, graph: &ImplGraph, lits: &[Lit]) -> usize
-    requires nodes { HaveNodes graph.now lits.now }
-    requires levels { HaveFlags graph.now flags.old.flags.items lits.now }
-    requires clear { AreClear flags.old.flags.items }
+    requires nodes { LitsHaveNodes graph.now lits.now }
+    requires levels { LevelsHaveFlags graph.now flags.old.flags.items lits.now }
+    requires clear { FlagsAreClear flags.old.flags.items }
     ensures glue { result ≡ count_distinct (levels_of graph.now lits.now) }
     ensures size { length flags.new.flags.items ≡ length flags.old.flags.items }
-    ensures marked { MarksLevels flags.new.flags.items (levels_of graph.now lits.now) }
+    ensures marked { FlagsMarkLevels flags.new.flags.items (levels_of graph.now lits.now) }
 {
     let mut glue = 0;
     for lit in lits {
@@ -42,9 +43,9 @@ fn mark_levels(flags: &mut TmpFlags, graph: &ImplGraph, lits: &[Lit]) -> usize
 
 /// Clears the flag of every level among the literals.
 fn clear_levels(flags: &mut TmpFlags, graph: &ImplGraph, lits: &[Lit])
-    requires nodes { HaveNodes graph.now lits.now }
-    requires levels { HaveFlags graph.now flags.old.flags.items lits.now }
-    requires marked { MarksLevels flags.old.flags.items (levels_of graph.now lits.now) }
+    requires nodes { LitsHaveNodes graph.now lits.now }
+    requires levels { LevelsHaveFlags graph.now flags.old.flags.items lits.now }
+    requires marked { FlagsMarkLevels flags.old.flags.items (levels_of graph.now lits.now) }
     ensures size { length flags.new.flags.items ≡ length flags.old.flags.items }
     ensures clear { (k : ℕ) → k < length flags.new.flags.items → slice_index_or flags.new.flags.items k false ≡ false }
 {
@@ -63,9 +64,9 @@ pub fn compute_clause_glue(
     cref: ClauseRef,
 ) -> usize
     requires clause { IsClause clauses.now cref }
-    requires nodes { HaveNodes graph.now (lits_at clauses.now cref) }
-    requires levels { HaveFlags graph.now flags.old.flags.items (lits_at clauses.now cref) }
-    requires clear { AreClear flags.old.flags.items }
+    requires nodes { LitsHaveNodes graph.now (lits_at clauses.now cref) }
+    requires levels { LevelsHaveFlags graph.now flags.old.flags.items (lits_at clauses.now cref) }
+    requires clear { FlagsAreClear flags.old.flags.items }
     ensures glue { result ≡ count_distinct (levels_of graph.now (lits_at clauses.now cref)) }
     ensures clear { flags.new.flags.items ≡ flags.old.flags.items }
 {
@@ -83,9 +84,9 @@ pub fn compute_clause_glue_below(
     limit: usize,
 ) -> usize
     requires clause { IsClause clauses.now cref }
-    requires nodes { HaveNodes graph.now (lits_at clauses.now cref) }
-    requires levels { HaveFlags graph.now flags.old.flags.items (lits_at clauses.now cref) }
-    requires clear { AreClear flags.old.flags.items }
+    requires nodes { LitsHaveNodes graph.now (lits_at clauses.now cref) }
+    requires levels { LevelsHaveFlags graph.now flags.old.flags.items (lits_at clauses.now cref) }
+    requires clear { FlagsAreClear flags.old.flags.items }
     ensures glue { result ≡ min limit (count_distinct (levels_of graph.now (lits_at clauses.now cref))) }
     ensures clear { flags.new.flags.items ≡ flags.old.flags.items }
 {
@@ -104,13 +105,13 @@ fn mark_clause_levels(
     limit: usize,
 ) -> (usize, usize)
     requires clause { IsClause clauses.now cref }
-    requires nodes { HaveNodes graph.now (lits_at clauses.now cref) }
-    requires levels { HaveFlags graph.now flags.old.flags.items (lits_at clauses.now cref) }
-    requires clear { AreClear flags.old.flags.items }
+    requires nodes { LitsHaveNodes graph.now (lits_at clauses.now cref) }
+    requires levels { LevelsHaveFlags graph.now flags.old.flags.items (lits_at clauses.now cref) }
+    requires clear { FlagsAreClear flags.old.flags.items }
     ensures glue { result.0 ≡ min limit (count_distinct (levels_of graph.now (lits_at clauses.now cref))) }
     ensures within { result.1 ≤ length (lits_at clauses.now cref) }
     ensures size { length flags.new.flags.items ≡ length flags.old.flags.items }
-    ensures marked { MarksLevels flags.new.flags.items
+    ensures marked { FlagsMarkLevels flags.new.flags.items
         (take result.1 (levels_of graph.now (lits_at clauses.now cref))) }
 {
     let end = clauses.len(cref);
@@ -137,10 +138,10 @@ fn clear_clause_levels(
     seen: usize,
 )
     requires clause { IsClause clauses.now cref }
-    requires nodes { HaveNodes graph.now (lits_at clauses.now cref) }
-    requires levels { HaveFlags graph.now flags.old.flags.items (lits_at clauses.now cref) }
+    requires nodes { LitsHaveNodes graph.now (lits_at clauses.now cref) }
+    requires levels { LevelsHaveFlags graph.now flags.old.flags.items (lits_at clauses.now cref) }
     requires within { seen ≤ length (lits_at clauses.now cref) }
-    requires marked { MarksLevels flags.old.flags.items
+    requires marked { FlagsMarkLevels flags.old.flags.items
         (take seen (levels_of graph.now (lits_at clauses.now cref))) }
     ensures size { length flags.new.flags.items ≡ length flags.old.flags.items }
     ensures clear { (k : ℕ) → k < length flags.new.flags.items → slice_index_or flags.new.flags.items k false ≡ false }

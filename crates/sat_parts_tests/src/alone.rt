@@ -1,7 +1,7 @@
 //! Tests of the two parts of propagation, each on its own, and of building watch lists.
 ghost use Rattle.std.specs.Prelude.{ℕ, List, ◌≡◌, ◌+◌, ◌<◌, [], length};
 ghost use Rattle.sat_parts.specs.prop.State.{level, current_level};
-ghost use Rattle.sat_parts.specs.prop.Ready.{LongReady};
+ghost use Rattle.sat_parts.specs.prop.Ready.{LongPropagationInvariant};
 ghost use Rattle.sat_parts.specs.parts.Whole.{state, SearchStateInvariant, SearchStateInvariantBelow};
 
 use crate::loading::loaded;
@@ -44,7 +44,7 @@ fn over_long(
     parts: &mut SearchState,
 ) -> Result<Option<Result<(), Conflict>>, AllocError>
     ghost live: { List ℕ }
-    requires { LongReady parts.old.clauses live parts.old.watchlists.lists
+    requires { LongPropagationInvariant parts.old.clauses live parts.old.watchlists.lists
         (state parts.old) (λ l. level (state parts.old) l < current_level (state parts.old) + 1) }
 {
     let next = parts.trail.pop_queue();

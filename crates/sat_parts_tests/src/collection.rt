@@ -1,7 +1,7 @@
 //! Tests of a collection while a clause is the reason of a literal.
 ghost use Rattle.std.specs.Prelude.{◌≡◌, ◌<◌, IsTrue, OnOk, [], length};
 ghost use Rattle.sat_parts.specs.clause.Db.{DbMatchesBuffer, live_refs};
-ghost use Rattle.sat_parts.specs.clause.Collected.{AreFirsts};
+ghost use Rattle.sat_parts.specs.clause.Collected.{ReasonsHaveLitFirst};
 ghost use Rattle.sat_parts_tests.specs.Firsts.{HasFirst};
 
 use crate::lists::store;
@@ -33,7 +33,7 @@ fn reason_holds(clauses: &ClauseAlloc, db: &ClauseDb, graph: &ImplGraph, lit: Li
 /// Returns `true` if the reasons of the trail's literals are as a collection requires.
 fn reasons_hold(clauses: &ClauseAlloc, db: &ClauseDb, graph: &ImplGraph, trail: &Trail) -> bool
     requires { DbMatchesBuffer clauses.now db.now }
-    ensures { IsTrue result → AreFirsts clauses.now (live_refs clauses.now db.now.refs) trail.now.lits graph.now }
+    ensures { IsTrue result → ReasonsHaveLitFirst clauses.now (live_refs clauses.now db.now.refs) trail.now.lits graph.now }
 {
     let lits = trail.trail();
     for at in 0..lits.len() {

@@ -3,7 +3,8 @@ use Rattle.std.specs.Prelude.{ℕ, Bool, true, ◌&&◌, nat_le, Option, None, S
 use Rattle.sat_solver.specs.declared.config.SolverConfig.{SolverConfig}
 use Rattle.sat_solver.specs.declared.config.SolverConfigUpdate.{SolverConfigUpdate}
 
--- the default parameters
+-- the default parameters: decays in thousandths, intervals of reductions in rounds, restart scale 128, and no practical
+-- limit of rounds (2^64-1)
 abbrev pub defaults : SolverConfig
 defaults = record {
   vsids_decay = 950;
@@ -14,22 +15,24 @@ defaults = record {
   max_steps = 18446744073709551615;
 }
 
--- `is_decay n` is true if the decay `n` is 500 to 999 thousandths
+-- `is_decay n` is true if `n` is a valid decay, in thousandths: 500 to 999, inclusive
 abbrev pub is_decay : ℕ → Bool
 is_decay n = nat_le 500 n && nat_le n 999
 
--- `passes p value` is true if the value is `None` or passes the test `p`
-abbrev pub passes : (ℕ → Bool) → Option ℕ → Bool
-passes p None = true
-passes p (Some n) = p n
+-- `is_none_or p value` is true if `value` is `None` or its number passes the test `p`
+abbrev pub is_none_or : (ℕ → Bool) → Option ℕ → Bool
+is_none_or p None = true
+is_none_or p (Some n) = p n
 
--- `in_range u` is true if every field that the update `u` changes is in its range; `max_steps` may be any number
-abbrev pub in_range : SolverConfigUpdate → Bool
-in_range u =
-    passes is_decay u.vsids_decay && (passes is_decay u.clause_activity_decay
-    && (passes (nat_le 1) u.reduce_locals_interval && (passes (nat_le 1) u.reduce_mids_interval && passes (nat_le 1) u.luby_restart_interval_scale)))
+-- `is_update_in_range u` is true if every field that `u` changes is in range: decays from 500 to 999, intervals and
+-- scale at least 1, `max_steps` any number
+abbrev pub is_update_in_range : SolverConfigUpdate → Bool
+is_update_in_range u =
+    is_none_or is_decay u.vsids_decay && (is_none_or is_decay u.clause_activity_decay
+    && (is_none_or (nat_le 1) u.reduce_locals_interval && (is_none_or (nat_le 1) u.reduce_mids_interval && is_none_or (nat_le 1) u.luby_restart_interval_scale)))
 
--- `updated u c` is the parameters `c` after the update `u`
+-- `updated u c` is the parameters `c` with every field that `u` sets replaced; a field that is `None` in `u` is
+-- unchanged
 abbrev pub updated : SolverConfigUpdate → SolverConfig → SolverConfig
 updated u c = record {
   vsids_decay = unwrap_or u.vsids_decay c.vsids_decay;

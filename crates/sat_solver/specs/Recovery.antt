@@ -5,7 +5,8 @@ use Rattle.sat_store.specs.declared.clause.alloc.StoreError.TheVariants as store
 use Rattle.sat_solver.specs.declared.error.SolverError.{SolverError}
 use Rattle.sat_solver.specs.declared.error.SolverError.TheVariants as errors
 
--- `is_recoverable e` is true if a solver can still be used after the error `e`, whichever call reported it
+-- `is_recoverable e` is true if a call that returns `e` leaves the solver usable, as after a refusal; false if every
+-- later call fails
 abbrev pub is_recoverable : SolverError → Bool
 is_recoverable errors.Interrupted = true
 is_recoverable (errors.ProofProcessorError cause) = false
@@ -23,7 +24,7 @@ is_recoverable errors.Read = true
 is_recoverable errors.Malformed = true
 is_recoverable errors.OutOfRange = true
 
--- the solver's error for a refusal of the clause buffer
-abbrev pub buffer_failure : StoreError → SolverError
-buffer_failure stores.StoreFull = errors.StoreFull
-buffer_failure stores.OutOfMemory = errors.OutOfMemory
+-- the solver's error for an error of the clause buffer: full, or out of memory
+abbrev pub error_of_buffer : StoreError → SolverError
+error_of_buffer stores.StoreFull = errors.StoreFull
+error_of_buffer stores.OutOfMemory = errors.OutOfMemory

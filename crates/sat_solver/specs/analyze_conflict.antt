@@ -1,7 +1,7 @@
 pub mod AddedState
-pub mod Advances
+pub mod Empowering
 pub mod Derivation
-pub mod Involved
+pub mod Seen
 pub mod Marks
-pub mod Minimal
+pub mod Minimization
 pub mod AnalysisState

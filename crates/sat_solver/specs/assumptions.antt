@@ -1,3 +1,3 @@
-pub mod Failing
+pub mod FailedAssumptions
 pub mod Setting
 pub mod Core

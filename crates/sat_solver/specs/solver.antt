@@ -6,8 +6,8 @@ pub mod Found
 pub mod Joined
 pub mod Lines
 pub mod Progressing
-pub mod Settling
-pub mod Taking
+pub mod SearchingForAnswer
+pub mod AddingToSearch
 pub mod View
 pub mod Whole
 pub mod Proving
@@ -15,5 +15,5 @@ pub mod Configuring
 pub mod Naming
 pub mod Formulas
 pub mod Prefixes
-pub mod Failing
+pub mod FailedEngine
 pub mod Answers

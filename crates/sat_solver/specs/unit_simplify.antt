@@ -1,8 +1,8 @@
-pub mod Left
-pub mod Cuts
-pub mod Cutting
-pub mod Flat
-pub mod Freed
-pub mod Freeing
+pub mod AfterUnits
+pub mod StrengtheningSteps
+pub mod Strengthening
+pub mod EmptyTrail
+pub mod FreedIndices
+pub mod FreedVars
 pub mod ClauseStatus
 pub mod Passes

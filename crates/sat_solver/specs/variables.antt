@@ -3,7 +3,7 @@ pub mod Shared
 pub mod Calls
 pub mod NamingSteps
 pub mod Counting
-pub mod Failing
+pub mod NameFailures
 pub mod Free
 pub mod Indexing
 pub mod Live
@@ -14,5 +14,5 @@ pub mod Refusing
 pub mod VariableRoom
 pub mod Search
 pub mod Searching
-pub mod Taking
+pub mod StepFailures
 pub mod Variables

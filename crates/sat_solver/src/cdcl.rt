@@ -1,13 +1,13 @@
 //! A round: a search up to a conflict and the clause learned from it, or up to an answer.
 ghost use Rattle.std.specs.Prelude.{◌≡◌, ◌<◌, ◌≤◌, length};
 ghost use Rattle.sat_solver.specs.proof.ProofView.{HasAllowedSteps, steps_of, session_of};
-ghost use Rattle.sat_parts.specs.parts.Whole.{IsRefuted};
+ghost use Rattle.sat_parts.specs.parts.Whole.{HasConflict};
 ghost use Rattle.sat_solver.specs.session.Naming.{global_of_index};
-ghost use Rattle.sat_solver.specs.session.Fits.{SessionMatchesParts, TrueLitsHaveNames};
+ghost use Rattle.sat_solver.specs.session.Matching.{SessionMatchesParts, TrueLitsHaveIndices};
 ghost use Rattle.sat_solver.specs.cdcl.StepEffects.{EmitsSteps};
-ghost use Rattle.sat_solver.specs.cdcl.Iterations.{IsStopped};
+ghost use Rattle.sat_solver.specs.cdcl.Iterations.{IsFalsifiedAt};
 ghost use Rattle.sat_solver.specs.cdcl.Rounds.{LastRefutes, RoundEffect};
-ghost use Rattle.sat_solver.specs.cdcl.Ending.{EndsRound};
+ghost use Rattle.sat_solver.specs.cdcl.Ending.{RoundEndsOrFails};
 ghost use Rattle.sat_solver.specs.unit_simplify.Passes.{JointInvariant};
 
 pub mod begin;
@@ -39,10 +39,10 @@ fn refute<W: CountedWrite + Drop, P: ProofProcessor>(
     conflict: &Conflict,
 ) -> Result<(), Fault>
     requires keeps { HasAllowedSteps proof.old }
-    requires refuted { IsRefuted parts.now conflict.now }
+    requires refuted { HasConflict parts.now conflict.now }
     requires bottom { length parts.now.trail.starts ≡ 0 }
     requires fits { SessionMatchesParts parts.now (session_of proof.old) (global_of_index globals.now) }
-    requires named { TrueLitsHaveNames parts.now.assignment.current (session_of proof.old) (global_of_index globals.now) }
+    requires named { TrueLitsHaveIndices parts.now.assignment.current (session_of proof.old) (global_of_index globals.now) }
     requires names { length parts.now.assignment.current ≤ length globals.now }
     ensures { EmitsSteps W.seen result proof.old proof.new
         (λ _ steps. LastRefutes (steps_of proof.old) steps (session_of proof.new)) }
@@ -66,7 +66,7 @@ fn learn_or_refute<W: CountedWrite + Drop, P: ProofProcessor>(
     conflict: &Conflict,
 ) -> Result<RoundOutcome, Fault>
     requires keeps { HasAllowedSteps proof.old }
-    requires stopped { IsStopped (session_of proof.old) search.old conflict.now }
+    requires stopped { IsFalsifiedAt (session_of proof.old) search.old conflict.now }
     ensures { RoundEffect W.seen result proof.old proof.new search.old search.new }
 {
     if search.parts.trail.current_level() > 0 {
@@ -91,7 +91,7 @@ pub fn conflict_step<W: CountedWrite + Drop, P: ProofProcessor>(
     names: &mut Variables,
 ) -> Result<RoundOutcome, Fault>
     requires together { JointInvariant names.old proof.old search.old }
-    ensures { EndsRound W.seen result names.old names.new proof.old proof.new search.old search.new }
+    ensures { RoundEndsOrFails W.seen result names.old names.new proof.old proof.new search.old search.new }
 {
     let begun = begin_round(proof, search, names)?;
     match begun {

@@ -1,6 +1,6 @@
 //! The parameters of a search.
 ghost use Rattle.std.specs.Prelude.{ℕ, ◌≡◌, true, false, None, Some, nat_le, OnOk, IfErr};
-ghost use Rattle.sat_solver.specs.Configs.{defaults, is_decay, passes, in_range, updated};
+ghost use Rattle.sat_solver.specs.Configs.{defaults, is_decay, is_none_or, is_update_in_range, updated};
 
 use crate::error::SolverError;
 
@@ -49,8 +49,8 @@ pub struct SolverConfigUpdate {
 }
 
 /// Returns `true` if `change` is `None`, or a decay from 500 to 999.
-fn may_decay(change: Option<u32>) -> bool
-    ensures { result ≡ passes is_decay change }
+fn is_valid_decay(change: Option<u32>) -> bool
+    ensures { result ≡ is_none_or is_decay change }
 {
     match change {
         None => true,
@@ -59,8 +59,8 @@ fn may_decay(change: Option<u32>) -> bool
 }
 
 /// Returns `true` if `change` is `None`, or at least 1.
-fn may_count(change: Option<u64>) -> bool
-    ensures { result ≡ passes (nat_le 1) change }
+fn is_valid_count(change: Option<u64>) -> bool
+    ensures { result ≡ is_none_or (nat_le 1) change }
 {
     match change {
         None => true,
@@ -90,19 +90,19 @@ impl SolverConfigUpdate {
 
     /// Returns `true` if every field that is `Some` is in its range.
     fn is_in_range(&self) -> bool
-        ensures { result ≡ in_range self.now }
+        ensures { result ≡ is_update_in_range self.now }
     {
-        may_decay(self.vsids_decay)
-            && may_decay(self.clause_activity_decay)
-            && may_count(self.reduce_locals_interval)
-            && may_count(self.reduce_mids_interval)
-            && may_count(self.luby_restart_interval_scale)
+        is_valid_decay(self.vsids_decay)
+            && is_valid_decay(self.clause_activity_decay)
+            && is_valid_count(self.reduce_locals_interval)
+            && is_valid_count(self.reduce_mids_interval)
+            && is_valid_count(self.luby_restart_interval_scale)
     }
 
     /// Applies the update to `config`. If a field is out of its range, returns `OutOfRange` and changes nothing.
     pub fn apply(&self, config: &mut SolverConfig) -> Result<(), SolverError>
-        ensures ok { OnOk result ((in_range self.now ≡ true) × (config.new ≡ updated self.now config.old)) }
-        ensures err { IfErr result (λ e. (e ≡ SolverError.OutOfRange) × (in_range self.now ≡ false)
+        ensures ok { OnOk result ((is_update_in_range self.now ≡ true) × (config.new ≡ updated self.now config.old)) }
+        ensures err { IfErr result (λ e. (e ≡ SolverError.OutOfRange) × (is_update_in_range self.now ≡ false)
             × (config.new ≡ config.old)) }
     {
         if !self.is_in_range() {

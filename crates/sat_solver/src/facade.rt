@@ -1,32 +1,37 @@
 //! An incremental solver that writes a proof. Contracts describe it by one record, `SolverView`.
 ghost use Rattle.std.specs.Result.{result_ok};
-ghost use Rattle.std.specs.Prelude.{◌≡◌, ◌≤◌, ◌+◌, true, false, Ok, Err, OnOk, IfOk, IfErr, IsErrOf, MatchOption, IfSome};
-ghost use Rattle.sat_base.specs.device.Device.{most_reads};
-ghost use Rattle.sat_base.specs.dimacs.Parsing.{StopsReading};
+ghost use Rattle.std.specs.Prelude.{◌≡◌, ◌≤◌, ◌+◌, true, false, Ok, Err, OnOk, IfOk, IfErr, IsErrOf, MatchOption};
+ghost use Rattle.std.specs.Prelude.{IfSome};
+ghost use Rattle.sat_base.specs.device.Device.{max_reads};
+ghost use Rattle.sat_base.specs.dimacs.Parsing.{MakesNoReadAfterEnd};
 ghost use Rattle.sat_solver.specs.proof.EmittedView.{ReturnsIfChecked, ReturnsNotifiedIfChecked};
-ghost use Rattle.sat_solver.specs.proof.ProofView.{GivesWriter, returned_writer};
-ghost use Rattle.sat_solver.specs.variables.NamingSteps.{IsDue, LeavesNoneIdle, IsHidingStep, IsModeStep};
+ghost use Rattle.sat_solver.specs.proof.ProofView.{ReturnsWriter, returned_writer};
+ghost use Rattle.sat_solver.specs.variables.NamingSteps.{IsDue, LeavesNoIdleVariable, IsHidingStep, IsModeStep};
 ghost use Rattle.sat_base.specs.script.ScriptState.{Sampled, Witnessed};
-ghost use Rattle.sat_solver.specs.facade.View.{IsEmpty};
+ghost use Rattle.sat_solver.specs.facade.View.{IsInitial};
 ghost use Rattle.sat_solver.specs.solver.Calls.{MakesRounds};
-ghost use Rattle.sat_solver.specs.facade.Calls.{ReachesBySteps, Writes};
+ghost use Rattle.sat_solver.specs.facade.Calls.{ReachesBySteps, WritesSteps};
 ghost use Rattle.sat_solver.specs.facade.Checking.{CheckerAfter, CheckerAfterAsk, CheckerAfterClosing};
-ghost use Rattle.sat_solver.specs.facade.Adding.{AddsClause, AssumesOrRefuses, IsDrat, IsPastDrat, StepsOfAssumptions};
+ghost use Rattle.sat_solver.specs.facade.Adding.{AddsClause, AssumesOrRefuses, IsDrat, DratRefusesClauses};
+ghost use Rattle.sat_solver.specs.facade.Adding.{StepsOfAssumptions};
 ghost use Rattle.sat_solver.specs.facade.Adding.{StepsOfClause};
-ghost use Rattle.sat_solver.specs.facade.Answers.{HasNoCore, HasNone, IsCore, IsModel, IsOngoing, ModelFails, Solves};
+ghost use Rattle.sat_solver.specs.facade.Answers.{HasNoCore, HasNoModel, IsCore, IsModel, IsOngoing, ModelFails};
+ghost use Rattle.sat_solver.specs.facade.Answers.{Solves};
 ghost use Rattle.sat_solver.specs.facade.Answers.{StepsOfAsk};
 ghost use Rattle.sat_solver.specs.facade.Configuring.{Configures};
 ghost use Rattle.sat_solver.specs.facade.Extending.{CallsAddClause, CallsNewVar};
 ghost use Rattle.sat_solver.specs.facade.Formulas.{AddsFormula, AddsText};
 ghost use Rattle.sat_solver.specs.facade.Inner.{Between};
-ghost use Rattle.sat_solver.specs.facade.Naming.{Hides, NamesFail, NamesNew, Observed, ObservesBetween, OnlyMakes};
+ghost use Rattle.sat_solver.specs.facade.Naming.{Hides, ObserveFails, NewNameResult, Observed, ObservesBetween};
+ghost use Rattle.sat_solver.specs.facade.Naming.{OnlyMakes};
 ghost use Rattle.sat_solver.specs.facade.Naming.{Samples, Witnesses, due_for_hiding, due_for_mode, due_for_name};
-ghost use Rattle.sat_solver.specs.facade.Proving.{AddsProcessor, ClosesProof, ClosesText, Enables, IsCertificate};
+ghost use Rattle.sat_solver.specs.facade.Proving.{AddsProcessor, ClosesProof, ClosesText, EnablesChecking};
+ghost use Rattle.sat_solver.specs.facade.Proving.{IsCertificate};
 ghost use Rattle.sat_solver.specs.facade.Proving.{MakesLast};
 ghost use Rattle.sat_solver.specs.facade.Proving.{IsDratRefutation, OpensProof, ReturnsAcceptedPrefix, writer_given};
 
 mod formulas;
-pub mod judged;
+pub(crate) mod judged;
 pub mod laws;
 
 use crate::facade::judged::{Call, Change, Judged};
@@ -72,7 +77,7 @@ impl<W: CountedWrite + Drop, P: ProofProcessor> Model for Solver<W, P> {
 impl<W: CountedWrite + Drop> Solver<W, Nobody> {
     /// Creates a solver without clauses, names or listeners. Never allocates.
     pub fn new(alloc: Global) -> Solver<W, Nobody>
-        ensures { IsEmpty result }
+        ensures { IsInitial result }
     {
         Solver::notifying(alloc)
     }
@@ -82,7 +87,7 @@ impl<W: CountedWrite + Drop, P: ProofProcessor> Solver<W, P> {
     /// Creates a solver without clauses or names, whose listeners are of type `P`. It has no listeners yet.
     /// Never allocates.
     pub fn notifying(alloc: Global) -> Solver<W, P>
-        ensures { IsEmpty result }
+        ensures { IsInitial result }
     {
         Solver {
             inner: Engine::notifying(alloc),
@@ -91,17 +96,18 @@ impl<W: CountedWrite + Drop, P: ProofProcessor> Solver<W, P> {
     }
 
     /// Returns the number of rounds (not proof steps) so far, over all calls to `solve`, even after a failed call. A
-    /// round ends in a conflict or an answer. The number saturates at 2^64-1.
+    /// round ends in a conflict or an answer. Once the number is 2^64-1, no further round runs, and `solve` returns
+    /// `Interrupted` unless an answer is known.
     pub fn steps(&self) -> u64
         ensures { result ≡ self.now.clock.rounds }
     {
         self.inner.steps()
     }
 
-    /// Returns the current numbers of rounds, restarts, variables without a value, and clauses of each kind.
-    /// Never allocates.
+    /// Returns the current numbers of rounds, restarts, variables that have an index but no value, and stored clauses
+    /// of each kind. A variable that no clause or assumption has used has no index. Never allocates.
     ///
-    /// After a failed call, only the numbers of rounds and restarts are exact. Once the clauses are known to be
+    /// Once the solver has failed, only the numbers of rounds and restarts are exact. Once the clauses are known to be
     /// unsatisfiable, the numbers of clauses are not exact either.
     pub fn progress(&self) -> Progress
         ensures conflicts { result.conflicts ≡ self.now.clock.rounds }
@@ -116,14 +122,15 @@ impl<W: CountedWrite + Drop, P: ProofProcessor> Solver<W, P> {
     ///
     /// A hidden name gets a new variable. A name that was never used is introduced together with all lower names that
     /// were never used. Clauses can also be added after asks, which discards the answer. Once the clauses alone are
-    /// known to be unsatisfiable, only the names of the clause are introduced. Errors: `NotInDrat` after the first
-    /// `solve` if DRAT lines are written; `WitnessVariable` if a name in `lits` has the mode witness; `VariableLimit`
-    /// if there is no variable for a name that would be introduced.
+    /// known to be unsatisfiable, the clause still becomes part of the script state, but the only steps are those that
+    /// introduce its names. Errors: `NotInDrat` after the first `solve` if DRAT lines are written; `WitnessVariable` if
+    /// a name in `lits` has the mode witness; `VariableLimit` if there is no variable for a name that would be
+    /// introduced.
     pub fn add_clause(&mut self, lits: &[Lit]) -> Result<(), SolverError>
         ensures adds { AddsClause result self.old self.new lits.now }
-        ensures drat { self.old.failed ≡ false → IsPastDrat self.old → IsErrOf result SolverError.NotInDrat }
+        ensures drat { self.old.failed ≡ false → DratRefusesClauses self.old → IsErrOf result SolverError.NotInDrat }
         ensures steps { OnOk result (StepsOfClause self.old self.new lits.now) }
-        ensures text { Writes result self.old self.new }
+        ensures text { WritesSteps result self.old self.new }
         ensures checker { CheckerAfter P.takes result self.old self.new }
     {
         let result = self.inner.add_clause(lits);
@@ -151,16 +158,16 @@ impl<W: CountedWrite + Drop, P: ProofProcessor> Solver<W, P> {
     /// Adds the clauses of a text in DIMACS CNF, in order. The text is read in chunks of 4,096 bytes.
     ///
     /// The text may have one header, before its first clause; a header anywhere else is malformed. The numbers in the
-    /// header are ignored, and its variable count introduces no name. A line that begins with `%` ends the text, and
-    /// nothing is read after it. A text that ends inside a clause is malformed.
+    /// header are ignored, and its variable count introduces no name. A line that begins with `%` ends the text: no
+    /// chunk after it is read. A text that ends inside a clause is malformed.
     ///
     /// Clauses before an error, or before a clause that is refused, remain. The solver can still be used if the text is
     /// malformed (`Malformed`), has a number above the limit (`VariableLimit`), or cannot be read (`Read`).
     pub fn add_dimacs_cnf<R: CountedRead>(&mut self, reader: &mut R) -> Result<(), SolverError>
         ensures adds { AddsText P.takes result self.old self.new (R.seen reader.old) (R.seen reader.new) }
-        // Nothing is read after the line that ends the text.
-        ensures stops { StopsReading (R.seen reader.old) (R.seen reader.new) }
-        ensures reads { (R.seen reader.new).calls ≤ (R.seen reader.old).calls + most_reads }
+        // No read is made after the one that gave the line that ends the text.
+        ensures stops { MakesNoReadAfterEnd (R.seen reader.old) (R.seen reader.new) }
+        ensures reads { (R.seen reader.new).calls ≤ (R.seen reader.old).calls + max_reads }
         ensures text { ReachesBySteps self.old self.new }
     {
         if self.is_failed() {
@@ -180,7 +187,7 @@ impl<W: CountedWrite + Drop, P: ProofProcessor> Solver<W, P> {
         ensures assumes { AssumesOrRefuses result self.old self.new lits.now }
         ensures drat { self.old.failed ≡ false → IsDrat self.old → IsErrOf result SolverError.NotInDrat }
         ensures steps { OnOk result (StepsOfAssumptions self.old self.new lits.now) }
-        ensures text { Writes result self.old self.new }
+        ensures text { WritesSteps result self.old self.new }
         ensures checker { CheckerAfter P.takes result self.old self.new }
     {
         let result = self.inner.assume(lits);
@@ -190,11 +197,13 @@ impl<W: CountedWrite + Drop, P: ProofProcessor> Solver<W, P> {
         result
     }
 
-    /// Returns `true` if the clauses and the assumptions can be satisfied, and `false` if they cannot.
+    /// Returns `true` if the clauses and the assumptions can be satisfied, and `false` if they cannot. The contract of
+    /// `model` states that the first answer is correct (`IsModel`), and that of `failed_core` the second (`IsCore`).
     ///
     /// Returns `Interrupted` if the rounds that the parameters allow for this call are exhausted, or if the number of
     /// rounds over all calls has reached 2^64-1. If neither a clause nor assumptions have been accepted since the last
-    /// answer, returns that answer again, without running a round or making a step. By the time this call returns an
+    /// answer, returns that answer again, without running a round or making a step; so it does once the clauses alone
+    /// are known to be unsatisfiable, even after further clauses or assumptions. By the time this call returns an
     /// answer or `Interrupted`, it has flushed the open target, if any. The solver's own checker, if any, has by then
     /// received all steps and announced everything that was pending.
     pub fn solve(&mut self) -> Result<bool, SolverError>
@@ -202,7 +211,7 @@ impl<W: CountedWrite + Drop, P: ProofProcessor> Solver<W, P> {
         ensures steps { self.old.failed ≡ false → self.new.failed ≡ false → StepsOfAsk self.old self.new }
         ensures rounds { self.old.failed ≡ false → self.new.failed ≡ false → self.old.answer ≡ SatState.Unknown
             → Between ⟦<P as ProofProcessor>⟧ W.seen (MakesRounds W.seen) self.old self.new }
-        ensures text { Writes result self.old self.new }
+        ensures text { WritesSteps result self.old self.new }
         ensures checker { CheckerAfterAsk P.takes result self.old self.new }
     {
         self.inner.solve()
@@ -214,7 +223,7 @@ impl<W: CountedWrite + Drop, P: ProofProcessor> Solver<W, P> {
     /// Names that were introduced after this `solve` are false, except those that `observe_internal_vars` introduced,
     /// which have the values of their variables. The solver can still be used after `OutOfMemory`.
     pub fn model(&self) -> Result<Option<Vec<Lit>>, SolverError>
-        ensures model { IfOk result (λ o. MatchOption o (HasNone self.now) (λ lits. IsModel self.now lits.items)) }
+        ensures model { IfOk result (λ o. MatchOption o (HasNoModel self.now) (λ lits. IsModel self.now lits.items)) }
         ensures fails { IfErr result (λ e. ModelFails e self.now) }
     {
         self.inner.model()
@@ -224,7 +233,7 @@ impl<W: CountedWrite + Drop, P: ProofProcessor> Solver<W, P> {
     ///
     /// The list is neither minimal nor sorted. A list is known after a `solve` that returned false, until a clause or
     /// assumptions are accepted. Once the clauses alone are known to be unsatisfiable, even without a `solve`, the list
-    /// is known and empty. Returns `None` after a failed call.
+    /// is known and empty. Returns `None` once the solver has failed.
     pub fn failed_core(&self) -> Option<&[Lit]>
         ensures { MatchOption result (HasNoCore self.now) (λ core. IsCore self.now core.now) }
     {
@@ -244,16 +253,17 @@ impl<W: CountedWrite + Drop, P: ProofProcessor> Solver<W, P> {
 
     /// Hides a name, which is introduced first if it is not in use.
     ///
-    /// The variable of the name remains in the clauses, and the name can be introduced again, for a new variable. A
-    /// variable that no clause or assumption has used is deleted immediately, and so is one that a simplification has
-    /// found to be no longer used by any clause. Any other variable remains in use, at least until a later
-    /// simplification finds that no clause uses it. The answer is unchanged. Errors: `AssumedVariable` if the name is
-    /// assumed; `VariableLimit` if there is no variable for a name that would be introduced.
+    /// The clauses keep the variable of the name, and the name can be introduced again, for a new variable. If the
+    /// variable has no index, it is deleted immediately: no clause or assumption has used it, a simplification has
+    /// found it unused, or only clauses that were added once the clauses were known to be unsatisfiable contain it.
+    /// Otherwise it remains in use, at least until a simplification finds that no clause uses it. The answer is
+    /// unchanged. Errors: `AssumedVariable` if the name is assumed; `VariableLimit` if there is no variable for a name
+    /// that would be introduced.
     pub fn hide_var(&mut self, user: Var) -> Result<(), SolverError>
         ensures hides { Hides result self.old self.new user }
-        ensures gone { OnOk result (LeavesNoneIdle self.new.steps) }
+        ensures gone { OnOk result (LeavesNoIdleVariable self.new.steps) }
         ensures steps { OnOk result (OnlyMakes IsHidingStep (due_for_hiding user) self.old self.new) }
-        ensures text { Writes result self.old self.new }
+        ensures text { WritesSteps result self.old self.new }
         ensures checker { CheckerAfter P.takes result self.old self.new }
     {
         let result = self.inner.hide_var(user);
@@ -271,7 +281,7 @@ impl<W: CountedWrite + Drop, P: ProofProcessor> Solver<W, P> {
     pub fn witness_var(&mut self, user: Var) -> Result<(), SolverError>
         ensures witnesses { Witnesses result self.old self.new user }
         ensures steps { OnOk result (OnlyMakes (IsModeStep (user + 1) false) (due_for_mode Witnessed user) self.old self.new) }
-        ensures text { Writes result self.old self.new }
+        ensures text { WritesSteps result self.old self.new }
         ensures checker { CheckerAfter P.takes result self.old self.new }
     {
         let result = self.inner.witness_var(user);
@@ -289,7 +299,7 @@ impl<W: CountedWrite + Drop, P: ProofProcessor> Solver<W, P> {
     pub fn sample_var(&mut self, user: Var) -> Result<(), SolverError>
         ensures samples { Samples result self.old self.new user }
         ensures steps { OnOk result (OnlyMakes (IsModeStep (user + 1) true) (due_for_mode Sampled user) self.old self.new) }
-        ensures text { Writes result self.old self.new }
+        ensures text { WritesSteps result self.old self.new }
         ensures checker { CheckerAfter P.takes result self.old self.new }
     {
         let result = self.inner.sample_var(user);
@@ -304,9 +314,9 @@ impl<W: CountedWrite + Drop, P: ProofProcessor> Solver<W, P> {
     /// The answer is unchanged; if it is a model, the new name is false in it. Returns `VariableLimit` only if every
     /// proof variable is in use, and then changes nothing.
     pub fn new_var(&mut self) -> Result<Var, SolverError>
-        ensures names { NamesNew result self.old self.new }
+        ensures names { NewNameResult result self.old self.new }
         ensures steps { IfOk result (λ v. OnlyMakes IsDue (due_for_name v) self.old self.new) }
-        ensures text { Writes result self.old self.new }
+        ensures text { WritesSteps result self.old self.new }
         ensures checker { CheckerAfter P.takes result self.old self.new }
     {
         let result = self.inner.new_var();
@@ -323,8 +333,8 @@ impl<W: CountedWrite + Drop, P: ProofProcessor> Solver<W, P> {
     pub fn observe_internal_vars(&mut self) -> Result<Vec<Var>, SolverError>
         ensures observes { IfOk result (λ users. Observed self.old self.new users.items) }
         ensures steps { IfOk result (λ users. ObservesBetween self.old self.new users.items) }
-        ensures fails { IfErr result (λ e. NamesFail e self.old self.new) }
-        ensures text { Writes result self.old self.new }
+        ensures fails { IfErr result (λ e. ObserveFails e self.old self.new) }
+        ensures text { WritesSteps result self.old self.new }
         ensures checker { CheckerAfter P.takes result self.old self.new }
     {
         let users = self.inner.observe_internal_vars()?;
@@ -334,9 +344,9 @@ impl<W: CountedWrite + Drop, P: ProofProcessor> Solver<W, P> {
 
     /// Opens a proof: all further steps are written to `target` in the format `format`.
     ///
-    /// Returns `TooLate` if the solver has received a clause, a name, assumptions or an ask, or if a proof is open. If
-    /// an error is returned, the target is dropped. While DRAT lines are written, `assume` returns `NotInDrat`, and so
-    /// does `add_clause` after the first `solve`.
+    /// Returns `TooLate` if the solver has accepted a clause, a name or assumptions, if an ask has begun, or if a proof
+    /// is open. If an error is returned, the target is dropped. While DRAT lines are written, `assume` returns
+    /// `NotInDrat`, and so does `add_clause` after the first `solve`.
     ///
     /// DRAT lines list derived and deleted clauses, but not added ones. Their literals refer to proof variables, which
     /// are numbered from 1. Until a name is hidden, the variable of name n has the number n; afterwards the numbers
@@ -350,10 +360,11 @@ impl<W: CountedWrite + Drop, P: ProofProcessor> Solver<W, P> {
     /// Starts the solver's own checker, which receives all further steps.
     ///
     /// The checker receives the steps that a proof in the format `Varisat` would contain, except for the ends of
-    /// proofs, and rejects none of these steps. If there is a checker already, nothing changes. Returns `TooLate` if
-    /// the solver has received a clause, a name, assumptions or an ask.
+    /// proofs, and rejects none of these steps. Returns `TooLate`, even if there is a checker, if the solver has
+    /// accepted a clause, a name or assumptions, or if an ask has begun. Otherwise, a checker that is there already
+    /// stays.
     pub fn enable_self_checking(&mut self) -> Result<(), SolverError>
-        ensures { Enables result self.old self.new }
+        ensures { EnablesChecking result self.old self.new }
     {
         self.inner.enable_self_checking()
     }
@@ -370,6 +381,10 @@ impl<W: CountedWrite + Drop, P: ProofProcessor> Solver<W, P> {
 
     /// Writes the `End` step, flushes the target and returns it. Returns `None` if no proof is open. After an error,
     /// the solver keeps the target.
+    ///
+    /// If the proof was opened before any step other than ends of proofs, the target has received the text of steps
+    /// that a checker accepts. The DRAT lines of all steps are a derivation; if the clauses are known to be
+    /// unsatisfiable, they refute them.
     pub fn close_proof(&mut self) -> Result<Option<W>, SolverError>
         ensures closes { ClosesProof (writer_given W.seen result) self.old self.new }
         ensures steps { IfOk result (λ o. IfSome o (λ _. MakesLast self.old self.new)) }
@@ -385,7 +400,7 @@ impl<W: CountedWrite + Drop, P: ProofProcessor> Solver<W, P> {
     /// target has received a prefix of the text of steps that a checker accepts, even if the solver has failed. It can
     /// have received the `End` step only if `close_proof` returned an error.
     pub fn into_target(self) -> Option<W>
-        ensures gives { GivesWriter self.target (returned_writer W.seen result) }
+        ensures gives { ReturnsWriter self.target (returned_writer W.seen result) }
         ensures front { ReturnsAcceptedPrefix (returned_writer W.seen result) self }
     {
         let solver = self;
@@ -394,11 +409,11 @@ impl<W: CountedWrite + Drop, P: ProofProcessor> Solver<W, P> {
 
     /// Returns the listeners in the order in which they were added, and the target, even after a failure.
     ///
-    /// After two contradictory units, the empty clause that follows from them is announced with the next step or the
-    /// next `solve`. If neither has followed, the listeners have not been notified of the empty clause. The target is
-    /// the one that `into_target` would return.
+    /// After two contradictory units, the empty clause that follows from them is announced with the next step (`End`
+    /// included) or the next `solve`. If neither has followed, the listeners have not been notified of the empty
+    /// clause. The target is the one that `into_target` would return.
     pub fn into_processors(self) -> ReturnedParts<W, P>
-        ensures target { GivesWriter self.target (returned_writer W.seen result.target) }
+        ensures target { ReturnsWriter self.target (returned_writer W.seen result.target) }
         ensures front { ReturnsAcceptedPrefix (returned_writer W.seen result.target) self }
         ensures processors { ReturnsIfChecked P.takes self.listeners result.processors.items self.steps }
         ensures whole { self.lost ≡ false → ReturnsNotifiedIfChecked P.takes self.listeners result.processors.items self.steps }

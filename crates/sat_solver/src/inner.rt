@@ -6,6 +6,6 @@ pub use crate::proof::drat::put_step;
 pub use crate::proof::{Proof, ProofError};
 pub use crate::schedule::restarts::Restarts;
 pub use crate::schedule::search;
-pub use crate::solver::load::{Loading, take_clause};
+pub use crate::solver::load::{Loading, add_clause_to_search};
 pub use crate::variables::Variables;
 pub use crate::variables::refuse::leftmost_witness;

@@ -1,7 +1,7 @@
 //! Loads clauses into a search.
 ghost use Rattle.std.specs.Prelude.{◌≡◌, ◌<◌, length, true, OnOk};
 ghost use Rattle.sat_base.specs.steps.Steps.{DeleteClause, Satisfied};
-ghost use Rattle.sat_solver.specs.session.AllowedSteps.{OnlyAllowedSteps, DeletesAdded};
+ghost use Rattle.sat_solver.specs.session.AllowedSteps.{OnlyAllowedSteps, DeletesJustAdded};
 ghost use Rattle.sat_solver.specs.session.Session.{IsAllowedStep};
 ghost use Rattle.sat_solver.specs.proof.ProofView.{HasAllowedSteps, steps_of, session_of};
 ghost use Rattle.sat_solver.specs.session.Naming.{global_of_index};
@@ -65,9 +65,9 @@ fn delete_true<W: CountedWrite + Drop, P: ProofProcessor>(
     Ok(true)
 }
 
-/// Loads the clause that the last step added, at level 0. If it has a true literal and at least one other literal, the
-/// clause is deleted at once. Returns `true` if the formula may still be satisfiable. Returns `false` after an empty
-/// clause, or after a clause whose only literal is false. In these cases, unsat is recorded.
+/// Loads the clause `lits`, which the last step added. The search must be at level 0. A clause that has a true literal
+/// and at least one other literal is deleted at once. Returns `true` if the formula may still be satisfiable. Returns
+/// `false` after an empty clause, or after a clause whose only literal is false. In these cases, unsat is recorded.
 pub fn load_clause<W: CountedWrite + Drop, P: ProofProcessor>(
     proof: &mut Proof<W, P>,
     search: &mut Search,
@@ -78,7 +78,7 @@ pub fn load_clause<W: CountedWrite + Drop, P: ProofProcessor>(
     requires added { IsAdded (steps_of proof.old) search.old lits.now }
     requires may { CanLoad search.old lits.now }
     ensures goes { LoadsClause W.seen result proof.old proof.new search.old search.new }
-    ensures comes { OnOk result (OnlyAllowedSteps DeletesAdded (steps_of proof.old) (steps_of proof.new)) }
+    ensures comes { OnOk result (OnlyAllowedSteps DeletesJustAdded (steps_of proof.old) (steps_of proof.new)) }
 {
     make_all_available(&mut search.parts, lits);
     let loaded = load(&mut search.parts, lits, sorting)?;

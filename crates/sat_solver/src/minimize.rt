@@ -1,14 +1,15 @@
 //! Minimizes learned clauses: removes literals that must be false whenever the other literals of the clause are false.
 ghost use Rattle.std.specs.Prelude.{◌≡◌, ◌<◌, ◌∷◌, [], length, OnOk, IfOk};
 ghost use Rattle.sat_base.specs.values.Literals.{variable};
-ghost use Rattle.sat_parts.specs.clause.Glue.{HaveNodes};
-ghost use Rattle.sat_parts.specs.prop.Causes.{falsified};
+ghost use Rattle.sat_parts.specs.clause.Glue.{LitsHaveNodes};
+ghost use Rattle.sat_parts.specs.prop.ReasonLits.{conflict_lits};
 ghost use Rattle.sat_parts.specs.prop.Ready.{state_of, AreAllFalse};
 ghost use Rattle.sat_solver.specs.analyze_conflict.Marks.{CanAnalyze};
 ghost use Rattle.sat_solver.specs.analyze_conflict.Derivation.{IsAsserting, HasUnorderedDerivation, FlagsAmong};
 ghost use Rattle.sat_solver.specs.analyze_conflict.Derivation.{IsUipClause};
-ghost use Rattle.sat_solver.specs.analyze_conflict.Involved.{KeepsResolved};
-ghost use Rattle.sat_solver.specs.analyze_conflict.Minimal.{MinimizationIsDone, MinimizationResult, MayStart, followed};
+ghost use Rattle.sat_solver.specs.analyze_conflict.Seen.{AppendsLowerUsedLits};
+ghost use Rattle.sat_solver.specs.analyze_conflict.Minimization.{MinimizationIsDone, MinimizationResult};
+ghost use Rattle.sat_solver.specs.analyze_conflict.Minimization.{CanStartSearch, marked_reasons};
 
 use crate::analyze_conflict::state::AnalyzeConflict;
 use sat_base::Lit;
@@ -20,7 +21,7 @@ use std::alloc::AllocError;
 ///
 /// Returns `false`, and does not mark the literal, if its reason is not a clause or its level is not in `levels`.
 #[inline(always)]
-fn follow_one(
+fn mark_literal(
     analysis: &mut AnalyzeConflict,
     graph: &ImplGraph,
     levels: &LevelAbstraction,
@@ -28,7 +29,7 @@ fn follow_one(
 ) -> Result<bool, AllocError>
     requires node { variable lit < length graph.now }
     requires flags { length analysis.old.flags ≡ length graph.now }
-    ensures follows { IfOk result (λ b. followed graph.now levels.now (lit ∷ []) analysis.old
+    ensures follows { IfOk result (λ b. marked_reasons graph.now levels.now (lit ∷ []) analysis.old
         ≡ record { work = analysis.new; whole = b }) }
     ensures flags { OnOk result (length analysis.new.flags ≡ length graph.now) }
 {
@@ -47,67 +48,67 @@ fn follow_one(
     Ok(true)
 }
 
-/// Calls `follow_one` for each literal in `lits` in turn, until a call returns `false`. Returns `true` if all calls
+/// Calls `mark_literal` for each literal in `lits` in turn, until a call returns `false`. Returns `true` if all calls
 /// returned `true`.
-fn follow_own(
+fn mark_literals(
     analysis: &mut AnalyzeConflict,
     graph: &ImplGraph,
     levels: &LevelAbstraction,
     lits: &[Lit],
 ) -> Result<bool, AllocError>
-    requires nodes { HaveNodes graph.now lits.now }
+    requires nodes { LitsHaveNodes graph.now lits.now }
     requires flags { length analysis.old.flags ≡ length graph.now }
-    ensures follows { IfOk result (λ b. followed graph.now levels.now lits.now analysis.old
+    ensures follows { IfOk result (λ b. marked_reasons graph.now levels.now lits.now analysis.old
         ≡ record { work = analysis.new; whole = b }) }
     ensures flags { OnOk result (length analysis.new.flags ≡ length graph.now) }
 {
     for lit in lits {
-        if !follow_one(analysis, graph, levels, *lit)? {
+        if !mark_literal(analysis, graph, levels, *lit)? {
             return Ok(false);
         }
     }
     Ok(true)
 }
 
-/// Calls `follow_one` for each literal of a long clause in turn, until a call returns `false`. Returns `true` if all
+/// Calls `mark_literal` for each literal of a long clause in turn, until a call returns `false`. Returns `true` if all
 /// calls returned `true`.
-fn follow_long(
+fn mark_long_lits(
     analysis: &mut AnalyzeConflict,
     graph: &ImplGraph,
     levels: &LevelAbstraction,
     lits: &Lits<'_>,
 ) -> Result<bool, AllocError>
-    requires nodes { HaveNodes graph.now lits.now }
+    requires nodes { LitsHaveNodes graph.now lits.now }
     requires flags { length analysis.old.flags ≡ length graph.now }
-    ensures { IfOk result (λ b. followed graph.now levels.now lits.now analysis.old
+    ensures { IfOk result (λ b. marked_reasons graph.now levels.now lits.now analysis.old
         ≡ record { work = analysis.new; whole = b }) }
 {
     for at in 0..lits.len() {
-        if !follow_one(analysis, graph, levels, lits.get(at))? {
+        if !mark_literal(analysis, graph, levels, lits.get(at))? {
             return Ok(false);
         }
     }
     Ok(true)
 }
 
-/// Calls `follow_one` for each literal of a reason in turn, until a call returns `false`. Returns `true` if all calls
+/// Calls `mark_literal` for each literal of a reason in turn, until a call returns `false`. Returns `true` if all calls
 /// returned `true`.
-fn follow(
+fn mark_reason(
     analysis: &mut AnalyzeConflict,
     graph: &ImplGraph,
     levels: &LevelAbstraction,
     lits: &CauseLits,
 ) -> Result<bool, AllocError>
-    requires nodes { HaveNodes graph.now lits.now }
+    requires nodes { LitsHaveNodes graph.now lits.now }
     requires flags { length analysis.old.flags ≡ length graph.now }
-    ensures { IfOk result (λ b. followed graph.now levels.now lits.now analysis.old
+    ensures { IfOk result (λ b. marked_reasons graph.now levels.now lits.now analysis.old
         ≡ record { work = analysis.new; whole = b }) }
 {
     let (own, long) = lits.parts();
-    if !follow_own(analysis, graph, levels, own)? {
+    if !mark_literals(analysis, graph, levels, own)? {
         return Ok(false);
     }
-    let whole = follow_long(analysis, graph, levels, long)?;
+    let whole = mark_long_lits(analysis, graph, levels, long)?;
     Ok(whole)
 }
 
@@ -127,17 +128,17 @@ fn is_implied(
     requires can { CanAnalyze clauses.now (state_of assignment.now graph.now trail.now) }
     requires searching { MinimizationIsDone clauses.now (state_of assignment.now graph.now trail.now) conflict.now low
         analysis.old }
-    requires may { MayStart (state_of assignment.now graph.now trail.now) analysis.old lit }
+    requires may { CanStartSearch (state_of assignment.now graph.now trail.now) analysis.old lit }
     ensures { IfOk result (λ b. MinimizationResult clauses.now (state_of assignment.now graph.now trail.now) conflict.now low lit
         analysis.old analysis.new b) }
 {
     let top = analysis.used().len();
-    analysis.use_up(!lit)?;
+    analysis.add_used(!lit)?;
     let mut at = top;
     while at < analysis.used().len() {
         let next = analysis.used()[at];
         let reason = graph.reason(next.var());
-        if !follow(analysis, graph, levels, &reason.lits(clauses))? {
+        if !mark_reason(analysis, graph, levels, &reason.lits(clauses))? {
             analysis.undo(top);
             return Ok(false);
         }
@@ -148,7 +149,7 @@ fn is_implied(
 
 /// Returns a filter that contains the levels of `lits`, and possibly other levels.
 fn levels_of(graph: &ImplGraph, lits: &[Lit]) -> LevelAbstraction
-    requires { HaveNodes graph.now lits.now }
+    requires { LitsHaveNodes graph.now lits.now }
 {
     let mut levels = LevelAbstraction::default();
     for lit in lits {
@@ -168,14 +169,14 @@ pub(crate) fn minimize_clause(
     conflict: &Conflict,
 ) -> Result<(), AllocError>
     requires can { CanAnalyze clauses.now (state_of assignment.now graph.now trail.now) }
-    requires fails { AreAllFalse assignment.now.current (falsified clauses.now conflict.now) }
+    requires fails { AreAllFalse assignment.now.current (conflict_lits clauses.now conflict.now) }
     requires resolved { IsUipClause clauses.now (state_of assignment.now graph.now trail.now) conflict.now
         analysis.old }
     ensures asserting { OnOk result (IsAsserting (state_of assignment.now graph.now trail.now) analysis.new.clause) }
     ensures grounds { OnOk result (HasUnorderedDerivation clauses.now (state_of assignment.now graph.now trail.now) conflict.now
         analysis.new) }
     ensures among { OnOk result (FlagsAmong analysis.new) }
-    ensures kept { OnOk result (KeepsResolved (state_of assignment.now graph.now trail.now) analysis.old analysis.new) }
+    ensures kept { OnOk result (AppendsLowerUsedLits (state_of assignment.now graph.now trail.now) analysis.old analysis.new) }
     ensures size { OnOk result (length analysis.new.flags ≡ length analysis.old.flags) }
 {
     let levels = levels_of(graph, analysis.clause());

@@ -1,13 +1,14 @@
 //! The progress of a solver.
 
-/// A solver's counts of rounds, restarts, variables and clauses. They saturate at 2^64-1.
+/// A solver's counts of rounds, restarts, variables and clauses. The other counts saturate at 2^64-1; no round runs
+/// once `conflicts` is 2^64-1.
 #[derive(Clone, Copy, Debug, Drop, PartialEq, Eq)]
 pub struct Progress {
     /// Rounds of search so far, over all calls to `solve`. A round ends in a conflict or an answer.
     pub conflicts: u64,
     /// Restarts so far.
     pub restarts: u64,
-    /// Variables of the search that have no value.
+    /// Variables that have an index in the search and no value.
     pub vars: u64,
     /// Clauses with two literals.
     pub binary: u64,

@@ -2,17 +2,18 @@
 ghost use Rattle.std.specs.Prelude.{◌≡◌, ◌∷◌, [], true, false, Some, OnOk, IfErr};
 ghost use Rattle.sat_base.specs.device.Sink.{empty_sink};
 ghost use Rattle.sat_base.specs.steps.StepViews.{step_of};
-ghost use Rattle.sat_solver.specs.proof.Counting.{nothing_counted, counted};
+ghost use Rattle.sat_solver.specs.proof.Counting.{nothing_counted, counting_after};
 ghost use Rattle.sat_solver.specs.proof.Checked.{has_begun};
 ghost use Rattle.sat_solver.specs.proof.EmittedView.{EmittedEffect};
 ghost use Rattle.sat_solver.specs.session.Session.{IsAllowedStep, AreAllowedSteps};
 ghost use Rattle.sat_solver.specs.proof.Widths.{narrowed, KeepsWidth};
-ghost use Rattle.sat_solver.specs.proof.ProofView.{Closed, IsAtWidth, Open, asking, proof_listeners, is_open, is_drat};
+ghost use Rattle.sat_solver.specs.proof.ProofView.{Closed, IsAtWidth, Open, with_ask_begun, proof_listeners, is_open};
+ghost use Rattle.sat_solver.specs.proof.ProofView.{is_drat};
 ghost use Rattle.sat_solver.specs.proof.ProofView.{has_asked};
 ghost use Rattle.sat_solver.specs.proof.ProofView.{target_of, steps_of, session_of, is_checked, has_missed_step};
 ghost use Rattle.sat_solver.specs.proof.ProofView.{StartsChecker};
-ghost use Rattle.sat_solver.specs.proof.ProofView.{AllStepsReported, HasAllowedSteps, EmitsExactly, EmitsAsAnswered};
-ghost use Rattle.sat_solver.specs.proof.ProofView.{PutsOn, TargetTakes};
+ghost use Rattle.sat_solver.specs.proof.ProofView.{AllStepsReported, HasAllowedSteps, EmitsExactly, EmitResult};
+ghost use Rattle.sat_solver.specs.proof.ProofView.{WritesToTarget, TargetReceives};
 ghost use Rattle.sat_solver.specs.proof.ProofView.{FailsOnlyInChecker, FailsOnlyInCheckerAfterMissedStep};
 ghost use Rattle.sat_solver.specs.proof.ProofView.{FlushesTarget, FlushesOrFails};
 ghost use Rattle.sat_solver.specs.proof.ProofView.{ClosesTarget, ReturnsListeners, ReturnsNotifiedListeners};
@@ -200,7 +201,7 @@ impl<W: CountedWrite + Drop, P: ProofProcessor> Proof<W, P> {
         ensures keeps { HasAllowedSteps self.old → HasAllowedSteps self.new }
         ensures adds { EmitsExactly W.seen [] self.old self.new }
         ensures taking { has_missed_step self.new ≡ has_missed_step self.old }
-        ensures same { self.new ≡ asking self.old }
+        ensures same { self.new ≡ with_ask_begun self.old }
     {
         self.counting.solving = true;
     }
@@ -226,13 +227,13 @@ impl<W: CountedWrite + Drop, P: ProofProcessor> Proof<W, P> {
         cut: &ProofStep<'_>,
     ) -> Result<(), ProofError>
         requires width { KeepsWidth (step_of step.now) }
-        requires counted { counting ≡ counted (step_of step.now) self.old.counting }
+        requires counted { counting ≡ counting_after (step_of step.now) self.old.counting }
         requires cut { step_of cut.now ≡ narrowed counting.bits (step_of step.now) }
         ensures made { self.new.made ≡ self.old.made }
         ensures counting { OnOk result (self.new.counting ≡ counting) }
         ensures stays { IfErr result (λ e. self.new.counting ≡ self.old.counting) }
         ensures asked { has_asked self.new ≡ has_asked self.old }
-        ensures puts { PutsOn result (step_of step.now ∷ []) (target_of W.seen self.old) (target_of W.seen self.new) }
+        ensures puts { WritesToTarget result (step_of step.now ∷ []) (target_of W.seen self.old) (target_of W.seen self.new) }
         ensures cause { IfErr result (λ e. HasCause e self.new) }
     {
         if self.try_put(&counting, step, cut) {
@@ -248,12 +249,12 @@ impl<W: CountedWrite + Drop, P: ProofProcessor> Proof<W, P> {
     #[inline(always)]
     fn try_put(&mut self, counting: &Counting, _step: &ProofStep<'_>, cut: &ProofStep<'_>) -> bool
         requires width { KeepsWidth (step_of _step.now) }
-        requires counted { counting.now ≡ counted (step_of _step.now) self.old.counting }
+        requires counted { counting.now ≡ counting_after (step_of _step.now) self.old.counting }
         requires cut { step_of cut.now ≡ narrowed counting.now.bits (step_of _step.now) }
         ensures made { self.new.made ≡ self.old.made }
         ensures counting { result ≡ true → self.new.counting ≡ counting.now }
         ensures asked { has_asked self.new ≡ has_asked self.old }
-        ensures puts { result ≡ true → TargetTakes (target_of W.seen self.old) (step_of _step.now ∷ [])
+        ensures puts { result ≡ true → TargetReceives (target_of W.seen self.old) (step_of _step.now ∷ [])
             (target_of W.seen self.new) }
         ensures stays { result ≡ false → self.new ≡ self.old }
     {
@@ -282,13 +283,13 @@ impl<W: CountedWrite + Drop, P: ProofProcessor> Proof<W, P> {
         cut: &ProofStep<'_>,
     ) -> Result<(), ProofError>
         requires width { KeepsWidth (step_of step.now) }
-        requires counted { counting.now ≡ counted (step_of step.now) self.old.counting }
+        requires counted { counting.now ≡ counting_after (step_of step.now) self.old.counting }
         requires cut { step_of cut.now ≡ narrowed counting.now.bits (step_of step.now) }
         ensures made { self.new.made ≡ self.old.made }
         ensures counting { OnOk result (self.new.counting ≡ counting.now) }
         ensures stays { IfErr result (λ e. self.new.counting ≡ self.old.counting) }
         ensures asked { has_asked self.new ≡ has_asked self.old }
-        ensures puts { PutsOn result (step_of step.now ∷ []) (target_of W.seen self.old) (target_of W.seen self.new) }
+        ensures puts { WritesToTarget result (step_of step.now ∷ []) (target_of W.seen self.old) (target_of W.seen self.new) }
         ensures cause { IfErr result (λ e. HasCause e self.new) }
     {
         if self.broken {
@@ -344,10 +345,10 @@ impl<W: CountedWrite + Drop, P: ProofProcessor> Proof<W, P> {
         requires keeps { HasAllowedSteps self.old }
         requires may { IsAllowedStep (session_of self.old) (step_of step.now) }
         requires width { KeepsWidth (step_of step.now) }
-        requires counted { counting ≡ counted (step_of step.now) self.old.counting }
+        requires counted { counting ≡ counting_after (step_of step.now) self.old.counting }
         requires cut { step_of cut.now ≡ narrowed counting.bits (step_of step.now) }
         ensures keeps { HasAllowedSteps self.new }
-        ensures records { EmitsAsAnswered W.seen result (step_of step.now ∷ []) self.old self.new }
+        ensures records { EmitResult W.seen result (step_of step.now ∷ []) self.old self.new }
     {
         match self.put(counting, step, cut) {
             Ok(()) => self.take(step, cut),
@@ -366,7 +367,7 @@ impl<W: CountedWrite + Drop, P: ProofProcessor> Proof<W, P> {
         requires may { IsAllowedStep (session_of self.old) (step_of step.now) }
         requires width { KeepsWidth (step_of step.now) }
         ensures keeps { HasAllowedSteps self.new }
-        ensures records { EmitsAsAnswered W.seen result (step_of step.now ∷ []) self.old self.new }
+        ensures records { EmitResult W.seen result (step_of step.now ∷ []) self.old self.new }
     {
         let counting = self.counting.with(step);
         match *step {
@@ -428,7 +429,7 @@ impl<W: CountedWrite + Drop, P: ProofProcessor> Proof<W, P> {
         requires width { KeepsWidth (step_of step.now) }
         ensures made { self.new.made ≡ self.old.made }
         ensures asked { has_asked self.new ≡ has_asked self.old }
-        ensures takes { TargetTakes (target_of W.seen self.old) (step_of step.now ∷ []) (target_of W.seen self.new) }
+        ensures takes { TargetReceives (target_of W.seen self.old) (step_of step.now ∷ []) (target_of W.seen self.new) }
     {
         self.counting = self.counting.with(step);
     }
@@ -441,7 +442,7 @@ impl<W: CountedWrite + Drop, P: ProofProcessor> Proof<W, P> {
         requires may { IsAllowedStep (session_of self.old) (step_of step.now) }
         requires width { KeepsWidth (step_of step.now) }
         ensures keeps { HasAllowedSteps self.new }
-        ensures records { EmitsAsAnswered W.seen result (step_of step.now ∷ []) self.old self.new }
+        ensures records { EmitResult W.seen result (step_of step.now ∷ []) self.old self.new }
     {
         if !self.made.is_checked() && !self.is_open() {
             self.count(step);
@@ -461,7 +462,7 @@ impl<W: CountedWrite + Drop, P: ProofProcessor> Proof<W, P> {
         requires may { IsAllowedStep (session_of self.old) (step_of step.now) }
         requires width { KeepsWidth (step_of step.now) }
         ensures keeps { HasAllowedSteps self.new }
-        ensures records { EmitsAsAnswered W.seen result (step_of step.now ∷ []) self.old self.new }
+        ensures records { EmitResult W.seen result (step_of step.now ∷ []) self.old self.new }
     {
         let mut lists = mem::replace(&mut self.lists, CutLists::new(self.alloc));
         let recorded = self.record_cut(&mut lists, step);

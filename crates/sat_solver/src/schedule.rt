@@ -1,14 +1,16 @@
 //! Rounds, with restarts between them.
 ghost use Rattle.std.specs.Prelude.{◌≡◌, ◌+◌, ◌-◌, ◌^◌, ◌<◌, IfOk, IfErr, None};
 ghost use Rattle.sat_solver.specs.schedule.Climbing.{KeepsProgress};
-ghost use Rattle.sat_solver.specs.schedule.Counting.{AnswersWithin, CountsOn, SpendsRounds, TakesRound};
+ghost use Rattle.sat_solver.specs.schedule.Counting.{AnswersWithin, RoundsAreBounded, NoAnswerTakesRounds};
+ghost use Rattle.sat_solver.specs.schedule.Counting.{AnswerTakesRound};
 ghost use Rattle.sat_solver.specs.schedule.Counting.{round_allowance};
 ghost use Rattle.sat_solver.specs.schedule.Rounds.{LastRoundAnswers, RestartsWhereDue};
-ghost use Rattle.sat_solver.specs.schedule.Solving.{words_in, values_in, ContextInvariant, ReachedByAsManyRounds};
-ghost use Rattle.sat_solver.specs.schedule.Solving.{EndedBy};
-ghost use Rattle.sat_solver.specs.schedule.Solving.{BreaksRounds};
+ghost use Rattle.sat_solver.specs.schedule.Solving.{IsWordOf, search_var_count, ContextInvariant};
+ghost use Rattle.sat_solver.specs.schedule.Solving.{ReachedByAsManyRounds};
+ghost use Rattle.sat_solver.specs.schedule.Solving.{AskEndsWithin};
+ghost use Rattle.sat_solver.specs.schedule.Solving.{SearchFails};
 ghost use Rattle.sat_solver.specs.schedule.Solving.{Restarted, ReducedAt, RoundOf};
-ghost use Rattle.sat_solver.specs.solver.Found.{FoundNone};
+ghost use Rattle.sat_solver.specs.solver.Found.{NoAnswerFound};
 ghost use Rattle.sat_solver.specs.solver.Joined.{NamesSearchInvariant, KeepsNamesSearchInvariant};
 
 pub mod restarts;
@@ -61,8 +63,8 @@ fn restart_where_due<W: CountedWrite + Drop, P: ProofProcessor>(
     requires counts { round + 1 < 2 ^ 64 }
     ensures joined { KeepsNamesSearchInvariant context.old context.new }
     ensures scale { restarts.new.scale ≡ restarts.old.scale }
-    ensures most { values_in context.new ≡ values_in context.old }
-    ensures come { KeepsProgress words_in round context.old restarts.old.next restarts.old.sequence
+    ensures most { search_var_count context.new ≡ search_var_count context.old }
+    ensures come { KeepsProgress IsWordOf round context.old restarts.old.next restarts.old.sequence
         context.new restarts.new.next restarts.new.sequence }
     ensures goes { ReachedByAsManyRounds W.seen context.old context.new }
     ensures due { RestartsWhereDue Restarted round context.old restarts.old context.new restarts.new }
@@ -89,16 +91,16 @@ pub fn search<W: CountedWrite + Drop, P: ProofProcessor>(
     requires joined { NamesSearchInvariant names.old context.old }
     requires scale { 0 < restarts.old.scale }
     ensures scale { restarts.new.scale ≡ restarts.old.scale }
-    ensures counts { CountsOn (values_in context.old) max_steps rounds.old rounds.new }
-    ensures round { TakesRound result rounds.old rounds.new }
-    ensures interrupted { SpendsRounds result (round_allowance max_steps rounds.old) rounds.old rounds.new }
-    ensures answered { AnswersWithin result (values_in context.old) (round_allowance max_steps rounds.old) }
+    ensures counts { RoundsAreBounded (search_var_count context.old) max_steps rounds.old rounds.new }
+    ensures round { AnswerTakesRound result rounds.old rounds.new }
+    ensures interrupted { NoAnswerTakesRounds result (round_allowance max_steps rounds.old) rounds.old rounds.new }
+    ensures answered { AnswersWithin result (search_var_count context.old) (round_allowance max_steps rounds.old) }
     ensures goes { IfOk result (λ r. r ≡ None
-        → FoundNone W.seen (rounds.new - rounds.old) names.old names.new context.old context.new) }
-    ensures ends { IfOk result (λ r. EndedBy W.seen (rounds.new - rounds.old) r context.old names.old context.new names.new) }
+        → NoAnswerFound W.seen (rounds.new - rounds.old) names.old names.new context.old context.new) }
+    ensures ends { IfOk result (λ r. AskEndsWithin W.seen (rounds.new - rounds.old) r context.old names.old context.new names.new) }
     ensures rounds { IfOk result (λ o. LastRoundAnswers Restarted (ReducedAt W.seen) (RoundOf W.seen) o context.old names.old
         restarts.old rounds.old context.new names.new restarts.new rounds.new) }
-    ensures fails { IfErr result (λ e. BreaksRounds W.seen context.old e context.new) }
+    ensures fails { IfErr result (λ e. SearchFails W.seen context.old e context.new) }
 {
     let end = rounds.saturating_add(max_steps);
     while *rounds < end {

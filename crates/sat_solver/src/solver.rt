@@ -1,11 +1,11 @@
 //! The fields of a solver, and its calls as methods that write to them.
 //!
-//! Callers use `facade::Solver`, which has the same methods and says more about each of them. `IsSolver` is the
+//! Callers use `facade::Solver`, which has the same methods and says more about each of them. `EngineInvariant` is the
 //! invariant between calls: `notifying` establishes it, and every call preserves it.
 ghost use Rattle.std.specs.Prelude.{◌≡◌, []};
 ghost use Rattle.sat_base.specs.script.ScriptState.{initial_state};
 ghost use Rattle.sat_solver.specs.facade.Inner.{view_of};
-ghost use Rattle.sat_solver.specs.facade.View.{IsEmpty};
+ghost use Rattle.sat_solver.specs.facade.View.{IsInitial};
 ghost use Rattle.sat_solver.specs.solver.View.{EngineIsInState, rounds_in};
 ghost use Rattle.sat_solver.specs.solver.Whole.{SolverInvariant};
 
@@ -62,7 +62,7 @@ impl<W: CountedWrite + Drop, P: ProofProcessor> Engine<W, P> {
     /// Creates a solver without clauses or names, whose listeners are of type `P`. It has no listeners yet.
     /// Never allocates.
     pub fn notifying(alloc: Global) -> Engine<W, P>
-        ensures view { IsEmpty (view_of W.seen initial_state result) }
+        ensures view { IsInitial (view_of W.seen initial_state result) }
         ensures whole { SolverInvariant result }
         ensures agree { EngineIsInState result initial_state [] }
     {

@@ -4,9 +4,9 @@ ghost use Rattle.sat_solver.specs.variables.Variables.{VariablesInvariant, data_
 ghost use Rattle.sat_solver.specs.variables.Variables.{names_used};
 ghost use Rattle.sat_solver.specs.variables.Variables.{variables_used};
 ghost use Rattle.sat_solver.specs.variables.Free.{is_free};
-ghost use Rattle.sat_solver.specs.variables.Naming.{IsVariableForName, NamesFull, NoVariableLeft, PutsDeleted};
-ghost use Rattle.sat_solver.specs.variables.Naming.{PutsHidden, PutsIndex};
-ghost use Rattle.sat_solver.specs.variables.Naming.{PutsMode, PutsName, PutsObserved, PutsUnit, IsNextIndex};
+ghost use Rattle.sat_solver.specs.variables.Naming.{IsVariableForName, NamesFull, NoVariableLeft, StoresDeletion};
+ghost use Rattle.sat_solver.specs.variables.Naming.{StoresHiding, StoresIndex};
+ghost use Rattle.sat_solver.specs.variables.Naming.{StoresMode, StoresName, StoresObserving, StoresUnit, IsNextIndex};
 ghost use Rattle.sat_solver.specs.variables.Naming.{IsNextUser};
 
 pub mod error;
@@ -112,7 +112,7 @@ impl Variables {
         requires named { global_of self.old user ≡ None }
         requires low { user ≤ names_used self.old }
         requires room { IsVariableForName self.old user global }
-        ensures { OnOk result (PutsName self.old self.new user global) }
+        ensures { OnOk result (StoresName self.old self.new user global) }
     {
         put_data(&mut self.var_data, global, VarData::user_default())?;
         link(&mut self.global_from_user, user, global)?;
@@ -154,7 +154,7 @@ impl Variables {
         requires without { solver_of self.old global ≡ None }
         requires next { IsNextIndex self.old solver }
         requires tidy { VariablesInvariant self.old }
-        ensures { OnOk result (PutsIndex self.old self.new global solver true) }
+        ensures { OnOk result (StoresIndex self.old self.new global solver true) }
     {
         put_global(&mut self.globals, solver, global)?;
         link(&mut self.solver_from_global, global, solver)?;
@@ -167,7 +167,7 @@ impl Variables {
     pub(crate) fn take_index(&mut self, global: Var, solver: Var)
         requires tidy { VariablesInvariant self.old }
         requires there { solver_of self.old global ≡ Some solver }
-        ensures puts { PutsIndex self.old self.new global solver false }
+        ensures puts { StoresIndex self.old self.new global solver false }
         ensures globals { self.new.globals ≡ self.old.globals }
     {
         self.free_solvers.put(solver);
@@ -179,7 +179,7 @@ impl Variables {
         requires tidy { VariablesInvariant self.old }
         requires named { global_of self.old user ≡ Some global }
         requires within { global < variables_used self.old }
-        ensures { PutsHidden self.old self.new user global }
+        ensures { StoresHiding self.old self.new user global }
     {
         self.free_users.put(user);
         unlink(&mut self.global_from_user, user, global);
@@ -194,7 +194,7 @@ impl Variables {
         requires nameless { user_of self.old global ≡ None }
         requires low { user ≤ names_used self.old }
         requires within { global < variables_used self.old }
-        ensures { OnOk result (PutsObserved self.old self.new user global) }
+        ensures { OnOk result (StoresObserving self.old self.new user global) }
     {
         link(&mut self.global_from_user, user, global)?;
         self.free_users.reserve(user)?;
@@ -208,7 +208,7 @@ impl Variables {
     /// Sets the mode of a variable.
     pub(crate) fn put_mode(&mut self, global: Var, mode: SamplingMode)
         requires within { global < variables_used self.old }
-        ensures { PutsMode self.old self.new global mode }
+        ensures { StoresMode self.old self.new global mode }
     {
         set_mode(&mut self.var_data, global, mode);
         self.witnessed = true;
@@ -218,7 +218,7 @@ impl Variables {
     pub(crate) fn put_deleted(&mut self, global: Var)
         requires tidy { VariablesInvariant self.old }
         requires within { global < variables_used self.old }
-        ensures { PutsDeleted self.old self.new global }
+        ensures { StoresDeletion self.old self.new global }
     {
         self.free_globals.put(global);
         set_data(&mut self.var_data, global, VarData::default());
@@ -273,7 +273,7 @@ impl Variables {
     /// Stores the value of a variable's unit, or `None`. This is done before the index of the variable is released.
     pub fn set_unit(&mut self, global: Var, unit: Option<bool>)
         requires within { global < variables_used self.old }
-        ensures { PutsUnit self.old self.new global unit }
+        ensures { StoresUnit self.old self.new global unit }
     {
         set_unit(&mut self.var_data, global, unit);
     }

@@ -7,10 +7,10 @@ use Rattle.sat_base.specs.device.Sink.{empty_sink}
 use Rattle.sat_base.specs.steps.Steps.{Step, Assumptions, End}
 use Rattle.sat_base.proofs.lemmas.device.Writes.{breaks_within, lent_puts}
 use Rattle.sat_checker.specs.declared.processing.ProofProcessor.{Ghosts}
-use Rattle.sat_solver.specs.proof.Counting.{nothing_counted, counted, one_made, written_for}
+use Rattle.sat_solver.specs.proof.Counting.{nothing_counted, counting_after, one_made, written_for}
 use Rattle.sat_solver.specs.proof.OutputView.{text_in}
-use Rattle.sat_solver.specs.proof.ProofTexts.{BrokeText}
-use Rattle.sat_solver.specs.proof.ProofView.{Target, Open, TargetTakes, TargetFails, GivesWriter, returned_writer, is_open, target_of, is_checked, has_missed_step, EmitsChecked, EmitsAsAnswered, ClosesTarget, ReturnsTarget}
+use Rattle.sat_solver.specs.proof.ProofTexts.{ReceivedTextPrefix}
+use Rattle.sat_solver.specs.proof.ProofView.{Target, Open, TargetReceives, TargetFails, ReturnsWriter, returned_writer, is_open, target_of, is_checked, has_missed_step, EmitsChecked, EmitResult, ClosesTarget, ReturnsTarget}
 use Rattle.sat_solver.specs.declared.proof.format.ProofFormat.TheVariants.{Varisat}
 use Rattle.sat_solver.specs.declared.proof.Proof.{Proof}
 use Rattle.sat_solver.specs.declared.proof.ProofError.{ProofError}
@@ -22,39 +22,39 @@ abbrev opened_as : Writer → Target
 opened_as from = Open Varisat nothing_counted (empty_sink from)
 
 -- the target failed to write the text of steps, and its writer is returned
-faulty : {W : Type 0} (seen : W → Writer) (from : Writer) (steps : List Step) (t : Target) (given : Option W) → TargetFails (opened_as from) steps t → GivesWriter t (returned_writer seen given) → (w : W) × (given ≡ Some w) × BrokeText Varisat from (seen w) steps
-faulty seen from steps t None p g = let q = subst (λ z. GivesWriter z None) p.1 g in absurd (let e = q in cc)
+faulty : {W : Type 0} (seen : W → Writer) (from : Writer) (steps : List Step) (t : Target) (given : Option W) → TargetFails (opened_as from) steps t → ReturnsWriter t (returned_writer seen given) → (w : W) × (given ≡ Some w) × ReceivedTextPrefix Varisat from (seen w) steps
+faulty seen from steps t None p g = let q = subst (λ z. ReturnsWriter z None) p.1 g in absurd (let e = q in cc)
 faulty seen from steps t (Some w) p g = (w, refl, broken_is_front Varisat from (seen w) steps t p g)
 
 -- the target is still open, and its writer is returned
-still : {W : Type 0} (seen : W → Writer) (from : Writer) (steps : List Step) (t : Target) (given : Option W) → TargetTakes (opened_as from) steps t → GivesWriter t (returned_writer seen given) → (w : W) × (given ≡ Some w)
-still seen from steps t None p g = let q = subst (λ z. GivesWriter z None) p.2 g in absurd (let e = q in cc)
+still : {W : Type 0} (seen : W → Writer) (from : Writer) (steps : List Step) (t : Target) (given : Option W) → TargetReceives (opened_as from) steps t → ReturnsWriter t (returned_writer seen given) → (w : W) × (given ≡ Some w)
+still seen from steps t None p g = let q = subst (λ z. ReturnsWriter z None) p.2 g in absurd (let e = q in cc)
 still seen from steps t (Some w) p g = (w, refl)
 
 -- a fault while the first step is written is a fault while all steps are
-all_broke : (e : _) (from given : Writer) → BrokeText Varisat from given (Assumptions [] ∷ []) → PutsMade (Err (Write e)) from given
+all_broke : (e : _) (from given : Writer) → ReceivedTextPrefix Varisat from given (Assumptions [] ∷ []) → PutsMade (Err (Write e)) from given
 all_broke e from given b = record {
-  written = written_for b.counting.bits (counted End b.counting).bits End ++ b.written;
-  counting = counted End b.counting;
+  written = written_for b.counting.bits (counting_after End b.counting).bits End ++ b.written;
+  counting = counting_after End b.counting;
   cuts = one_made End tt b.cuts;
-  puts = subst (WriterFails from given) (sym (text_append Varisat (written_for b.counting.bits (counted End b.counting).bits End) b.written))
-      (breaks_within from given (text_in Varisat b.written) (text_in Varisat (written_for b.counting.bits (counted End b.counting).bits End)) b.breaks);
+  puts = subst (WriterFails from given) (sym (text_append Varisat (written_for b.counting.bits (counting_after End b.counting).bits End) b.written))
+      (breaks_within from given (text_in Varisat b.written) (text_in Varisat (written_for b.counting.bits (counting_after End b.counting).bits End)) b.breaks);
 }
 
 module _ {W L : Type 0} {G : Ghosts L} (seen : W → Writer) (w : W) (p q : Proof W L G) (opened : target_of seen p ≡ opened_as (seen w)) (unchecked : is_checked p ≡ false) where
   -- the first step failed
-  pub step_failed : (e : ProofError) (r : Proof W L G) (given : Option W) → EmitsAsAnswered {T = Unit {0}} seen (Err e) (Assumptions [] ∷ []) p q → ReturnsTarget seen given q r → PutsOwned seen (Err e) w given
+  pub step_failed : (e : ProofError) (r : Proof W L G) (given : Option W) → EmitResult {T = Unit {0}} seen (Err e) (Assumptions [] ∷ []) p q → ReturnsTarget seen given q r → PutsOwned seen (Err e) w given
   step_failed (Write e) r given f h =
       let x = faulty seen (seen w) (Assumptions [] ∷ []) (target_of seen q) given (subst (λ z. TargetFails z (Assumptions [] ∷ []) (target_of seen q)) opened f.0.target) h.gives in
       subst (PutsOwned seen (Err (Write e)) w) (sym x.1) (all_broke e (seen w) (seen x.0) x.2)
   step_failed OutOfMemory r given a h =
-      let x = still seen (seen w) [] (target_of seen q) given (subst (λ z. TargetTakes z [] (target_of seen q)) opened a.target) h.gives in
+      let x = still seen (seen w) [] (target_of seen q) given (subst (λ z. TargetReceives z [] (target_of seen q)) opened a.target) h.gives in
       subst (PutsOwned seen (Err OutOfMemory) w) (sym x.1) tt
   step_failed (Check fault) r given f h = absurd (true≢false (sym (complains_checked fault q f.0.why) ∙ ap (λ o. is_some o) f.0.adds.listening ∙ unchecked))
 
   module _ (a : EmitsChecked seen (Assumptions [] ∷ []) p q) where
-    carried : TargetTakes (opened_as (seen w)) (Assumptions [] ∷ []) (target_of seen q)
-    carried = subst (λ z. TargetTakes z (Assumptions [] ∷ []) (target_of seen q)) opened a.target
+    carried : TargetReceives (opened_as (seen w)) (Assumptions [] ∷ []) (target_of seen q)
+    carried = subst (λ z. TargetReceives z (Assumptions [] ∷ []) (target_of seen q)) opened a.target
 
     -- closing failed
     pub close_failed : has_missed_step p ≡ false → (e : ProofError) (r s : Proof W L G) (given : Option W) → ClosesTarget seen (Err e) q r → ReturnsTarget seen given r s → PutsOwned seen (Err e) w given

@@ -1,13 +1,13 @@
 //! A search over a few clauses, and the names of its variables.
 ghost use Rattle.std.specs.Prelude.{MatchOption};
 ghost use Rattle.sat_solver.specs.solver.Joined.{NamesSearchInvariant};
-ghost use Rattle.sat_solver.specs.solver.Taking.{NamesSearchInvariantOrUnsat};
+ghost use Rattle.sat_solver.specs.solver.AddingToSearch.{NamesSearchInvariantOrUnsat};
 
 use sat_base::{CountedWrite, Lit};
 use sat_parts::parts::sorting::new_sorting;
 use sat_solver::inner;
 use sat_solver::inner::{
-    Context, Loading, MappedLits, Restarts, Variables, leftmost_witness, take_clause,
+    Context, Loading, MappedLits, Restarts, Variables, add_clause_to_search, leftmost_witness,
 };
 use sat_store::LubySequence;
 use std::alloc::Global;
@@ -57,7 +57,7 @@ fn add<W: CountedWrite + Drop>(
     if leftmost_witness(names, lits).is_some() {
         return None;
     }
-    match take_clause(core, names, lits, loading) {
+    match add_clause_to_search(core, names, lits, loading) {
         Ok(left) => Some(left),
         Err(_) => None,
     }

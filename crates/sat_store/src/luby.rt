@@ -1,6 +1,6 @@
 //! The Luby sequence, which determines the gaps between restarts.
 ghost use Rattle.std.specs.Prelude.{◌≡◌, ◌+◌, ◌<◌, ◌≤◌, ◌^◌};
-ghost use Rattle.sat_store.specs.schedule.Luby.{luby, wrapped_number};
+ghost use Rattle.sat_store.specs.schedule.Luby.{luby, wrapped_term_number};
 
 use std::marker::Model;
 
@@ -38,7 +38,7 @@ impl LubySequence {
     /// Returns the next term.
     pub fn advance(&mut self) -> u64
         ensures term { result ≡ luby (self.old + 1) }
-        ensures next { self.new ≡ wrapped_number (self.old + 1) }
+        ensures next { self.new ≡ wrapped_term_number (self.old + 1) }
     {
         let term = self.given + 1;
         self.given = if term == u64::MAX { 0 } else { term };

@@ -1,8 +1,9 @@
 //! Maps between variables.
 ghost use Rattle.std.specs.Prelude.{ℕ, ◌≡◌, ◌==◌, if◌then◌else◌, IfNone, IfSome, true, false, ◌+◌, ◌<◌, ◌≤◌, Option};
 ghost use Rattle.std.specs.Prelude.{Some, None, List, [], length, max, OnOk, OnErr, vec_capacity};
-ghost use Rattle.sat_store.specs.variables.Maps.{target, PutsTarget, GrowsMap, GrowsBoth, AreInverse, Links, Unlinks};
-ghost use Rattle.sat_store.specs.variables.Codes.{targets_of, AreCodes};
+ghost use Rattle.sat_store.specs.variables.Maps.{target, SetsTarget, GrowsMap, GrowsBothMaps, AreInverse, Links};
+ghost use Rattle.sat_store.specs.variables.Maps.{Unlinks};
+ghost use Rattle.sat_store.specs.variables.Codes.{targets_of, AreTargetCodes};
 
 use sat_base::Var;
 use std::alloc::{AllocError, Global};
@@ -17,13 +18,13 @@ pub struct VarMap {
 
 impl Model for VarMap {
     ghost use Rattle.std.specs.Prelude.{ℕ, List, Option};
-    ghost use Rattle.sat_store.specs.variables.Codes.{targets_of, AreCodes};
+    ghost use Rattle.sat_store.specs.variables.Codes.{targets_of, AreTargetCodes};
 
     ghost Value = { List (Option ℕ) };
 
     ghost view = { λ m. targets_of m.codes.items };
 
-    ghost invariant = { λ m. AreCodes m.codes.items };
+    ghost invariant = { λ m. AreTargetCodes m.codes.items };
 }
 
 impl VarMap {
@@ -47,7 +48,7 @@ impl VarMap {
     #[inline(always)]
     pub fn insert(&mut self, into: Var, from: Var) -> Result<(), AllocError>
         requires { target self.old from ≡ None }
-        ensures put { OnOk result (PutsTarget self.old self.new from (Some into)) }
+        ensures put { OnOk result (SetsTarget self.old self.new from (Some into)) }
         ensures watermark { OnOk result (length self.new ≡ max (length self.old) (from + 1)) }
         ensures grows { OnOk result (GrowsMap self.old self.new from into) }
         ensures kept { OnErr result (self.new ≡ self.old) }
@@ -58,7 +59,7 @@ impl VarMap {
     /// Maps `from` to `into`. The contract of `insert` is proved from this contract.
     #[inline(always)]
     fn put_target(&mut self, into: Var, from: Var) -> Result<(), AllocError>
-        ensures put { OnOk result (PutsTarget self.old self.new from (Some into)) }
+        ensures put { OnOk result (SetsTarget self.old self.new from (Some into)) }
         ensures watermark { OnOk result (length self.new ≡ max (length self.old) (from + 1)) }
         ensures kept { OnErr result (self.new ≡ self.old) }
     {
@@ -69,7 +70,7 @@ impl VarMap {
 
     /// Removes the target of a variable, if it has one.
     pub fn remove(&mut self, from: Var)
-        ensures put { PutsTarget self.old self.new from None }
+        ensures put { SetsTarget self.old self.new from None }
         ensures watermark { length self.new ≡ length self.old }
     {
         forget(&mut self.codes, from);
@@ -95,7 +96,7 @@ impl VarMap {
 
 /// Returns the target of a variable according to `codes`.
 fn target_at(codes: &[u32], from: Var) -> Option<Var>
-    requires { AreCodes codes.now }
+    requires { AreTargetCodes codes.now }
     ensures { result ≡ target (targets_of codes.now) from }
 {
     let code = *codes.get(from.index())?;
@@ -107,8 +108,8 @@ fn target_at(codes: &[u32], from: Var) -> Option<Var>
 
 /// Removes the target of a variable from `codes`.
 fn forget(codes: &mut [u32], from: Var)
-    ensures put { PutsTarget (targets_of codes.old) (targets_of codes.new) from None }
-    ensures codes { AreCodes codes.old → AreCodes codes.new }
+    ensures put { SetsTarget (targets_of codes.old) (targets_of codes.new) from None }
+    ensures codes { AreTargetCodes codes.old → AreTargetCodes codes.new }
 {
     let index = from.index();
     if index < codes.len() {
@@ -133,9 +134,9 @@ fn make_room(codes: &mut Vec<u32>, from: Var) -> Result<(), AllocError>
 #[inline(always)]
 fn put(codes: &mut Vec<u32>, from: Var, into: Var)
     requires { from < vec_capacity codes.old }
-    ensures put { PutsTarget (targets_of codes.old.items) (targets_of codes.new.items) from (Some into) }
+    ensures put { SetsTarget (targets_of codes.old.items) (targets_of codes.new.items) from (Some into) }
     ensures watermark { length codes.new.items ≡ max (length codes.old.items) (from + 1) }
-    ensures codes { AreCodes codes.old.items → AreCodes codes.new.items }
+    ensures codes { AreTargetCodes codes.old.items → AreTargetCodes codes.new.items }
 {
     let index = from.index();
     for _new in codes.len()..index + 1 {
@@ -259,7 +260,7 @@ impl<'a> VarBiMapMut<'a> {
         ensures same { self.new.map.ghost_name ≡ self.old.map.ghost_name }
         ensures side { self.new.is_turned ≡ self.old.is_turned }
         ensures linked { OnOk result (Links (maps_of_view self.old) (maps_of_view self.new) from into) }
-        ensures grows { OnOk result (GrowsBoth (maps_of_view self.old) (maps_of_view self.new) from into) }
+        ensures grows { OnOk result (GrowsBothMaps (maps_of_view self.old) (maps_of_view self.new) from into) }
         ensures kept { OnErr result (self.new.map.now ≡ self.old.map.now) }
     {
         self.link(into, from)

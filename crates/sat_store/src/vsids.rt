@@ -6,7 +6,7 @@
 ghost use Rattle.std.specs.Prelude.{◌≡◌, ◌<◌, ◌≤◌, ◌+◌, ◌*◌, ◌-◌, ◌/◌, ◌^◌, OnOk, OnErr, true, false, length, map, max};
 ghost use Rattle.std.specs.Prelude.{slice_set};
 ghost use Rattle.sat_base.specs.values.Literals.{var_limit};
-ghost use Rattle.sat_store.specs.heap.Heap.{scaled};
+ghost use Rattle.sat_store.specs.heap.Heap.{with_rescaled_key};
 ghost use Rattle.sat_store.specs.heap.Vsids.{no_variables, with_variables, GrowsQueue, bumped, decayed, with_available};
 ghost use Rattle.sat_store.specs.heap.Vsids.{is_available};
 
@@ -44,13 +44,13 @@ pub struct Vsids {
 impl Model for Vsids {
     ghost use Rattle.std.specs.Prelude.{◌<◌, ◌≤◌, ◌^◌};
     ghost use Rattle.sat_store.specs.heap.Vsids.{Queue};
-    ghost use Rattle.sat_store.specs.heap.Heap.{IsHeap, flags, keys};
+    ghost use Rattle.sat_store.specs.heap.Heap.{IsHeap, available_by_var, activities_by_var};
 
     ghost Value = { Queue };
 
     ghost view = { λ v. record {
-      available = flags v.available v.positions.items;
-      activities = keys v.heap.items v.positions.items;
+      available = available_by_var v.available v.positions.items;
+      activities = activities_by_var v.heap.items v.positions.items;
       bump = v.bump;
       decay = v.decay;
     } };
@@ -207,7 +207,7 @@ impl Iterator for Vsids {
 
 /// Rescales all activities. Returns how much a bump adds on the new scale.
 fn rescale(heap: &mut Vec<Entry>, bump: u64) -> u64
-    ensures heap { heap.new.items ≡ map scaled heap.old.items }
+    ensures heap { heap.new.items ≡ map with_rescaled_key heap.old.items }
     ensures bump { result ≡ max (bump / 2 ^ 40) 1 }
 {
     for entry in heap.iter_mut() {

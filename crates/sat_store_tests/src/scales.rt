@@ -2,7 +2,7 @@
 //! decay of one half. The contracts state the activities and the bump.
 ghost use Rattle.std.specs.Prelude.{◌≡◌, ◌^◌, [], ◌∷◌, OnOk, length};
 ghost use Rattle.std.specs.Fn.{iterate};
-ghost use Rattle.sat_store.specs.heap.Rows.{Has, four_bumped};
+ghost use Rattle.sat_store.specs.heap.Rows.{HasActivitiesAndBump, four_bumped};
 ghost use Rattle.sat_store.specs.heap.Vsids.{decayed, no_variables};
 
 use sat_base::Var;
@@ -39,7 +39,7 @@ fn decay_times(vsids: &mut Vsids, times: usize)
 /// The fortieth decay makes the bump reach 2^60, and all activities become 0.
 fn decay_sixty_times(vsids: &mut Vsids)
     requires { vsids.old ≡ four_bumped }
-    ensures has { Has (0 ∷ 0 ∷ 0 ∷ 0 ∷ []) (2 ^ 40) vsids.new }
+    ensures has { HasActivitiesAndBump (0 ∷ 0 ∷ 0 ∷ 0 ∷ []) (2 ^ 40) vsids.new }
     ensures available { length vsids.new.available ≡ 4 }
 {
     rows_of_smaller_scales();
@@ -49,7 +49,7 @@ fn decay_sixty_times(vsids: &mut Vsids)
 /// After 39 decays, the second bump of the last variable makes its activity reach 2^60.
 fn bump_past_the_limit(vsids: &mut Vsids)
     requires { vsids.old ≡ four_bumped }
-    ensures has { Has (0 ∷ 0 ∷ 0 ∷ 2 ^ 20 ∷ []) (2 ^ 19) vsids.new }
+    ensures has { HasActivitiesAndBump (0 ∷ 0 ∷ 0 ∷ 2 ^ 20 ∷ []) (2 ^ 19) vsids.new }
     ensures available { length vsids.new.available ≡ 4 }
 {
     rows_of_smaller_scales();

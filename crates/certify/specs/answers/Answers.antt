@@ -33,7 +33,7 @@ v_line line = 118 ∷ 32 ∷ literals_text line
 abbrev pub f_line : List Literal → List ℕ
 f_line core = 102 ∷ 32 ∷ literals_text core
 
--- the answer lines for one outcome
+-- the answer lines for one outcome: an `s` line and, unless it is unknown, a `v` or `f` line
 abbrev pub outcome_text : Outcome → List ℕ
 outcome_text (Sat line) = s_satisfiable ++ v_line line
 outcome_text (Unsat core) = s_unsatisfiable ++ f_line core
@@ -57,24 +57,26 @@ abbrev pub ending_text : ℕ → ScriptEnding → List ℕ
 ending_text k Clean = []
 ending_text k Malformed = malformed_line k
 
--- the answer lines for the command with number `k`; the first outcome is that of the next accepted ask
+-- the answer lines for the command with number `k`: the refusal's line if it is refused, the text of the first outcome
+-- if it is an accepted ask, and otherwise none
 abbrev pub answer_to_command : ℕ → Option Refusal → Command → List Outcome → List ℕ
 answer_to_command k (Some refusal) command outcomes = refused_line k refusal
 answer_to_command k None (Ask ls) (o ∷ os) = outcome_text o
 answer_to_command k None command outcomes = []
 
--- the outcomes for the commands after this command
+-- the outcomes without the first if the command is an accepted ask (no refusal), otherwise all of them
 abbrev pub outcomes_left : Option Refusal → Command → List Outcome → List Outcome
 outcomes_left None (Ask ls) (o ∷ os) = os
 outcomes_left refusal command outcomes = outcomes
 
--- the answers to commands, the first of which has number `k`
+-- the answers to commands, the first of which has number `k`, and to the ending of the script; `j` is the state before
+-- them, and each accepted ask consumes one outcome
 abbrev pub answers_from : ℕ → ScriptState → List Command → ScriptEnding → List Outcome → List ℕ
 answers_from k j [] ending outcomes = ending_text k ending
 answers_from k j (command ∷ commands) ending outcomes =
     answer_to_command k (refusal_of j command) command outcomes
     ++ answers_from (k + 1) (after_command command j) commands ending (outcomes_left (refusal_of j command) command outcomes)
 
--- the answers to a script
+-- the answers to a script with these commands and this ending, where each accepted ask consumes one outcome, in order
 abbrev pub answers_text : List Command → ScriptEnding → List Outcome → List ℕ
 answers_text = answers_from 1 initial_state

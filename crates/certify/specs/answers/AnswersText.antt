@@ -10,13 +10,13 @@ abbrev pub literals_line : List Literal → List ℕ
 literals_line [] = codes "0\n"
 literals_line (l ∷ ls) = ((if l.positive then [] else codes "-") ++ decimal l.name) ++ (codes " " ++ literals_line ls)
 
--- the answer lines for one outcome
+-- the answer lines for one outcome: an `s` line and, unless it is unknown, a `v` or `f` line with its literals
 abbrev pub outcome_lines : Outcome → List ℕ
 outcome_lines (Sat line) = codes "s SATISFIABLE\nv " ++ literals_line line
 outcome_lines (Unsat core) = codes "s UNSATISFIABLE\nf " ++ literals_line core
 outcome_lines Unknown = codes "s UNKNOWN\n"
 
--- the answer line for the refused command with number `k`
+-- the answer line for the refused command with number `k`: `c refused K limit` or `c refused K witness V`
 abbrev pub refusal_line : ℕ → Refusal → List ℕ
 refusal_line k PastLimit = codes "c refused " ++ (decimal k ++ codes " limit\n")
 refusal_line k (WitnessName name) = codes "c refused " ++ (decimal k ++ (codes " witness " ++ (decimal name ++ codes "\n")))

@@ -1,21 +1,23 @@
--- The state after the commands of a script, in as few definitions as possible. A law states that it agrees with that of `sat_base`.
+-- The state after the commands of a script, in as few definitions as possible. A law states that it agrees with that of
+-- `sat_base`.
 use Rattle.std.specs.Prelude.{ℕ, zero, suc, ◌+◌, ◌-◌, ◌==◌, ◌≡◌, max, Bool, true, false, not, Option, Some, None, List, [], ◌∷◌, map, nat_lt, is_some, unwrap_or, ◌&&◌, if◌then◌else◌}
 use Rattle.std.specs.List.{filter, AllByRecursion}
 use Rattle.sat_base.specs.values.Literals.{mk_lit, var_limit}
-use Rattle.sat_base.specs.values.Clauses.{Valuation, EachTrue, EachHolds}
-use Rattle.sat_base.specs.script.Script.{Literal, Command, Clause, Ask, Hide, Witness, Sample, names_of, Among, InOrder}
+use Rattle.sat_base.specs.values.Clauses.{Valuation, AllLitsTrue, AllClausesTrue}
+use Rattle.sat_base.specs.script.Script.{Literal, Command, Clause, Ask, Hide, Witness, Sample, names_of, Among, AreSortedLiterals}
 use Rattle.sat_base.specs.script.ScriptState.{Refusal, PastLimit, WitnessName, names_from}
 use Rattle.sat_checker.specs.matching.Expected.{Outcome, Sat, Unsat, Unknown}
 
--- A name in use: the identity of its variable, which is a number that is never reused, and whether its mode is witness. A clause or an ask with
--- a name of mode witness is refused. Nothing else depends on modes, in particular no model and no core.
+-- A name in use: the identity of its variable, which is a number that is never reused, and whether its mode is witness.
+-- A clause or an ask with a name of mode witness is refused. Nothing else depends on modes, in particular no model and
+-- no core.
 pub record Named : Type 0 where
   pub name : ℕ
   pub identity : ℕ
   pub witness : Bool
 
--- The state of a script between two commands. Every name in use refers to one variable, given by its identity. Hiding a name frees it; when the
--- name is next used, it gets a new variable with a new identity. Clauses keep the old identity.
+-- The state of a script between two commands. Every name in use refers to one variable, given by its identity. Hiding a
+-- name frees it; when the name is next used, it gets a new variable with a new identity. Clauses keep the old identity.
 pub record ScriptState : Type 0 where
   pub first_unused : ℕ  -- the lowest name never used
   pub in_use : List Named  -- in increasing order of name
@@ -45,15 +47,16 @@ with_name name state = record {
   clauses = state.clauses;
 }
 
--- The names that get a new variable when `name` is used: none if `name` is in use, and only `name` if it is hidden. If `name` was never used,
--- it and all smaller names that were never used get one. So a first clause `5 0` introduces 1 to 5.
+-- The names that get a new variable when `name` is used: none if `name` is in use, and only `name` if it is hidden. If
+-- `name` was never used, it and all smaller names that were never used get one. So a first clause `5 0` introduces 1 to
+-- 5.
 abbrev pub new_names : ℕ → ScriptState → List ℕ
 new_names name state =
     if nat_lt name state.first_unused
     then (if is_some (identity_in state.in_use name) then [] else name ∷ [])
     else names_from (name + 1 - state.first_unused) state.first_unused
 
--- the state after `f` is applied for each of the names, from left to right
+-- the state after `f` is applied for each of these names, from left to right
 abbrev pub for_each : (ℕ → ScriptState → ScriptState) → List ℕ → ScriptState → ScriptState
 for_each f [] state = state
 for_each f (name ∷ names) state = for_each f names (f name state)
@@ -62,7 +65,7 @@ for_each f (name ∷ names) state = for_each f names (f name state)
 abbrev pub introduce : ℕ → ScriptState → ScriptState
 introduce name state = for_each with_name (new_names name state) state
 
--- the state in which `name` is no longer in use
+-- the state after `name` is hidden: it is no longer in use, and clauses keep its variable
 abbrev pub without_name : ℕ → ScriptState → ScriptState
 without_name name state = record state { in_use = filter (λ n. not (n.name == name)) state.in_use }
 
@@ -75,8 +78,9 @@ set_witness witness name (n ∷ ns) = if n.name == name then record n { witness 
 abbrev pub with_mode : Bool → ℕ → ScriptState → ScriptState
 with_mode witness name state = record state { in_use = set_witness witness name state.in_use }
 
--- The literal with its variable's identity instead of its name. The default 0 is never needed, because the name is always in use: an ask and a
--- clause introduce their names first, a model lists the names in use, and a core consists of literals of the ask.
+-- The literal with its variable's identity instead of its name. The default 0 is never needed, because the name is
+-- always in use: an ask and a clause introduce their names first, a model lists the names in use, and a core consists
+-- of literals of the ask.
 abbrev pub identity_lit : ScriptState → Literal → ℕ
 identity_lit state l = mk_lit (unwrap_or (identity_in state.in_use l.name) 0) l.positive
 
@@ -84,8 +88,9 @@ identity_lit state l = mk_lit (unwrap_or (identity_in state.in_use l.name) 0) l.
 abbrev pub with_clause : List Literal → ScriptState → ScriptState
 with_clause ls state = record state { clauses = map (identity_lit state) ls ∷ state.clauses }
 
--- The state after an accepted command. `Clause` and `Ask` introduce their names from left to right; `Clause` then adds the clause. `Hide`,
--- `Witness` and `Sample` process one name at a time: they introduce it, then hide it or set its mode.
+-- The state after an accepted command. `Clause` and `Ask` introduce their names from left to right; `Clause` then adds
+-- the clause. `Hide`, `Witness` and `Sample` process one name at a time: they introduce it, then hide it or set its
+-- mode.
 abbrev pub state_after_accepted : Command → ScriptState → ScriptState
 state_after_accepted (Clause ls) state = with_clause ls (for_each introduce (names_of ls) state)
 state_after_accepted (Ask ls) state = for_each introduce (names_of ls) state
@@ -98,15 +103,16 @@ abbrev pub is_witness : List Named → ℕ → Bool
 is_witness [] name = false
 is_witness (n ∷ ns) name = if n.name == name then n.witness else is_witness ns name
 
--- Why a command with these names is refused, or `None`. The leftmost name that is past the limit, or whose mode is witness, determines the
--- reason. If `may_witness` is true, modes are ignored.
+-- Why a command with these names is refused, or `None`. The leftmost name that is past the limit, or whose mode is
+-- witness, determines the reason. If `may_witness` is true, modes are ignored.
 abbrev pub first_refusal : Bool → ScriptState → List ℕ → Option Refusal
 first_refusal may_witness state [] = None
 first_refusal may_witness state (name ∷ names) =
     if nat_lt var_limit name then Some PastLimit
     else (if not may_witness && is_witness state.in_use name then Some (WitnessName name) else first_refusal may_witness state names)
 
--- Why a command is refused, or `None` if it is accepted. Only a clause or an ask is refused because the mode of a name is witness.
+-- Why a command is refused, or `None` if it is accepted. Only a clause or an ask is refused because the mode of a name
+-- is witness.
 abbrev pub refusal_of : ScriptState → Command → Option Refusal
 refusal_of state (Clause ls) = first_refusal false state (names_of ls)
 refusal_of state (Ask ls) = first_refusal false state (names_of ls)
@@ -118,26 +124,28 @@ refusal_of state (Sample names) = first_refusal true state names
 abbrev pub after_command : Command → ScriptState → ScriptState
 after_command command state = if is_some (refusal_of state command) then state else state_after_accepted command state
 
--- `IsRightModel state ask line` holds if `line` is a correct model of `ask`.
+-- `IsRightModel state ask line` holds if `line` is a correct model of `ask`. `state` is the state after the names of
+-- `ask` were introduced.
 pub record IsRightModel (state : ScriptState) (ask line : List Literal) : Type 0 where
   -- `line` has one literal for every name in use, in increasing order
   pub names : names_of line ≡ map (λ n. n.name) state.in_use
   -- some valuation that agrees with `line` satisfies the accepted clauses and the literals of `ask`
   pub valuation : Valuation
-  pub agrees : EachTrue valuation (map (identity_lit state) line)
-  pub clauses : EachHolds valuation state.clauses
-  pub asked : EachTrue valuation (map (identity_lit state) ask)
+  pub agrees : AllLitsTrue valuation (map (identity_lit state) line)
+  pub clauses : AllClausesTrue valuation state.clauses
+  pub asked : AllLitsTrue valuation (map (identity_lit state) ask)
 
--- `IsRightCore state ask core` holds if `core` is a correct core of `ask`. It contains some of the literals of `ask`,
--- sorted and without repeats, that cannot all be true if the accepted clauses hold. It need not be minimal.
+-- `IsRightCore state ask core` holds if `core` is a correct core of `ask`: some of its literals, sorted and without
+-- repeats, that cannot all be true if the accepted clauses hold. It need not be minimal. `state` is the state after the
+-- names of `ask` were introduced.
 pub record IsRightCore (state : ScriptState) (ask core : List Literal) : Type 0 where
-  pub order : InOrder core
+  pub order : AreSortedLiterals core
   pub among : AllByRecursion (λ l. Among l ask) core
   -- no valuation satisfies both the core and the accepted clauses
-  pub none : (a : Valuation) → EachTrue a (map (identity_lit state) core) → EachHolds a state.clauses → ⊥
+  pub none : (a : Valuation) → AllLitsTrue a (map (identity_lit state) core) → AllClausesTrue a state.clauses → ⊥
 
--- `IsRight state ask o` holds if `o` is a correct outcome of `ask`. `state` is the state after the names of `ask` were
--- introduced.
+-- `IsRight state ask o` holds if `o` is a correct outcome of `ask`; unknown always is. `state` is the state after the
+-- names of `ask` were introduced.
 abbrev pub IsRight : ScriptState → List Literal → Outcome → Type 0
 IsRight state ask (Sat line) = IsRightModel state ask line
 IsRight state ask (Unsat core) = IsRightCore state ask core

@@ -1,8 +1,9 @@
--- The meaning of a script's text, in as few definitions as possible. A law states that it agrees with that of `sat_base`, which has other tokens.
+-- The meaning of a script's text, in as few definitions as possible. A law states that it agrees with that of
+-- `sat_base`, which has other tokens.
 use Rattle.std.specs.Prelude.{ℕ, ◌+◌, ◌*◌, ◌-◌, Bool, true, false, not, ◌&&◌, ◌||◌, Option, Some, None, List, [], ◌∷◌, ◌++◌, map, nat_eq, is_some, unwrap_or, codes, if◌then◌else◌}
 use Rattle.sat_base.specs.script.Script.{Literal, Command, Clause, Ask, Hide, Witness, Sample, Clean, Malformed}
 use Rattle.sat_base.specs.script.Language.{Reading, with_ask}
-use Rattle.sat_base.specs.text.Text.{prepend_to_first, is_none, same_bytes}
+use Rattle.sat_base.specs.text.Text.{prepend_to_first, has_no_words, same_bytes}
 
 -- `is_one_of cs b` is true if byte `b` is one of the characters `cs`.
 abbrev pub is_one_of : List ℕ → ℕ → Bool
@@ -22,22 +23,23 @@ unfoldable pub lines : List ℕ → List (List ℕ)
 lines [] = []
 lines (b ∷ bs) = if is_one_of (codes "\n") b then (b ∷ []) ∷ lines bs else prepend_to_first b (lines bs)
 
--- `goes_on bs` is true if the text begins with a nonblank byte.
-abbrev pub goes_on : List ℕ → Bool
-goes_on [] = false
-goes_on (b ∷ bs) = not (is_blank b)
+-- `begins_nonblank bs` is true if the text begins with a nonblank byte.
+abbrev pub begins_nonblank : List ℕ → Bool
+begins_nonblank [] = false
+begins_nonblank (b ∷ bs) = not (is_blank b)
 
 -- the words of a text: its maximal runs of nonblank bytes
 unfoldable pub words : List ℕ → List (List ℕ)
 words [] = []
-words (b ∷ bs) = if is_blank b then words bs else (if goes_on bs then prepend_to_first b (words bs) else (b ∷ []) ∷ words bs)
+words (b ∷ bs) = if is_blank b then words bs else (if begins_nonblank bs then prepend_to_first b (words bs) else (b ∷ []) ∷ words bs)
 
 -- `begins_with cs bs` is true if the first nonblank byte of the line is one of the characters `cs`.
 unfoldable pub begins_with : List ℕ → List ℕ → Bool
 begins_with cs [] = false
 begins_with cs (b ∷ bs) = if is_blank b then begins_with cs bs else is_one_of cs b
 
--- the number spelled by the digits of `n` followed by these bytes, or `None` if one of the bytes is not a digit; 48 is the code of `0`
+-- the number spelled by the digits of `n` followed by these bytes, or `None` if one of the bytes is not a digit; 48 is
+-- the code of `0`
 unfoldable pub digits : ℕ → List ℕ → Option ℕ
 digits n [] = Some n
 digits n (d ∷ ds) = if is_digit d then digits (10 * n + (d - 48)) ds else None
@@ -49,7 +51,8 @@ pub data Token : Type 0 where
   Header : Token  -- a line `p cnf V C` with two numbers, of any size
   Wrong : Token  -- any other word, and any other line that begins with `p`
 
--- the token of a line that begins with `p`: a header if its words are exactly `p`, `cnf` and two words of digits, otherwise `Wrong`
+-- the token of a line that begins with `p`: a header if its words are exactly `p`, `cnf` and two words of digits,
+-- otherwise `Wrong`
 abbrev pub header_in : List (List ℕ) → Token
 header_in (p ∷ cnf ∷ v ∷ c ∷ []) =
     if (same_bytes p (codes "p") && same_bytes cnf (codes "cnf")) && (is_some (digits 0 v) && is_some (digits 0 c)) then Header else Wrong
@@ -65,7 +68,7 @@ abbrev pub number_of_word : List ℕ → Token
 number_of_word [] = Wrong
 number_of_word (b ∷ bs) = if is_one_of (codes "-") b then number_token true (digits 0 bs) else number_token false (digits 0 (b ∷ bs))
 
--- the token of a word
+-- the token of a word: the letters `a`, `h`, `w` and `s` begin commands, and any other word is a number or `Wrong`
 abbrev pub token_of_word : List ℕ → Token
 token_of_word w =
     if same_bytes w (codes "a") then Begins (Ask [])
@@ -83,7 +86,7 @@ tokens_of_lines may (line ∷ lines) =
     if begins_with (codes "%") line then []
     else (if begins_with (codes "c") line then tokens_of_lines may lines
     else (if begins_with (codes "p") line then (if may then header_in (words line) else Wrong) ∷ tokens_of_lines false lines
-    else map token_of_word (words line) ++ tokens_of_lines (may && is_none (words line)) lines))
+    else map token_of_word (words line) ++ tokens_of_lines (may && has_no_words (words line)) lines))
 
 -- The command with literal `l` appended. `Hide`, `Witness` and `Sample` get only its name, and give `None` if `l` is
 -- negative.
@@ -113,16 +116,16 @@ parse_tokens None (Begins command ∷ ts) = parse_tokens (Some command) ts
 parse_tokens hand (Header ∷ ts) = parse_tokens hand ts
 parse_tokens hand (t ∷ ts) = ([], Malformed)
 
--- the commands that are written in a text, and how the text ends
+-- the commands that are written in a text, without the ask that a header may add, and how the text ends
 abbrev pub parse_written : List ℕ → Reading
 parse_written text = parse_tokens None (tokens_of_lines true (lines text))
 
--- `is_headed ts` is true if the first token is a header.
+-- `is_headed ts` is true if the first of the tokens is a header.
 abbrev pub is_headed : List Token → Bool
 is_headed (Header ∷ ts) = true
 is_headed ts = false
 
--- The commands of a text, and how the text ends. If it begins with a header, ends cleanly and contains no ask, an ask without literals is
--- appended.
+-- The commands of a text, and how the text ends. If it begins with a header, ends cleanly and contains no ask, an ask
+-- without literals is appended.
 abbrev pub parse_script : List ℕ → Reading
 parse_script text = with_ask (is_headed (tokens_of_lines true (lines text))) (parse_written text)

@@ -10,6 +10,6 @@ pub record CertificateState : Type 0 where
   pub step : Step  -- the step that was read last
   pub rest : List ℕ  -- the bytes still to come
 
--- the place up to which the certificate was read: its last step, and the bytes after it
+-- the last step that was read, and the bytes after it, without the checker
 abbrev pub certificate_place : CertificateState → CertificatePlace
 certificate_place v = record { step = v.step; rest = v.rest }

@@ -10,7 +10,7 @@ use Rattle.sat_checker.specs.matching.Expected.{Outcome, Unsat}
 use Rattle.certify.specs.answers.Answers.{outcome_text}
 use Rattle.certify.specs.answers.AnswerForms.{IsPrintable, named_literals}
 use Rattle.certify.specs.answers.AnswerReading.{first_answer_line, second_line, outcome_of}
-use Rattle.certify.specs.script.LastPiece.{FaultsAhead, NoReadFailedAhead, source_in, waiting_bytes}
+use Rattle.certify.specs.script.LastPiece.{ReadFailsAhead, NoReadFailedAhead, source_in, waiting_bytes}
 use Rattle.certify.specs.declared.script.ahead.LastPiece.{LastPiece}
 use Rattle.certify.specs.declared.answers.read.AnswerFault.{AnswerFault}
 use Rattle.certify.specs.declared.answers.read.AnswerFault.TheVariants as unread
@@ -34,55 +34,59 @@ pub record IsOneLine (text : List ℕ) : Type 0 where
   pub none : HasNoLf front
   pub whole : text ≡ front ++ 10 ∷ []
 
--- `GoesUpToLine whole bytes count` holds if the first `count` bytes are a line or, if `whole` is false, are all bytes
--- and contain no LF.
-abbrev pub GoesUpToLine : Bool → List ℕ → ℕ → Type 0
-GoesUpToLine true bytes count = (count ≤ length bytes) × IsOneLine (take count bytes)
-GoesUpToLine false bytes count = (count ≡ length bytes) × HasNoLf bytes
+-- `EndsLineAt whole bytes count` holds if the first `count` bytes are a line that ends with LF or, if `whole` is false,
+-- there are exactly `count` bytes, and none is LF.
+abbrev pub EndsLineAt : Bool → List ℕ → ℕ → Type 0
+EndsLineAt true bytes count = (count ≤ length bytes) × IsOneLine (take count bytes)
+EndsLineAt false bytes count = (count ≡ length bytes) × HasNoLf bytes
 
--- `EndsPart whole text left` holds if the text is a line or, if `whole` is false, contains no LF, and nothing is left.
-abbrev pub EndsPart : Bool → List ℕ → List ℕ → Type 0
-EndsPart true text left = IsOneLine text
-EndsPart false text left = HasNoLf text × (left ≡ [])
+-- `IsLineOrAll whole text left` holds if `text` is a line that ends with LF or, if `whole` is false, contains no LF,
+-- and no bytes are left after it.
+abbrev pub IsLineOrAll : Bool → List ℕ → List ℕ → Type 0
+IsLineOrAll true text left = IsOneLine text
+IsLineOrAll false text left = HasNoLf text × (left ≡ [])
 
--- `MovesPrefix result old new before after` holds if bytes read ahead were moved to the line being read, up to LF if
--- there is one; with an error, none were moved.
+-- `MovesPrefix result old new before after` holds if bytes read ahead were appended to the line being read, which was
+-- `before` and is `after`: those up to LF (`Ok true`), or all if there is no LF (`Ok false`). With an error, no byte
+-- was taken from those read ahead.
 abbrev pub MovesPrefix : {E : Type 0} → Result Bool E → LastPiece → LastPiece → List ℕ → List ℕ → Type 0
 MovesPrefix (Ok whole) old new before after = (text : List ℕ) × (waiting_bytes old ≡ text ++ waiting_bytes new) × (new.reads ≡ old.reads)
-    × (after ≡ before ++ text) × EndsPart whole text (waiting_bytes new)
+    × (after ≡ before ++ text) × IsLineOrAll whole text (waiting_bytes new)
 MovesPrefix (Err e) old new before after = new ≡ old
 
--- `IsWantedLine wanted due line` holds if the line is one of the lines that are expected next.
+-- `IsWantedLine wanted due line` holds if the line is one that is expected next: `due` itself, any first line of an
+-- answer, any second line, in form, of an answer of kind `k`, or none at all, as `wanted` says.
 abbrev pub IsWantedLine : Wanted → List ℕ → List ℕ → Type 0
 IsWantedLine wanted.Due due line = line ≡ due
 IsWantedLine wanted.First due line = (k : AnswerKind) × (line ≡ first_answer_line k)
 IsWantedLine (wanted.Second k) due line = (ls : List Literal) × (IsPrintable (outcome_of k ls) × (line ≡ second_line (outcome_of k ls)))
 IsWantedLine wanted.Nothing due line = ⊥
 
--- `StartsNone P bytes` holds if no line that satisfies `P` begins with the bytes.
-abbrev pub StartsNone : (List ℕ → Type 0) → List ℕ → Type 0
-StartsNone P bytes = (more : List ℕ) → P (bytes ++ more) → ⊥
+-- `CannotBegin P bytes` holds if no text that satisfies `P` begins with the bytes.
+abbrev pub CannotBegin : (List ℕ → Type 0) → List ℕ → Type 0
+CannotBegin P bytes = (more : List ℕ) → P (bytes ++ more) → ⊥
 
--- `IsWrong P bytes` holds if there are bytes, and no line that satisfies `P` begins with them.
-abbrev pub IsWrong : (List ℕ → Type 0) → List ℕ → Type 0
-IsWrong P bytes = StartsNone P bytes × (bytes ≡ [] → ⊥)
+-- `IsWrongStart P bytes` holds if there is at least one byte, and no text that satisfies `P` begins with the bytes.
+abbrev pub IsWrongStart : (List ℕ → Type 0) → List ℕ → Type 0
+IsWrongStart P bytes = CannotBegin P bytes × (bytes ≡ [] → ⊥)
 
--- `IsNextLine P a b line` holds if a line was read, or the rest of the text without LF, or bytes without LF that begin
--- no line that satisfies `P`.
+-- `IsNextLine P a b line` holds if `line` was consumed from `a` to `b`: a line that ends with LF, or the rest of the
+-- text without LF, or bytes without LF with which no line that satisfies `P` begins.
 abbrev pub IsNextLine : (List ℕ → Type 0) → Source → Source → List ℕ → Type 0
-IsNextLine P a b line = (ConsumesBytes a b line × IsOneLine line) ⊎ ((ConsumesToEnd a b line × HasNoLf line) ⊎ ((ConsumesBytes a b line × HasNoLf line) × IsWrong P line))
+IsNextLine P a b line = (ConsumesBytes a b line × IsOneLine line) ⊎ ((ConsumesToEnd a b line × HasNoLf line) ⊎ ((ConsumesBytes a b line × HasNoLf line) × IsWrongStart P line))
 
--- `ReadsLineOfKind P result a b line` holds if `IsNextLine` holds or, with an error, the reader failed or memory ran
--- out.
+-- `ReadsLineOfKind P result a b line` holds if `IsNextLine` holds or, with an error, the reader failed, was read 2^48
+-- times, or memory ran out.
 abbrev pub ReadsLineOfKind : (List ℕ → Type 0) → Result (Unit {0}) ReadError → Source → Source → List ℕ → Type 0
 ReadsLineOfKind P (Ok x) a b line = IsNextLine P a b line
-ReadsLineOfKind P (Err errors.Failed) a b line = FaultsAhead a b
+ReadsLineOfKind P (Err errors.Failed) a b line = ReadFailsAhead a b
 ReadsLineOfKind P (Err errors.OutOfMemory) a b line = NoReadFailedAhead a b
 
--- `NextLine P result a b line` holds if `ReadsLineOfKind` holds, with the error as a `Stop`.
+-- `NextLine P result a b line` holds if `IsNextLine` holds or, with an error, the answers' reader failed, was read 2^48
+-- times, or memory ran out. No other error is possible.
 abbrev pub NextLine : (List ℕ → Type 0) → Result (Unit {0}) Stop → Source → Source → List ℕ → Type 0
 NextLine P (Ok x) a b line = IsNextLine P a b line
-NextLine P (Err stop.AnswersRead) a b line = FaultsAhead a b
+NextLine P (Err stop.AnswersRead) a b line = ReadFailsAhead a b
 NextLine P (Err stop.OutOfMemory) a b line = NoReadFailedAhead a b
 NextLine P (Err (stop.No why)) a b line = ⊥
 NextLine P (Err stop.CertificateRead) a b line = ⊥
@@ -94,38 +98,40 @@ NextLine P (Err stop.TooMany) a b line = ⊥
 abbrev pub answers_source : {A : Type 0} → (A → Reader) → A → Answers → Source
 answers_source seen answers s = source_in seen answers s.lines.ahead
 
--- `TakesDueLine old new line result` holds if the expected line was read or, with an error, the bytes do not begin with
--- it.
-abbrev pub TakesDueLine : List ℕ → List ℕ → List ℕ → Result (Unit {0}) Why → Type 0
-TakesDueLine old new line (Ok x) = old ≡ line ++ new
-TakesDueLine old new line (Err why) = (tail : List ℕ) → old ≡ line ++ tail → ⊥
+-- `ReadsDueLine old new line result` holds if the remaining bytes were `old`, are now `new`, and the expected line
+-- `line` was between them; or if, with an error, `old` does not begin with `line`.
+abbrev pub ReadsDueLine : List ℕ → List ℕ → List ℕ → Result (Unit {0}) Why → Type 0
+ReadsDueLine old new line (Ok x) = old ≡ line ++ new
+ReadsDueLine old new line (Err why) = (tail : List ℕ) → old ≡ line ++ tail → ⊥
 
--- the error of a call if no answer can be read
-abbrev pub stop_after : AnswerFault → Stop
-stop_after unread.Missing = stop.No AnswerMissing
-stop_after unread.Text = stop.No AnswerText
-stop_after unread.OutOfMemory = stop.OutOfMemory
+-- the error of a call for the reason why no answer can be read: a `No`, or out of memory
+abbrev pub stop_for_answer : AnswerFault → Stop
+stop_for_answer unread.Missing = stop.No AnswerMissing
+stop_for_answer unread.Text = stop.No AnswerText
+stop_for_answer unread.OutOfMemory = stop.OutOfMemory
 
--- `ReadsFirst before following result` holds if the first line of an answer was read or, with an error, the bytes begin
--- with no answer.
-abbrev pub ReadsFirst : List ℕ → List ℕ → Result AnswerKind Why → Type 0
-ReadsFirst before following (Ok kind) = before ≡ first_answer_line kind ++ following
-ReadsFirst before following (Err why) = (o : Outcome) (tail : List ℕ) → before ≡ outcome_text o ++ tail → ⊥
+-- `ReadsFirstLine before following result` holds if the remaining bytes `before` are the first line of an answer of the
+-- returned kind, and then `following`; or if, with an error, they do not begin with the text of any outcome.
+abbrev pub ReadsFirstLine : List ℕ → List ℕ → Result AnswerKind Why → Type 0
+ReadsFirstLine before following (Ok kind) = before ≡ first_answer_line kind ++ following
+ReadsFirstLine before following (Err why) = (o : Outcome) (tail : List ℕ) → before ≡ outcome_text o ++ tail → ⊥
 
--- `ReadsSecond kind line before following result` holds if the second line of an answer of this kind was read, with the
--- literals of `line` in form or, with an error, the bytes begin with no such line.
-abbrev pub ReadsSecond : AnswerKind → List Literal → List ℕ → List ℕ → Result (Unit {0}) Why → Type 0
-ReadsSecond kind line before following (Ok x) = (before ≡ second_line (outcome_of kind line) ++ following) × IsPrintable (outcome_of kind line)
-ReadsSecond kind line before following (Err why) =
+-- `ReadsSecondLine kind line before following result` holds if the remaining bytes `before` are the second line of an
+-- answer of this kind, with the literals of `line`, in form, and then `following`; or if, with an error, they begin
+-- with no such line.
+abbrev pub ReadsSecondLine : AnswerKind → List Literal → List ℕ → List ℕ → Result (Unit {0}) Why → Type 0
+ReadsSecondLine kind line before following (Ok x) = (before ≡ second_line (outcome_of kind line) ++ following) × IsPrintable (outcome_of kind line)
+ReadsSecondLine kind line before following (Err why) =
     (ls : List Literal) (tail : List ℕ) → IsPrintable (outcome_of kind ls) → before ≡ second_line (outcome_of kind ls) ++ tail → ⊥
 
--- the outcome that a reply represents
-abbrev pub outcome_in : Reply → Outcome
-outcome_in r = outcome_of r.kind (named_literals r.lits.items)
+-- the outcome that the code's value `r` represents: its kind, with its literal codes as literals
+abbrev pub outcome_of_reply : Reply → Outcome
+outcome_of_reply r = outcome_of r.kind (named_literals r.lits.items)
 
--- `IsReply before following reply settled result` holds if an answer in form was read, which is the empty core if unsat
--- is recorded (`settled`) or, with an error, the bytes begin with no such answer.
-abbrev pub IsReply : List ℕ → List ℕ → Outcome → Bool → Result (Unit {0}) Why → Type 0
-IsReply before following reply settled (Ok x) = (before ≡ outcome_text reply ++ following) × IsPrintable reply × (settled ≡ true → reply ≡ Unsat [])
-IsReply before following reply settled (Err why) =
+-- `ReadsReply before following reply settled result` holds if the remaining bytes `before` are the answer `reply`, in
+-- form, and then `following`; or if, with an error, they begin with no answer that is allowed. If unsat is recorded
+-- (`settled`), only the answer with the empty core is allowed.
+abbrev pub ReadsReply : List ℕ → List ℕ → Outcome → Bool → Result (Unit {0}) Why → Type 0
+ReadsReply before following reply settled (Ok x) = (before ≡ outcome_text reply ++ following) × IsPrintable reply × (settled ≡ true → reply ≡ Unsat [])
+ReadsReply before following reply settled (Err why) =
     (o : Outcome) (tail : List ℕ) → IsPrintable o → (settled ≡ true → o ≡ Unsat []) → before ≡ outcome_text o ++ tail → ⊥

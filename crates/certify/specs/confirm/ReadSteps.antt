@@ -8,12 +8,13 @@ pub record CertificatePlace : Type 0 where
   pub step : Step
   pub rest : List ℕ
 
--- `ReadsStep old new` holds if a step was read from the beginning of the bytes of `old`.
+-- `ReadsStep old new` holds if a step was read from the beginning of the bytes `old.rest`. It is `new.step`, and
+-- `new.rest` are the bytes after it.
 pub record ReadsStep (old new : CertificatePlace) : Type 0 where
   pub text : List ℕ
   pub spelt : SpellsStep new.step text
   pub front : old.rest ≡ text ++ new.rest
 
--- `BeginsNoStep bytes` holds if the bytes do not begin with the text of a step.
+-- `BeginsNoStep bytes` holds if the bytes do not begin with the complete text of a step.
 abbrev pub BeginsNoStep : List ℕ → Type 0
 BeginsNoStep bytes = (step : Step) (text rest : List ℕ) → bytes ≡ text ++ rest → SpellsStep step text → ⊥

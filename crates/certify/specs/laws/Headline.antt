@@ -1,4 +1,5 @@
--- The headline, for texts in memory: a script is run, what the run wrote is confirmed, and other answers are judged with another certificate.
+-- The headline, for texts in memory: a script is run, what the run wrote is confirmed, and other answers are judged
+-- with another certificate.
 use Rattle.std.specs.Prelude.{ℕ, ◌+◌, ◌*◌, ◌^◌, ◌<◌, ◌≤◌, ◌≡◌, List, [], ◌∷◌, length, reverse, sum}
 use Rattle.sat_base.specs.steps.Steps.{Step}
 use Rattle.sat_base.specs.steps.StepText.{SpellsSteps}
@@ -6,9 +7,9 @@ use Rattle.sat_checker.specs.Accepts.{AcceptsAll}
 use Rattle.sat_checker.specs.matching.Expected.{Outcome, Unknown}
 use Rattle.certify.specs.answers.Events.{Event, Refused, Asked, MalformedAt, events_in}
 use Rattle.certify.specs.confirm.VerdictPromises.{AreRightAnswers}
-use Rattle.certify.specs.run.Learning.{EachLearns}
+use Rattle.certify.specs.run.Learning.{EachAskLearns}
 use Rattle.certify.specs.run.RoundsLeft.{rounds_allowed}
-use Rattle.certify.specs.laws.EndToEnd.{most_looks_over}
+use Rattle.certify.specs.laws.EndToEnd.{most_looks_for}
 use Rattle.certify.specs.declared.verdict.Verdict.{Verdict}
 use Rattle.certify.specs.declared.verdict.Verdict.TheVariants.{Yes}
 
@@ -30,17 +31,18 @@ EachTookRounds budget before (Asked state ls ∷ events) (o ∷ outcomes) (taken
     TookRounds state.identity_count (rounds_allowed budget before) taken o × EachTookRounds budget (before + taken) events outcomes rounds
 EachTookRounds budget before events outcomes rounds = ⊥
 
--- `ShowsRounds certificate outcomes rounds` holds if the certificate spells steps, each of which a checker accepts
--- after the earlier ones, and `EachLearns` holds of them. `steps` has the newest step first.
+-- `ShowsRounds certificate outcomes rounds` holds if the certificate spells steps that a checker accepts, and in each
+-- ask, they derive a number of empowering clauses that fits its outcome and its rounds (`EachAskLearns`). `steps` has
+-- the newest step first.
 pub record ShowsRounds (certificate : List ℕ) (outcomes : List Outcome) (rounds : List ℕ) : Type 0 where
   pub steps : List Step
   pub spelt : SpellsSteps (reverse steps) certificate
   pub accepted : AcceptsAll steps
-  pub learns : EachLearns steps 0 outcomes rounds
+  pub learns : EachAskLearns steps 0 outcomes rounds
 
--- `Headline script budget rounds answers certificate own claimed shown other before after` holds if all of its fields
--- do. In `headline_over`, `rounds` are the numbers that the summary reports, one for each ask, `own` and `other` are
--- the two verdicts, and the number of looks was `before` at the start and is `after` at the end.
+-- `Headline script budget rounds answers certificate own claimed shown other before after` holds if a run of `script`
+-- wrote correct `answers` and the `certificate`, with `rounds` for its asks; `own`, the verdict on these, is `Yes`; and
+-- `other`, that on the answers `claimed` with the certificate `shown`, is sound. Looks rose from `before` to `after`.
 pub record Headline (script : List ℕ) (budget : ℕ) (rounds answers certificate : List ℕ) (own : Verdict)
     (claimed shown : List ℕ) (other : Verdict) (before after : ℕ) : Type 0 where
   -- the answers have one outcome for each accepted ask: a correct model, a correct core, or unknown
@@ -54,4 +56,4 @@ pub record Headline (script : List ℕ) (budget : ℕ) (rounds answers certifica
   -- if the other verdict is `Yes`, the answers `claimed` are correct
   pub any : other ≡ Yes → AreRightAnswers script claimed
   -- the number of looks rises by at most the bounds for the two certificates together
-  pub looks : after ≤ before + most_looks_over certificate + most_looks_over shown
+  pub looks : after ≤ before + most_looks_for certificate + most_looks_for shown

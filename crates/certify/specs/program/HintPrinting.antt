@@ -12,7 +12,7 @@ use Rattle.sat_hints.specs.declared.answer.HintWhy.TheVariants as why
 use Rattle.certify.specs.program.Failures.{NoReadFailed}
 use Rattle.certify.specs.program.Printing.{PrintsLine}
 
--- the word for each reason
+-- the word that the program prints for the reason why a hint text is rejected, such as `UnknownId`
 abbrev pub hint_why_text : HintWhy → List ℕ
 hint_why_text why.Syntax = codes "Syntax"
 hint_why_text why.IdOrder = codes "IdOrder"
@@ -21,21 +21,22 @@ hint_why_text why.NotUnit = codes "NotUnit"
 hint_why_text why.NotFalsified = codes "NotFalsified"
 hint_why_text why.VarInUse = codes "VarInUse"
 
--- a digit that says whether the empty clause was derived
+-- the text `1` if the empty clause was derived, or `0` if it was not
 abbrev pub digit_of : Bool → List ℕ
 digit_of true = codes "1"
 digit_of false = codes "0"
 
--- the line `proved empty=E cores=K lines=L`, with LF
+-- the line `proved empty=E cores=K lines=L`, with LF: E is 1 if the hint text derives an empty clause and otherwise 0,
+-- K is its number of cores, and L that of its lines
 abbrev pub proved_text : Bool → ℕ → ℕ → List ℕ
 proved_text empty cores lines =
     codes "proved empty=" ++ digit_of empty ++ codes " cores=" ++ decimal cores ++ codes " lines=" ++ decimal lines ++ 10 ∷ []
 
--- the line `bad LINE WHY`, with LF
+-- the line `bad LINE WHY`, with LF: the number of the first line at fault, and the reason
 abbrev pub bad_text : ℕ → HintWhy → List ℕ
 bad_text line cause = codes "bad " ++ decimal line ++ 32 ∷ [] ++ hint_why_text cause ++ 10 ∷ []
 
--- the line for the verdict on a hint text
+-- the line that is printed for the verdict on a hint text: `proved ...` or `bad ...`
 abbrev pub hint_verdict_text : HintVerdict → List ℕ
 hint_verdict_text (Proved empty cores lines) = proved_text empty cores lines
 hint_verdict_text (Bad line cause) = bad_text line cause
@@ -53,14 +54,16 @@ pub record PrintsHintVerdict (status : ℕ) (input : Reader × Reader) (output :
   pub printed : PrintsLine status (hint_verdict_text verdict) (is_proved verdict ≡ true) output.0 output.1
   pub read : NoReadFailed input
 
--- `CutsHintVerdict input output` holds if no read failed, and writing the line for a correct verdict failed after a prefix.
-pub record CutsHintVerdict (input : Reader × Reader) (output : Writer × Writer) : Type 0 where
+-- `PrintsHintVerdictPrefix input output` holds if no read failed, and writing the line for a correct verdict failed
+-- after a prefix.
+pub record PrintsHintVerdictPrefix (input : Reader × Reader) (output : Writer × Writer) : Type 0 where
   pub verdict : HintVerdict
   pub judges : GaveEnough input.0 input.1 (VerdictHolds verdict)
   pub printed : WriterFails output.0 output.1 (hint_verdict_text verdict)
   pub read : NoReadFailed input
 
--- the status for a result of `convert`, or `None` for a device or allocation failure
+-- the exit status for a result of `convert`: 0 if it wrote a hint text, 1 if the certificate is refused or deletes a
+-- variable, and `None` for a device or allocation failure
 abbrev pub status_after : Result (Unit {0}) HintError → Option ℕ
 status_after (Ok x) = Some 0
 status_after (Err (error.Refused e)) = Some 1
@@ -69,17 +72,17 @@ status_after (Err error.Read) = None
 status_after (Err error.Write) = None
 status_after (Err error.OutOfMemory) = None
 
--- `WritesHints status certificate hints` holds if the certificate was converted and, with status 0, its hint text was
--- written and flushed; or if, with status 1, it has none.
+-- `WritesHints status certificate hints` holds if the status is 0, and the certificate's hint text was written and
+-- flushed; or if it is 1, and the certificate has no hint text because it is refused or deletes a variable.
 pub record WritesHints (status : ℕ) (certificate : Reader × Reader) (hints : Writer × Writer) : Type 0 where
   pub answer : Result (Unit {0}) HintError
   pub converts : Converts answer certificate.0 certificate.1 hints.0 hints.1
   pub following : status_after answer ≡ Some status
   pub flushed : status ≡ 0 → hints.1.flushed ≡ true
 
--- `CutsHints certificate hints` holds if a read, a write or an allocation failed while the certificate was converted,
--- or 2^48 reads were made; or if its hint text was written, and the flush failed.
-abbrev pub CutsHints : Reader × Reader → Writer × Writer → Type 0
-CutsHints certificate hints =
+-- `WritesHintsPrefix certificate hints` holds if a read, a write or an allocation failed while the certificate was
+-- converted, or 2^48 reads were made; or if its hint text was written, and the flush failed.
+abbrev pub WritesHintsPrefix : Reader × Reader → Writer × Writer → Type 0
+WritesHintsPrefix certificate hints =
     ((answer : Result (Unit {0}) HintError) × Converts answer certificate.0 certificate.1 hints.0 hints.1 × (status_after answer ≡ None))
     ⊎ ((written : Writer) × Converts (Ok tt) certificate.0 certificate.1 hints.0 written × WriterFails written hints.1 [])

@@ -2,10 +2,10 @@
 use Rattle.std.specs.Prelude.{ℕ, ◌≡◌, ◌<◌, ◌^◌, ◌↔◌, ◌⊎◌, true, Bool, false, None, is_some, List, ◌∷◌, ◌++◌, codes, decimal, length, []}
 use Rattle.sat_base.specs.device.Device.{Reader, Writer, GaveEnough, WriterAccepts, WriterFails}
 use Rattle.sat_base.specs.script.Script.{ScriptEnding, Clean, Malformed}
-use Rattle.certify.specs.confirm.VerdictPromises.{Exact}
+use Rattle.certify.specs.confirm.VerdictPromises.{VerdictIsExact}
 use Rattle.certify.specs.program.Failures.{NoReadFailed}
 use Rattle.sat_base.specs.script.Language.{reading}
-use Rattle.certify.specs.run.FinishedRun.{CertificateGuarantee, TookCertificate}
+use Rattle.certify.specs.run.FinishedRun.{CertificateGuarantee, ReceivedCertificate}
 use Rattle.certify.specs.run.RoundsLeft.{most_rounds}
 use Rattle.certify.specs.declared.summary.Summary.{Summary}
 use Rattle.certify.specs.declared.verdict.Verdict.{Verdict}
@@ -22,7 +22,7 @@ use Rattle.certify.specs.declared.program.fault.ProgramFault.TheVariants as faul
 use Rattle.certify.specs.declared.program.fault.HintCallFault.{HintCallFault}
 use Rattle.certify.specs.declared.program.fault.HintCallFault.TheVariants as hints_fault
 
--- the word for each reason
+-- the word that the program prints for the reason of a `No`, such as `StepRefused`
 abbrev pub why_text : Why → List ℕ
 why_text why.AnswerMissing = codes "AnswerMissing"
 why_text why.AnswerExtra = codes "AnswerExtra"
@@ -36,7 +36,7 @@ why_text why.StepRefused = codes "StepRefused"
 why_text why.CertificateEnds = codes "CertificateEnds"
 why_text why.StepOutOfPlace = codes "StepOutOfPlace"
 
--- the word for each fault of `run`
+-- the word that the program prints for a fault of `run`, such as `StoreFull`
 abbrev pub run_fault_text : RunFault → List ℕ
 run_fault_text run_fault.ScriptRead = codes "ScriptRead"
 run_fault_text run_fault.AnswersWrite = codes "AnswersWrite"
@@ -45,7 +45,7 @@ run_fault_text run_fault.OutOfMemory = codes "OutOfMemory"
 run_fault_text run_fault.StoreFull = codes "StoreFull"
 run_fault_text run_fault.CounterEnd = codes "CounterEnd"
 
--- the word for each fault of `confirm`
+-- the word that the program prints for a fault of `confirm`, such as `CertificateRead`
 abbrev pub confirm_fault_text : ConfirmFault → List ℕ
 confirm_fault_text confirm_fault.ScriptRead = codes "ScriptRead"
 confirm_fault_text confirm_fault.AnswersRead = codes "AnswersRead"
@@ -53,13 +53,14 @@ confirm_fault_text confirm_fault.CertificateRead = codes "CertificateRead"
 confirm_fault_text confirm_fault.OutOfMemory = codes "OutOfMemory"
 confirm_fault_text confirm_fault.CounterEnd = codes "CounterEnd"
 
--- the word for each fault of writing or checking hints
+-- the word that the program prints for a fault of writing or checking a hint text
 abbrev pub hints_fault_text : HintCallFault → List ℕ
 hints_fault_text hints_fault.Read = codes "Read"
 hints_fault_text hints_fault.Write = codes "Write"
 hints_fault_text hints_fault.OutOfMemory = codes "OutOfMemory"
 
--- the word for each fault of the program
+-- the word that the program prints for a fault; standard input that fails counts as `ScriptRead`, and standard output
+-- that fails as `AnswersWrite`
 abbrev pub fault_text : ProgramFault → List ℕ
 fault_text (fault.Run f) = run_fault_text f
 fault_text (fault.Confirm f) = confirm_fault_text f
@@ -67,26 +68,27 @@ fault_text (fault.Hints f) = hints_fault_text f
 fault_text (fault.Input error) = codes "ScriptRead"
 fault_text (fault.Output error) = codes "AnswersWrite"
 
--- the ask and the reason of a `No`, with LF
-abbrev pub no_text : ℕ → Why → List ℕ
-no_text ask why = decimal ask ++ 32 ∷ [] ++ why_text why ++ 10 ∷ []
+-- the text `ASK WHY`, with LF: the number of an ask in decimal digits, and the reason of a `No`
+abbrev pub no_verdict_text : ℕ → Why → List ℕ
+no_verdict_text ask why = decimal ask ++ 32 ∷ [] ++ why_text why ++ 10 ∷ []
 
--- the line `c confirmed` or `c not confirmed ASK WHY`, with LF
+-- the line `c confirmed` for `Yes`, or `c not confirmed ASK WHY` for `No`, with LF
 abbrev pub verdict_text : Verdict → List ℕ
 verdict_text Yes = codes "c confirmed" ++ 10 ∷ []
-verdict_text (No ask why) = codes "c not confirmed " ++ no_text ask why
+verdict_text (No ask why) = codes "c not confirmed " ++ no_verdict_text ask why
 
--- the line `yes` or `no ASK WHY`, with LF
+-- the line `yes` for `Yes`, or `no ASK WHY` for `No`, with LF
 abbrev pub yes_or_no_text : Verdict → List ℕ
 yes_or_no_text Yes = codes "yes" ++ 10 ∷ []
-yes_or_no_text (No ask why) = codes "no " ++ no_text ask why
+yes_or_no_text (No ask why) = codes "no " ++ no_verdict_text ask why
 
--- `is_malformed ending` is true if the script is malformed.
+-- `is_malformed ending` is true if the script ends because it is malformed.
 abbrev pub is_malformed : ScriptEnding → Bool
 is_malformed Clean = false
 is_malformed Malformed = true
 
--- A run of a text with at most `budget` rounds for each ask: its summary, answers and certificate. The certificate is small enough for memory.
+-- A finished run of the script `text` with at most `budget` rounds for each ask: its summary, answers and certificate,
+-- for which `CertificateGuarantee` holds. The certificate has fewer than 2^63 bytes.
 pub record RunOf (text : List ℕ) (budget : ℕ) : Type 0 where
   pub summary : Summary
   pub answers : List ℕ
@@ -94,25 +96,26 @@ pub record RunOf (text : List ℕ) (budget : ℕ) : Type 0 where
   pub fits : length certificate < 2 ^ 63
   pub guarantee : CertificateGuarantee text budget summary answers certificate
 
--- `IsWritten text w` holds if a run with the largest budget wrote correct answers to a text in memory, and their
--- certificate.
+-- `IsWritten text w` holds if `w` contains the summary, answers and certificate of a finished run of the script `text`,
+-- with the largest budget, 2^64 - 1. `CertificateGuarantee` holds for them.
 abbrev pub IsWritten : List ℕ → Written → Type 0
 IsWritten text w = CertificateGuarantee text most_rounds w.summary w.answers.items w.certificate.items
 
--- `PrintsWritten status w old new` holds if the answers of the finished run `w` were printed, and then `c confirmed`.
--- The status is 0 exactly when its script is not malformed.
+-- `PrintsWritten status w old new` holds if the writer of standard output, between `old` and `new`, received the
+-- answers of the finished run `w`, then `c confirmed`, and was flushed. The status is 0 exactly when the script is not
+-- malformed.
 pub record PrintsWritten (status : ℕ) (w : Written) (old new : Writer) : Type 0 where
   pub printed : WriterAccepts old new (w.answers.items ++ verdict_text Yes)
   pub flushed : new.flushed ≡ true
   pub done : (status ≡ 0) ↔ (is_some w.summary.malformed ≡ false)
 
--- `CutsWritten w old new` holds if the answers of the finished run `w` were printed, and nothing else, or writing them
--- and the line `c confirmed` failed after a prefix.
-abbrev pub CutsWritten : Written → Writer → Writer → Type 0
-CutsWritten w old new = WriterAccepts old new w.answers.items ⊎ WriterFails old new (w.answers.items ++ verdict_text Yes)
+-- `PrintsWrittenPrefix w old new` holds if, between `old` and `new`, the writer received exactly the answers of the
+-- finished run `w`, or writing these and the line `c confirmed` failed after a prefix.
+abbrev pub PrintsWrittenPrefix : Written → Writer → Writer → Type 0
+PrintsWrittenPrefix w old new = WriterAccepts old new w.answers.items ⊎ WriterFails old new (w.answers.items ++ verdict_text Yes)
 
--- `PrintsRun status text old new` holds if the writer received the answers of a run of the text, and then `c
--- confirmed`, and was flushed last. The status is 0 exactly when the text is not malformed.
+-- `PrintsRun status text old new` holds if, between `old` and `new`, the writer received the answers of a finished run
+-- of the script `text`, then `c confirmed`, and was flushed. The status is 0 exactly when the text is not malformed.
 pub record PrintsRun (status : ℕ) (text : List ℕ) (old new : Writer) : Type 0 where
   pub run : RunOf text most_rounds
   pub printed : WriterAccepts old new (run.answers ++ verdict_text Yes)
@@ -125,19 +128,20 @@ pub record Prints (status : ℕ) (input : Reader × Reader) (output : Writer × 
   pub given : GaveEnough input.0 input.1 (λ text. PrintsRun status text output.0 output.1)
   pub read : NoReadFailed input
 
--- `CutsRun text old new` holds if the writer received the answers of a run of the text, and nothing else; or if writing
--- them and the line `c confirmed` failed after a prefix.
-pub record CutsRun (text : List ℕ) (old new : Writer) : Type 0 where
+-- `PrintsRunPrefix text old new` holds if, between `old` and `new`, the writer received exactly the answers of a
+-- finished run of the script `text`; or if writing these and the line `c confirmed` failed after a prefix.
+pub record PrintsRunPrefix (text : List ℕ) (old new : Writer) : Type 0 where
   pub run : RunOf text most_rounds
   pub printed : WriterAccepts old new run.answers ⊎ WriterFails old new (run.answers ++ verdict_text Yes)
 
--- `PrintsCut input output` holds if `CutsRun` holds for the text that the reader gave, whatever bytes could follow, and no read failed.
-pub record PrintsCut (input : Reader × Reader) (output : Writer × Writer) : Type 0 where
-  pub given : GaveEnough input.0 input.1 (λ text. CutsRun text output.0 output.1)
+-- `PrintsPrefix input output` holds if `PrintsRunPrefix` holds for the text that the reader gave, whatever bytes could
+-- follow, and no read failed.
+pub record PrintsPrefix (input : Reader × Reader) (output : Writer × Writer) : Type 0 where
+  pub given : GaveEnough input.0 input.1 (λ text. PrintsRunPrefix text output.0 output.1)
   pub read : NoReadFailed input
 
--- `PrintsLine status line IsSo old new` holds if the writer received the line, and was flushed last. The status is 0
--- exactly when `IsSo` holds.
+-- `PrintsLine status line IsSo old new` holds if the writer received exactly the line between `old` and `new`, and was
+-- flushed last. The status is 0 exactly when `IsSo` holds.
 pub record PrintsLine (status : ℕ) (line : List ℕ) (IsSo : Type 0) (old new : Writer) : Type 0 where
   pub printed : WriterAccepts old new line
   pub flushed : new.flushed ≡ true
@@ -148,23 +152,24 @@ pub record PrintsLine (status : ℕ) (line : List ℕ) (IsSo : Type 0) (old new 
 -- do.
 pub record PrintsYesOrNo (status : ℕ) (script answers certificate : Reader × Reader) (output : Writer × Writer) : Type 0 where
   pub verdict : Verdict
-  pub exact : Exact script answers certificate verdict
+  pub exact : VerdictIsExact script answers certificate verdict
   pub printed : PrintsLine status (yes_or_no_text verdict) (verdict ≡ Yes) output.0 output.1
   pub read : NoReadFailed script × NoReadFailed answers × NoReadFailed certificate
 
--- `CutsYesOrNo script answers certificate output` holds if no read failed, and writing the line for a correct verdict failed after a prefix.
-pub record CutsYesOrNo (script answers certificate : Reader × Reader) (output : Writer × Writer) : Type 0 where
+-- `PrintsYesOrNoPrefix script answers certificate output` holds if no read failed, and writing the line for a correct
+-- verdict failed after a prefix.
+pub record PrintsYesOrNoPrefix (script answers certificate : Reader × Reader) (output : Writer × Writer) : Type 0 where
   pub verdict : Verdict
-  pub exact : Exact script answers certificate verdict
+  pub exact : VerdictIsExact script answers certificate verdict
   pub printed : WriterFails output.0 output.1 (yes_or_no_text verdict)
   pub read : NoReadFailed script × NoReadFailed answers × NoReadFailed certificate
 
--- `Ran status budget script answers certificate` holds if the writers received the answers and the certificate of a
--- finished run of the text that the reader gave, and were flushed last. The status is 0 exactly when the text is not
--- malformed.
-pub record Ran (status budget : ℕ) (script : Reader × Reader) (answers certificate : Writer × Writer) : Type 0 where
+-- `WroteFinishedRun status budget script answers certificate` holds if the writers received the answers and the
+-- certificate of a finished run of the text that the reader gave, and were flushed last. The status is 0 exactly when
+-- the text is not malformed.
+pub record WroteFinishedRun (status budget : ℕ) (script : Reader × Reader) (answers certificate : Writer × Writer) : Type 0 where
   pub summary : Summary
-  pub guaranteed : TookCertificate budget summary script answers certificate
+  pub guaranteed : ReceivedCertificate budget summary script answers certificate
   pub flushed : (answers.1.flushed ≡ true) × (certificate.1.flushed ≡ true)
   pub done : (status ≡ 0) ↔ (summary.malformed ≡ None)
   pub read : NoReadFailed script

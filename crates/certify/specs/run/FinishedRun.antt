@@ -13,7 +13,7 @@ use Rattle.certify.specs.answers.Events.{EachIsRight, events_in, refusals_among,
 use Rattle.certify.specs.answers.ScriptText.{parse_script, parse_written}
 use Rattle.sat_checker.specs.Accepts.{AcceptsAll}
 use Rattle.sat_checker.specs.Laws.{has_delete_var}
-use Rattle.sat_checker.specs.matching.Expected.{Outcome, Sat, Unsat, Unknown, expected}
+use Rattle.sat_checker.specs.matching.Expected.{Outcome, Sat, Unsat, Unknown, expected_steps}
 use Rattle.certify.specs.answers.RightAnswers.{AnswersAreRight}
 use Rattle.sat_checker.specs.matching.ProofChecking.{checker_rules}
 use Rattle.sat_solver.specs.declared.proof.hash_bits.Counting.{Counting}
@@ -21,7 +21,7 @@ use Rattle.sat_solver.specs.proof.Counting.{nothing_counted as uncounted, Trunca
 use Rattle.sat_base.specs.script.Language.{reading, plain_reading}
 use Rattle.certify.specs.run.Hiding.{HidesNothing}
 use Rattle.certify.specs.run.RoundsLeft.{rounds_allowed}
-use Rattle.certify.specs.run.Learning.{EachLearns}
+use Rattle.certify.specs.run.Learning.{EachAskLearns}
 use Rattle.certify.specs.run.Certifies.{Certifies}
 use Rattle.certify.specs.run.Stretches.{ServesCommands}
 use Rattle.certify.specs.declared.fault.RunFault.{RunFault}
@@ -30,13 +30,13 @@ use Rattle.certify.specs.declared.summary.Answer.TheVariants as kind
 use Rattle.certify.specs.declared.summary.AskReport.{AskReport}
 use Rattle.certify.specs.declared.summary.Summary.{Summary}
 
--- the number of refused commands
+-- the number of commands that are refused if the commands are processed in order, starting in state `j`
 abbrev pub refused_count : ScriptState → List Command → ℕ
 refused_count j [] = 0
 refused_count j (command ∷ commands) =
     (if is_some (refusal_of j command) then 1 else 0) + refused_count (after_command command j) commands
 
--- the number of the command at which the text is malformed, or `None`
+-- `number`, that of the command at which the text is malformed, or `None` if the text ended cleanly
 abbrev pub malformed_at : ℕ → ScriptEnding → Option ℕ
 malformed_at number Clean = None
 malformed_at number Malformed = Some number
@@ -47,19 +47,21 @@ answer_kind (Sat line) = kind.Sat
 answer_kind (Unsat core) = kind.Unsat
 answer_kind Unknown = kind.Unknown
 
--- `SpendsWithinBudget budget before report` holds if the ask took at most the rounds that it was allowed, and its
--- answer is unknown only if it took all of them.
+-- `SpendsWithinBudget budget before report` holds if the ask took at most the rounds that it was allowed after earlier
+-- asks took `before` rounds (`rounds_allowed`), and its answer is unknown only if it took all of them.
 pub record SpendsWithinBudget (budget before : ℕ) (report : AskReport) : Type 0 where
   pub within : report.steps ≤ rounds_allowed budget before
   pub unknown : report.answer ≡ kind.Unknown → report.steps ≡ rounds_allowed budget before
 
--- `IsBounded n budget before report` holds if the ask took fewer than 2^(2n+3) rounds, and its answer is not unknown if
--- that many were allowed. `n` is the number of variables, including hidden ones, once its names were introduced.
-pub record IsBounded (n budget before : ℕ) (report : AskReport) : Type 0 where
+-- `RoundsAreBounded n budget before report` holds if the ask took fewer than 2^(2n+3) rounds, and its answer is not
+-- unknown if that many were allowed (`rounds_allowed budget before`). `n` is the number of variables, including hidden
+-- ones, once its names were introduced.
+pub record RoundsAreBounded (n budget before : ℕ) (report : AskReport) : Type 0 where
   pub few : report.steps < 2 ^ (2 * n + 3)
   pub answered : 2 ^ (2 * n + 3) ≤ rounds_allowed budget before → report.answer ≡ kind.Unknown → ⊥
 
--- the number of identities at the start of each ask, once its names were introduced; the commands are not refused
+-- for each ask among these commands, the number of identities given so far, once the names of the ask were introduced;
+-- no command is taken as refused, and `j` is the state before the first
 abbrev pub identities_given : ScriptState → List Command → List ℕ
 identities_given j [] = []
 identities_given j (Ask ls ∷ commands) = (state_after_accepted (Ask ls) j).identity_count ∷ identities_given (state_after_accepted (Ask ls) j) commands
@@ -68,19 +70,19 @@ identities_given j (Hide names ∷ commands) = identities_given (state_after_acc
 identities_given j (Witness names ∷ commands) = identities_given (state_after_accepted (Witness names) j) commands
 identities_given j (Sample names ∷ commands) = identities_given (state_after_accepted (Sample names) j) commands
 
--- the numbers of rounds in these reports
+-- the numbers of rounds in these reports, in order
 abbrev pub rounds_of_asks : List AskReport → List ℕ
 rounds_of_asks reports = map (λ r. r.steps) reports
 
 -- `AreWithinBudget budget before given reports` holds if there is one report for each ask, and it satisfies
--- `SpendsWithinBudget` and `IsBounded`. `given` has the number of variables at each ask, and `before` is the number of
--- rounds of earlier asks.
+-- `SpendsWithinBudget` and `RoundsAreBounded`. `given` has the number of variables at each ask, and `before` is the
+-- number of rounds of earlier asks.
 abbrev pub AreWithinBudget : (budget before : ℕ) → (given : List ℕ) → List AskReport → Type 0
 AreWithinBudget budget before [] [] = Unit {0}
 AreWithinBudget budget before [] (report ∷ reports) = ⊥
 AreWithinBudget budget before (n ∷ ns) [] = ⊥
 AreWithinBudget budget before (n ∷ ns) (report ∷ reports) =
-    SpendsWithinBudget budget before report × IsBounded n budget before report × AreWithinBudget budget (before + report.steps) ns reports
+    SpendsWithinBudget budget before report × RoundsAreBounded n budget before report × AreWithinBudget budget (before + report.steps) ns reports
 
 -- `AnswersRightly text budget summary answered` holds if the summary and the answers of a finished run are correct for
 -- the text: there is one correct outcome for each accepted ask, and the answers are the text of these outcomes.
@@ -109,25 +111,23 @@ pub record ReportsRightly (text : List ℕ) (budget : ℕ) (summary : Summary) (
   pub kinds : map (λ r. r.answer) summary.asks.items ≡ map answer_kind outcomes
   pub spent : AreWithinBudget budget 0 (variables_at (events_in text)) summary.asks.items
 
--- `CertificateGuarantee text budget summary answered certified` holds if the certificate of a finished run is as
--- guaranteed. It spells steps, the oldest first, of which a checker accepts each after the earlier ones. In order, they
--- contain the steps of the accepted commands and of these outcomes, with the rounds that the summary reports. Besides
--- these there are only the steps that the solver makes for commands and asks, at their places, and widths for their
--- hashes. The list `steps` has the newest first.
+-- `CertificateGuarantee text budget summary answered certified` holds if `AnswersRightly` does, and `certified` spells
+-- steps that a checker accepts (`steps`, newest first): the ordered steps of the accepted commands and of the answers'
+-- outcomes, with the summary's rounds, and between them only those that the solver makes there, and widths.
 pub record CertificateGuarantee (text : List ℕ) (budget : ℕ) (summary : Summary) (answered certified : List ℕ) : Type 0 where
   pub is_answered : AnswersRightly text budget summary answered
   pub steps : List Step
   pub certificate : SpellsSteps (reverse steps) certified
   pub accepted : AcceptsAll steps
   pub certifies : Certifies checker_rules steps None []
-      (expected initial_state (accepted_commands initial_state (reading text).0) is_answered.outcomes) (rounds_of_asks summary.asks.items)
+      (expected_steps initial_state (accepted_commands initial_state (reading text).0) is_answered.outcomes) (rounds_of_asks summary.asks.items)
   -- the steps that the solver made, up to the end, and how they were written
   pub made : List Step
   pub follows : ServesCommands initial_state [] made (accepted_commands initial_state (reading text).0) is_answered.outcomes (rounds_of_asks summary.asks.items)
   pub counting : Counting
   pub cuts : TruncatesHashes uncounted (End ∷ made) steps counting
   -- every ask derived as many empowering clauses as it took rounds, or one fewer if it has a model or a core
-  pub learns : EachLearns steps 0 is_answered.outcomes (rounds_of_asks summary.asks.items)
+  pub learns : EachAskLearns steps 0 is_answered.outcomes (rounds_of_asks summary.asks.items)
   -- if no accepted command hides a name, no variable is deleted
   pub keeps : AllByRecursion HidesNothing (accepted_commands initial_state (reading text).0) → has_delete_var steps ≡ false
 
@@ -141,24 +141,26 @@ WritesAnswers budget summary script answers =
     GaveEnough script.0 script.1 (λ text. (answered : List ℕ)
     × WriterAccepts answers.0 answers.1 answered × ReportsRightly text budget summary answered)
 
--- `TookCertificate budget summary script answers certificate` holds if the writers received answers and a certificate
--- for which `CertificateGuarantee` holds, together with the budget, the summary and the text that the script's reader
--- gave, whatever bytes could follow.
-abbrev pub TookCertificate : ℕ → Summary → Reader × Reader → Writer × Writer → Writer × Writer → Type 0
-TookCertificate budget summary script answers certificate = GaveEnough script.0 script.1 (λ text. (answered : List ℕ) × (certified : List ℕ)
+-- `ReceivedCertificate budget summary script answers certificate` holds if the writers received answers and a
+-- certificate for which `CertificateGuarantee` holds, together with the budget, the summary and the text that the
+-- script's reader gave, whatever bytes could follow.
+abbrev pub ReceivedCertificate : ℕ → Summary → Reader × Reader → Writer × Writer → Writer × Writer → Type 0
+ReceivedCertificate budget summary script answers certificate = GaveEnough script.0 script.1 (λ text. (answered : List ℕ) × (certified : List ℕ)
     × WriterAccepts answers.0 answers.1 answered × WriterAccepts certificate.0 certificate.1 certified × CertificateGuarantee text budget summary answered certified)
 
--- `CertificateIsGuaranteed r budget script answers certificate old new` holds if `r` is an `Err`, or `TookCertificate`
--- holds for the three devices before and after the call.
+-- `CertificateIsGuaranteed r budget script answers certificate old new` holds if `r` is an `Err`, or
+-- `ReceivedCertificate` holds for the three devices before and after the call.
 abbrev pub CertificateIsGuaranteed : {S A C : Type 0} → Result Summary RunFault → ℕ → (S → Reader) → (A → Writer) → (C → Writer)
     → S × A × C → S × A × C → Type 0
 CertificateIsGuaranteed r budget script answers certificate old new =
-    IfOk r (λ s. TookCertificate budget s (reader_before_after script old.0 new.0) (writer_before_after answers old.1 new.1) (writer_before_after certificate old.2 new.2))
+    IfOk r (λ s. ReceivedCertificate budget s (reader_before_after script old.0 new.0) (writer_before_after answers old.1 new.1) (writer_before_after certificate old.2 new.2))
 
--- `WritesKept seen old new` holds if the number of failed calls of the writer did not change.
-abbrev pub WritesKept : {W : Type 0} → (W → Writer) → W → W → Type 0
-WritesKept seen old new = (seen new).failures ≡ (seen old).failures
+-- `KeepsWriteFailures seen old new` holds if no call of a writer failed between its states `old` and `new`. `seen`
+-- gives the record in which failed calls are counted.
+abbrev pub KeepsWriteFailures : {W : Type 0} → (W → Writer) → W → W → Type 0
+KeepsWriteFailures seen old new = (seen new).failures ≡ (seen old).failures
 
--- `WriteFails old new` holds if exactly one call of the writer failed, and it was the last.
-abbrev pub WriteFails : Writer → Writer → Type 0
-WriteFails old new = (new.failures ≡ old.failures + 1) × (new.failed ≡ true)
+-- `LastWriterCallFails old new` holds if exactly one call of the writer failed between `old` and `new`, and it was the
+-- last call.
+abbrev pub LastWriterCallFails : Writer → Writer → Type 0
+LastWriterCallFails old new = (new.failures ≡ old.failures + 1) × (new.failed ≡ true)

@@ -4,12 +4,15 @@
 //! and names from 1 to 2^28 in order.
 ghost use Rattle.std.specs.Prelude.{◌≡◌, ◌++◌, false, ◌*◌, ◌<◌, decimal, MatchOption, MatchResult, List, ℕ};
 ghost use Rattle.certify.specs.answers.AnswerForms.{IsName};
-ghost use Rattle.certify.specs.answers.AnswerReading.{NoLiteral, NoLiterals, NoKind, NoLine};
-ghost use Rattle.certify.specs.answers.AnswerReading.{NoOutcome, StartsNoName, StartsNoLiteral, StartsNoLiterals};
-ghost use Rattle.certify.specs.answers.AnswerReading.{StartsNoKind, StartsNoLine, HasLine, IsHead};
-ghost use Rattle.certify.specs.answers.AnswerReading.{first_answer_line, literal_place, BeginsWithLiteral, BeginsWithLiterals};
+ghost use Rattle.certify.specs.answers.AnswerReading.{BeginsNoLiteral, WhyNoLiterals, WhyNoFirstLine, WhyNoSecondLine};
+ghost use Rattle.certify.specs.answers.AnswerReading.{WhyNoOutcome, CannotBeginName, CannotBeginLiteral};
+ghost use Rattle.certify.specs.answers.AnswerReading.{CannotBeginLiterals};
+ghost use Rattle.certify.specs.answers.AnswerReading.{CannotBeginFirstLine, CannotBeginSecondLine, HasSecondLine};
+ghost use Rattle.certify.specs.answers.AnswerReading.{IsSecondLineHead};
+ghost use Rattle.certify.specs.answers.AnswerReading.{first_answer_line, literal_sort_key, BeginsWithLiteral};
+ghost use Rattle.certify.specs.answers.AnswerReading.{BeginsWithLiterals};
 ghost use Rattle.certify.specs.answers.AnswerReading.{BeginsWithSecondLine, BeginsWithAnswer};
-ghost use Rattle.sat_base.specs.text.NumberWords.{BeginsWithWord, NoWord};
+ghost use Rattle.sat_base.specs.text.NumberWords.{BeginsWithWord, BeginsWithNoWord};
 ghost use Rattle.sat_base.specs.values.Literals.{var_limit};
 
 use sat_base::{Lit, Var, append_digit, read_number, take_text};
@@ -51,7 +54,7 @@ impl<T: Drop> From<AllocFailed<T>> for AnswerFault {
 }
 
 /// Returns `true` if `text` begins with `bytes`.
-pub fn is_front(bytes: &[u8], text: &[u8]) -> bool
+pub fn is_prefix(bytes: &[u8], text: &[u8]) -> bool
     ensures { result ≡ false → (tail : List ℕ) → text.now ≡ bytes.now ++ tail → ⊥ }
 {
     match take_text(text, bytes) {
@@ -63,7 +66,7 @@ pub fn is_front(bytes: &[u8], text: &[u8]) -> bool
 /// Returns the name at the start of `bytes`, and the bytes after the space that must follow it.
 #[inline(always)]
 fn read_name(bytes: &[u8]) -> Option<(usize, &[u8])>
-    ensures { MatchOption result (NoWord decimal IsName bytes.now)
+    ensures { MatchOption result (BeginsWithNoWord decimal IsName bytes.now)
         (λ x. BeginsWithWord decimal IsName bytes.now x.0 x.1.now) }
 {
     let (name, rest) = read_number(bytes, Var::max_count() as u64)?;
@@ -72,7 +75,7 @@ fn read_name(bytes: &[u8]) -> Option<(usize, &[u8])>
 
 /// Returns `true` if `bytes`, or some continuation of `bytes`, begins with a name and a space.
 fn begins_name(bytes: &[u8]) -> bool
-    ensures { result ≡ false → StartsNoName bytes.now }
+    ensures { result ≡ false → CannotBeginName bytes.now }
 {
     let mut name = 0;
     for i in 0..bytes.len() {
@@ -91,7 +94,7 @@ fn begins_name(bytes: &[u8]) -> bool
 /// Returns the literal at the start of `bytes`, and the bytes after the space that must follow it. Skips the sign
 /// without a branch.
 fn read_literal(bytes: &[u8]) -> Option<(Lit, &[u8])>
-    ensures { MatchOption result (NoLiteral bytes.now) (λ x. BeginsWithLiteral bytes.now x.0 x.1.now) }
+    ensures { MatchOption result (BeginsNoLiteral bytes.now) (λ x. BeginsWithLiteral bytes.now x.0 x.1.now) }
 {
     if bytes.is_empty() {
         return None;
@@ -103,7 +106,7 @@ fn read_literal(bytes: &[u8]) -> Option<(Lit, &[u8])>
 
 /// Returns `true` if `bytes`, or some continuation of `bytes`, begins with a literal and a space.
 fn begins_literal(bytes: &[u8]) -> bool
-    ensures { result ≡ false → StartsNoLiteral bytes.now }
+    ensures { result ≡ false → CannotBeginLiteral bytes.now }
 {
     match take_text(bytes, b"-") {
         Some(following) => begins_name(following),
@@ -112,8 +115,8 @@ fn begins_literal(bytes: &[u8]) -> bool
 }
 
 /// Returns the sort key of `lit` in the second line of an answer of this kind.
-fn literal_place(kind: AnswerKind, lit: Lit) -> usize
-    ensures value { result ≡ literal_place kind lit }
+fn literal_sort_key(kind: AnswerKind, lit: Lit) -> usize
+    ensures value { result ≡ literal_sort_key kind lit }
     ensures bound { result < 2 * var_limit }
 {
     match kind {
@@ -129,16 +132,16 @@ fn read_literals<'a>(
     bytes: &'a [u8],
     line: &mut Vec<Lit>,
 ) -> Result<&'a [u8], AnswerFault>
-    requires { HasLine kind }
+    requires { HasSecondLine kind }
     ensures { MatchResult result (λ rest. BeginsWithLiterals kind bytes.now line.new.items rest.now)
-        (NoLiterals kind bytes.now) }
+        (WhyNoLiterals kind bytes.now) }
 {
     line.clear();
     let mut rest = bytes;
     let mut least = 0;
     while let Some(found) = read_literal(rest) {
         let (lit, following) = found;
-        let place = literal_place(kind, lit);
+        let place = literal_sort_key(kind, lit);
         if place < least {
             return Err(AnswerFault::Text);
         }
@@ -152,21 +155,21 @@ fn read_literals<'a>(
 /// Returns `true` if `bytes`, or some continuation of `bytes`, begins with the literals of the second line of an answer
 /// of this kind, followed by `0` and LF.
 fn begins_literals(kind: AnswerKind, bytes: &[u8]) -> bool
-    requires { HasLine kind }
-    ensures { result ≡ false → StartsNoLiterals kind bytes.now }
+    requires { HasSecondLine kind }
+    ensures { result ≡ false → CannotBeginLiterals kind bytes.now }
 {
     let mut rest = bytes;
     let mut lowest = 0;
     while let Some(found) = read_literal(rest) {
         let (lit, following) = found;
-        let place = literal_place(kind, lit);
+        let place = literal_sort_key(kind, lit);
         if place < lowest {
             return false;
         }
         lowest = place + 1;
         rest = following;
     }
-    if is_front(rest, b"0\n") {
+    if is_prefix(rest, b"0\n") {
         return true;
     }
     begins_literal(rest)
@@ -174,20 +177,20 @@ fn begins_literals(kind: AnswerKind, bytes: &[u8]) -> bool
 
 /// Returns `true` if `bytes`, or some continuation of `bytes`, begins with the first line of an answer.
 pub fn begins_kind(bytes: &[u8]) -> bool
-    ensures { result ≡ false → StartsNoKind bytes.now }
+    ensures { result ≡ false → CannotBeginFirstLine bytes.now }
 {
-    if is_front(bytes, b"s SATISFIABLE\n") {
+    if is_prefix(bytes, b"s SATISFIABLE\n") {
         return true;
     }
-    if is_front(bytes, b"s UNSATISFIABLE\n") {
+    if is_prefix(bytes, b"s UNSATISFIABLE\n") {
         return true;
     }
-    is_front(bytes, b"s UNKNOWN\n")
+    is_prefix(bytes, b"s UNKNOWN\n")
 }
 
 /// Reads the first line of an answer. Returns the kind of the answer, and the bytes after the line.
 pub fn read_kind(bytes: &[u8]) -> Result<(AnswerKind, &[u8]), AnswerFault>
-    ensures { MatchResult result (λ x. bytes.now ≡ first_answer_line x.0 ++ x.1.now) (NoKind bytes.now) }
+    ensures { MatchResult result (λ x. bytes.now ≡ first_answer_line x.0 ++ x.1.now) (WhyNoFirstLine bytes.now) }
 {
     if bytes.is_empty() {
         return Err(AnswerFault::Missing);
@@ -212,9 +215,9 @@ fn read_list<'a>(
     bytes: &'a [u8],
     line: &mut Vec<Lit>,
 ) -> Result<&'a [u8], AnswerFault>
-    requires { IsHead kind head.now }
+    requires { IsSecondLineHead kind head.now }
     ensures { MatchResult result (λ rest. BeginsWithSecondLine kind bytes.now line.new.items rest.now)
-        (NoLine kind bytes.now) }
+        (WhyNoSecondLine kind bytes.now) }
 {
     if bytes.is_empty() {
         return Err(AnswerFault::Missing);
@@ -226,10 +229,10 @@ fn read_list<'a>(
 /// Returns `true` if `bytes`, or some continuation of `bytes`, begins with the second line of an answer of this kind,
 /// which begins with `head`.
 fn begins_list(kind: AnswerKind, head: &[u8], bytes: &[u8]) -> bool
-    requires { IsHead kind head.now }
-    ensures { result ≡ false → StartsNoLine kind bytes.now }
+    requires { IsSecondLineHead kind head.now }
+    ensures { result ≡ false → CannotBeginSecondLine kind bytes.now }
 {
-    if is_front(bytes, head) {
+    if is_prefix(bytes, head) {
         return true;
     }
     match take_text(bytes, head) {
@@ -240,12 +243,12 @@ fn begins_list(kind: AnswerKind, head: &[u8], bytes: &[u8]) -> bool
 
 /// Returns `true` if `bytes`, or some continuation of `bytes`, begins with the second line of an answer of this kind.
 pub fn begins_line(kind: AnswerKind, bytes: &[u8]) -> bool
-    ensures { result ≡ false → StartsNoLine kind bytes.now }
+    ensures { result ≡ false → CannotBeginSecondLine kind bytes.now }
 {
     match kind {
         AnswerKind::Sat => begins_list(kind, b"v ", bytes),
         AnswerKind::Unsat => begins_list(kind, b"f ", bytes),
-        AnswerKind::Unknown => is_front(bytes, b""),
+        AnswerKind::Unknown => is_prefix(bytes, b""),
     }
 }
 
@@ -258,7 +261,7 @@ pub fn read_line<'a>(
     line: &mut Vec<Lit>,
 ) -> Result<&'a [u8], AnswerFault>
     ensures { MatchResult result (λ rest. BeginsWithSecondLine kind bytes.now line.new.items rest.now)
-        (NoLine kind bytes.now) }
+        (WhyNoSecondLine kind bytes.now) }
 {
     match kind {
         AnswerKind::Sat => read_list(kind, b"v ", bytes, line),
@@ -277,7 +280,7 @@ pub fn read_outcome<'a>(
     bytes: &'a [u8],
     line: &mut Vec<Lit>,
 ) -> Result<(AnswerKind, &'a [u8]), AnswerFault>
-    ensures { MatchResult result (λ x. BeginsWithAnswer x.0 bytes.now line.new.items x.1.now) (NoOutcome bytes.now) }
+    ensures { MatchResult result (λ x. BeginsWithAnswer x.0 bytes.now line.new.items x.1.now) (WhyNoOutcome bytes.now) }
 {
     let (kind, following) = read_kind(bytes)?;
     let rest = read_line(kind, following, line)?;

@@ -2,11 +2,11 @@
 ghost use Rattle.std.specs.Prelude.{◌≡◌, ◌+◌, ◌++◌, OnOk};
 ghost use Rattle.sat_base.specs.script.ScriptState.{WitnessName};
 ghost use Rattle.certify.specs.answers.Answers.{refused_line};
-ghost use Rattle.certify.specs.judge.Names.{refusal_in};
+ghost use Rattle.certify.specs.refusals.Names.{refusal_of_code};
 ghost use Rattle.certify.specs.confirm.Lines.{IsOneLine};
 
 use super::write::push_refused_limit;
-use crate::judge::Refusal;
+use crate::refusals::Refusal;
 use sat_base::{Var, push_decimal};
 use std::alloc::AllocError;
 
@@ -30,8 +30,8 @@ pub(crate) fn push_refused(
     command: u64,
     refusal: Refusal,
 ) -> Result<(), AllocError>
-    ensures text { OnOk result (out.new.items ≡ out.old.items ++ refused_line command (refusal_in refusal)) }
-    ensures line { OnOk result (IsOneLine (refused_line command (refusal_in refusal))) }
+    ensures text { OnOk result (out.new.items ≡ out.old.items ++ refused_line command (refusal_of_code refusal)) }
+    ensures line { OnOk result (IsOneLine (refused_line command (refusal_of_code refusal))) }
 {
     match refusal {
         Refusal::Limit => push_refused_limit(out, command),

@@ -4,11 +4,12 @@ ghost use Rattle.std.specs.Bool.{MatchBool};
 ghost use Rattle.certify.specs.answers.Answers.{malformed_line, refused_line};
 ghost use Rattle.certify.specs.answers.AnswerForms.{named_literals};
 ghost use Rattle.certify.specs.answers.AnswerReading.{outcome_of};
-ghost use Rattle.certify.specs.confirm.Lines.{TakesDueLine, stop_after};
-ghost use Rattle.certify.specs.confirm.Stopping.{Replies, SaysSo};
-ghost use Rattle.certify.specs.confirm.Lines.{IsOneLine, IsReply, IsWantedLine, NextLine, ReadsFirst, ReadsSecond};
+ghost use Rattle.certify.specs.confirm.Lines.{ReadsDueLine, stop_for_answer};
+ghost use Rattle.certify.specs.confirm.CallResults.{AnswersCall, ResultDecides};
+ghost use Rattle.certify.specs.confirm.Lines.{IsOneLine, ReadsReply, IsWantedLine, NextLine, ReadsFirstLine};
+ghost use Rattle.certify.specs.confirm.Lines.{ReadsSecondLine};
 ghost use Rattle.certify.specs.confirm.Lines.{answers_source};
-ghost use Rattle.certify.specs.judge.Names.{refusal_in};
+ghost use Rattle.certify.specs.refusals.Names.{refusal_of_code};
 ghost use Rattle.certify.specs.script.LastPiece.{IsNotAtEnd, waiting_bytes};
 
 use crate::answers::read::{AnswerFault, AnswerKind, read_kind, read_line};
@@ -16,7 +17,7 @@ use crate::answers::refused::push_refused;
 use crate::answers::write::push_malformed;
 use crate::confirm::lines::{Lines, Wanted};
 use crate::confirm::stop::{Stop, unread_answers};
-use crate::judge::Refusal;
+use crate::refusals::Refusal;
 use crate::verdict::Why;
 use sat_base::{CountedRead, Lit};
 use std::alloc::Global;
@@ -53,7 +54,7 @@ fn is_none(line: &[u8]) -> bool
 
 /// Returns `true` if `settled` rules out an answer of this kind: if `settled` is true, only the kind `Unsat` is
 /// allowed.
-fn is_other(settled: bool, kind: AnswerKind) -> bool
+fn rules_out_kind(settled: bool, kind: AnswerKind) -> bool
     ensures { MatchBool result ((settled ≡ true) × (kind ≡ AnswerKind.Unsat → ⊥))
         (settled ≡ true → kind ≡ AnswerKind.Unsat) }
 {
@@ -69,7 +70,7 @@ fn is_other(settled: bool, kind: AnswerKind) -> bool
 
 /// Returns `true` if `settled` rules out the literals of an answer: if `settled` is true, only an answer without
 /// literals is allowed.
-fn has_more(settled: bool, lits: &[Lit]) -> bool
+fn rules_out_literals(settled: bool, lits: &[Lit]) -> bool
     ensures { MatchBool result ((settled ≡ true) × (lits.now ≡ [] → ⊥)) (settled ≡ true → lits.now ≡ []) }
 {
     if !settled {
@@ -79,8 +80,8 @@ fn has_more(settled: bool, lits: &[Lit]) -> bool
 }
 
 /// Returns why a confirmation ends if no answer could be read.
-fn unanswered(fault: AnswerFault) -> Stop
-    ensures { result ≡ stop_after fault }
+fn answer_stop(fault: AnswerFault) -> Stop
+    ensures { result ≡ stop_for_answer fault }
 {
     match fault {
         AnswerFault::Missing => Stop::No(Why::AnswerMissing),
@@ -122,9 +123,9 @@ impl Answers {
     fn take_due<A: CountedRead>(&mut self, answers: &mut A) -> Result<(), Stop>
         requires open_yet { IsNotAtEnd (answers_source A.seen answers.old self.old) }
         requires line { IsOneLine self.old.due.items }
-        ensures { Replies true result (answers_source A.seen answers.old self.old)
+        ensures { AnswersCall true result (answers_source A.seen answers.old self.old)
             (answers_source A.seen answers.new self.new)
-            (λ before following. TakesDueLine before following self.old.due.items) }
+            (λ before following. ReadsDueLine before following self.old.due.items) }
     {
         self.next_line(answers, Wanted::Due)?;
         if is_same(&self.lines.line, &self.due) {
@@ -144,9 +145,9 @@ impl Answers {
         refusal: Refusal,
     ) -> Result<(), Stop>
         requires open_yet { IsNotAtEnd (answers_source A.seen answers.old self.old) }
-        ensures { Replies true result (answers_source A.seen answers.old self.old)
+        ensures { AnswersCall true result (answers_source A.seen answers.old self.old)
             (answers_source A.seen answers.new self.new)
-            (λ before following. TakesDueLine before following (refused_line number (refusal_in refusal))) }
+            (λ before following. ReadsDueLine before following (refused_line number (refusal_of_code refusal))) }
     {
         self.due.clear();
         push_refused(&mut self.due, number, refusal)?;
@@ -156,9 +157,9 @@ impl Answers {
     /// Expects the last line of the answers to a script that is malformed at command `number`.
     pub fn refuse_rest<A: CountedRead>(&mut self, answers: &mut A, number: u64) -> Result<(), Stop>
         requires open_yet { IsNotAtEnd (answers_source A.seen answers.old self.old) }
-        ensures { Replies true result (answers_source A.seen answers.old self.old)
+        ensures { AnswersCall true result (answers_source A.seen answers.old self.old)
             (answers_source A.seen answers.new self.new)
-            (λ before following. TakesDueLine before following (malformed_line number)) }
+            (λ before following. ReadsDueLine before following (malformed_line number)) }
     {
         self.due.clear();
         push_malformed(&mut self.due, number)?;
@@ -168,21 +169,21 @@ impl Answers {
     /// Reads the first line of an answer. Returns the kind of the answer.
     fn read_first<A: CountedRead>(&mut self, answers: &mut A) -> Result<AnswerKind, Stop>
         requires open_yet { IsNotAtEnd (answers_source A.seen answers.old self.old) }
-        ensures { Replies true result (answers_source A.seen answers.old self.old)
-            (answers_source A.seen answers.new self.new) (ReadsFirst) }
+        ensures { AnswersCall true result (answers_source A.seen answers.old self.old)
+            (answers_source A.seen answers.new self.new) (ReadsFirstLine) }
     {
         self.next_line(answers, Wanted::First)?;
         match read_kind(&self.lines.line) {
             Ok((kind, _)) => Ok(kind),
-            Err(fault) => Err(unanswered(fault)),
+            Err(fault) => Err(answer_stop(fault)),
         }
     }
 
     /// Reads the second line of an answer of this kind, if such answers have one.
     fn read_second<A: CountedRead>(&mut self, answers: &mut A, kind: AnswerKind) -> Result<(), Stop>
         requires open_yet { IsNotAtEnd (answers_source A.seen answers.old self.old) }
-        ensures { Replies true result (answers_source A.seen answers.old self.old)
-            (answers_source A.seen answers.new self.new) (ReadsSecond kind (named_literals self.new.reply.lits.items)) }
+        ensures { AnswersCall true result (answers_source A.seen answers.old self.old)
+            (answers_source A.seen answers.new self.new) (ReadsSecondLine kind (named_literals self.new.reply.lits.items)) }
     {
         if let AnswerKind::Unknown = kind {
             self.reply.lits.clear();
@@ -191,25 +192,25 @@ impl Answers {
         self.next_line(answers, Wanted::Second(kind))?;
         match read_line(kind, &self.lines.line, &mut self.reply.lits) {
             Ok(_) => Ok(()),
-            Err(fault) => Err(unanswered(fault)),
+            Err(fault) => Err(answer_stop(fault)),
         }
     }
 
-    /// Reads an answer. `settled` says whether `unsat` is recorded: if so, the answer must be `Unsat`,
-    /// without literals.
+    /// Reads an answer into `reply`. `settled` is true if `unsat` is recorded; then any answer other than `Unsat`
+    /// without literals is a mismatch.
     pub fn read<A: CountedRead>(&mut self, answers: &mut A, settled: bool) -> Result<(), Stop>
         requires open_yet { IsNotAtEnd (answers_source A.seen answers.old self.old) }
-        ensures { Replies true result (answers_source A.seen answers.old self.old)
+        ensures { AnswersCall true result (answers_source A.seen answers.old self.old)
             (answers_source A.seen answers.new self.new)
-            (λ before following. IsReply before following
+            (λ before following. ReadsReply before following
             (outcome_of self.new.reply.kind (named_literals self.new.reply.lits.items)) settled) }
     {
         let kind = self.read_first(answers)?;
-        if is_other(settled, kind) {
+        if rules_out_kind(settled, kind) {
             return Err(Stop::No(Why::AnswerDiffers));
         }
         self.read_second(answers, kind)?;
-        if has_more(settled, &self.reply.lits) {
+        if rules_out_literals(settled, &self.reply.lits) {
             return Err(Stop::No(Why::AnswerDiffers));
         }
         self.reply.kind = kind;
@@ -219,8 +220,8 @@ impl Answers {
     /// Expects the end of the answers.
     pub fn expect_over<A: CountedRead>(&mut self, answers: &mut A) -> Result<(), Stop>
         requires open_yet { IsNotAtEnd (answers_source A.seen answers.old self.old) }
-        ensures { Replies false result (answers_source A.seen answers.old self.old)
-            (answers_source A.seen answers.new self.new) (λ before following. SaysSo (before ≡ [])) }
+        ensures { AnswersCall false result (answers_source A.seen answers.old self.old)
+            (answers_source A.seen answers.new self.new) (λ before following. ResultDecides (before ≡ [])) }
     {
         self.next_line(answers, Wanted::Nothing)?;
         if is_none(&self.lines.line) {

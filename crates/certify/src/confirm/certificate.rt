@@ -2,11 +2,12 @@
 ghost use Rattle.std.specs.Prelude.{◌≡◌, []};
 ghost use Rattle.sat_checker.specs.CheckerView.{kernel_of};
 ghost use Rattle.sat_checker.specs.KernelView.{kernel_looks};
-ghost use Rattle.certify.specs.confirm.Streams.{Confirms, StepsGoOn, StepsGoOnIf, IsReadFew, SameLoan, stream_of};
-ghost use Rattle.certify.specs.confirm.Awaiting.{MeetsDue, SaysUnmet};
+ghost use Rattle.certify.specs.confirm.Streams.{CertificateCall, StepsGoOn, StepsGoOnIf, StepReadsAreFew, SameLoan};
+ghost use Rattle.certify.specs.confirm.Streams.{stream_of};
+ghost use Rattle.certify.specs.confirm.Awaiting.{MeetsDue, IsUnmetResult};
 ghost use Rattle.certify.specs.confirm.Comparing.{due_of};
 
-use crate::confirm::expect::{Expected, Known, excuse, fits};
+use crate::confirm::expect::{Expected, Known, fits, why_not_optional};
 use crate::confirm::feed::feed;
 use crate::confirm::follow::follow;
 use crate::confirm::literals::LitScratch;
@@ -26,10 +27,10 @@ pub(crate) struct Certificate {
 }
 
 /// Returns an error unless the expected step may be missing once `unsat` is recorded.
-fn excuse_unmet(expected: &Expected<'_>) -> Result<(), Stop>
-    ensures { SaysUnmet (due_of expected.now) result }
+fn require_optional(expected: &Expected<'_>) -> Result<(), Stop>
+    ensures { IsUnmetResult (due_of expected.now) result }
 {
-    let Some(why) = excuse(expected) else {
+    let Some(why) = why_not_optional(expected) else {
         return Ok(());
     };
     Err(Stop::No(why))
@@ -59,14 +60,14 @@ impl Certificate {
     ) -> Result<(), Stop>
         requires { StepsGoOn R.seen steps.old }
         ensures same { SameLoan steps.old steps.new }
-        ensures bound { IsReadFew R.seen steps.new }
+        ensures bound { StepReadsAreFew R.seen steps.new }
         ensures goes_on { StepsGoOnIf result R.seen steps.new }
-        ensures confirms { Confirms result (stream_of R.seen steps.old (kernel_of self.old.checker))
+        ensures confirms { CertificateCall result (stream_of R.seen steps.old (kernel_of self.old.checker))
             (stream_of R.seen steps.new (kernel_of self.new.checker))
             (MeetsDue (due_of expected.now) self.old.names self.new.names) }
     {
         match await_ordered(&mut self.checker, steps)? {
-            Awaited::Cut => return excuse_unmet(expected),
+            Awaited::Cut => return require_optional(expected),
             Awaited::Step => {}
         }
         let step = steps.step();

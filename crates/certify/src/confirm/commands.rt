@@ -6,12 +6,14 @@ ghost use Rattle.sat_base.specs.steps.Steps.{Step};
 ghost use Rattle.sat_checker.specs.CheckerView.{kernel_of};
 ghost use Rattle.sat_checker.specs.KernelView.{kernel_looks};
 ghost use Rattle.certify.specs.answers.AnswerForms.{named_literals};
-ghost use Rattle.certify.specs.confirm.Streams.{Confirms, StepsGoOn, StepsGoOnIf, IsReadFew, SameLoan, stream_of};
+ghost use Rattle.certify.specs.confirm.Streams.{CertificateCall, StepsGoOn, StepsGoOnIf, StepReadsAreFew, SameLoan};
+ghost use Rattle.certify.specs.confirm.Streams.{stream_of};
 ghost use Rattle.certify.specs.confirm.VerdictPromises.{command_count};
-ghost use Rattle.certify.specs.confirm.Confirming.{ConfirmsAnswer, ConfirmsContent, ConfirmsLast, ConfirmsNext};
-ghost use Rattle.certify.specs.confirm.Confirming.{HoldsAt, MeetsContent, MeetsOutcome, MeetsShown, table_of};
-ghost use Rattle.certify.specs.confirm.Lines.{outcome_in};
-ghost use Rattle.certify.specs.confirm.ConfirmStates.{ConfirmsBoth, answers_in, stream_in};
+ghost use Rattle.certify.specs.confirm.Confirming.{ConfirmsAnswer, ConfirmsContent, ConfirmsRest, ConfirmsCommand};
+ghost use Rattle.certify.specs.confirm.Confirming.{TableHoldsAt, MeetsContent, MeetsOutcome, MeetsShowing};
+ghost use Rattle.certify.specs.confirm.Confirming.{name_table_of};
+ghost use Rattle.certify.specs.confirm.Lines.{outcome_of_reply};
+ghost use Rattle.certify.specs.confirm.ConfirmStates.{CommandCall, answers_source_in, stream_in};
 ghost use Rattle.certify.specs.script.LastPiece.{IsNotAtEnd, waiting_bytes};
 ghost use Rattle.certify.specs.script.Commands.{RepresentsCommand, end_reading, kind_of};
 
@@ -21,7 +23,7 @@ use crate::confirm::certificate::Certificate;
 use crate::confirm::expect::Expected;
 use crate::confirm::names::Matching;
 use crate::confirm::stop::Stop;
-use crate::judge::Names;
+use crate::refusals::Names;
 use crate::script::{Command, CommandKind, ScriptEnd};
 use sat_base::{CountedRead, Lit, StepReader};
 use std::alloc::Global;
@@ -46,12 +48,12 @@ fn show<C: CountedRead>(
 ) -> Result<(), Stop>
     requires goes_on { StepsGoOn C.seen steps.old }
     ensures same { SameLoan steps.old steps.new }
-    ensures bound { IsReadFew C.seen steps.new }
+    ensures bound { StepReadsAreFew C.seen steps.new }
     ensures goes_on { StepsGoOnIf result C.seen steps.new }
     ensures names { matching.new.names ≡ matching.old.names }
-    ensures confirms { Confirms result (stream_in C.seen steps.old matching.old)
+    ensures confirms { CertificateCall result (stream_in C.seen steps.old matching.old)
         (stream_in C.seen steps.new matching.new)
-        (MeetsShown matching.old.names (named_literals ask.now) (outcome_in reply.now) matching.old.certificate.names
+        (MeetsShowing matching.old.names (named_literals ask.now) (outcome_of_reply reply.now) matching.old.certificate.names
         matching.new.certificate.names) }
 {
     let line = reply.lits.as_slice();
@@ -75,12 +77,12 @@ fn close<C: CountedRead>(
 ) -> Result<(), Stop>
     requires goes_on { StepsGoOn C.seen steps.old }
     ensures same { SameLoan steps.old steps.new }
-    ensures bound { IsReadFew C.seen steps.new }
+    ensures bound { StepReadsAreFew C.seen steps.new }
     ensures goes_on { StepsGoOnIf result C.seen steps.new }
     ensures names { matching.new.names ≡ matching.old.names }
-    ensures confirms { Confirms result (stream_in C.seen steps.old matching.old)
+    ensures confirms { CertificateCall result (stream_in C.seen steps.old matching.old)
         (stream_in C.seen steps.new matching.new)
-        (MeetsOutcome matching.old.names (named_literals ask.now) (outcome_in reply.now) matching.old.certificate.names
+        (MeetsOutcome matching.old.names (named_literals ask.now) (outcome_of_reply reply.now) matching.old.certificate.names
         matching.new.certificate.names) }
 {
     show(matching, steps, ask, reply)?;
@@ -96,9 +98,9 @@ fn expect_content<C: CountedRead>(
 ) -> Result<(), Stop>
     requires goes_on { StepsGoOn C.seen steps.old }
     ensures same { SameLoan steps.old steps.new }
-    ensures bound { IsReadFew C.seen steps.new }
+    ensures bound { StepReadsAreFew C.seen steps.new }
     ensures goes_on { StepsGoOnIf result C.seen steps.new }
-    ensures confirms { Confirms result (stream_of C.seen steps.old (kernel_of certificate.old.checker))
+    ensures confirms { CertificateCall result (stream_of C.seen steps.old (kernel_of certificate.old.checker))
         (stream_of C.seen steps.new (kernel_of certificate.new.checker))
         (MeetsContent (kind_of command.entry.kind) (named_literals command.entry.literals.now) certificate.old.names
         certificate.new.names) }
@@ -115,7 +117,7 @@ fn expect_content<C: CountedRead>(
 impl ConfirmState {
     /// Returns the state before the first command.
     pub fn new(alloc: Global) -> ConfirmState
-        ensures valid { (rest : List ℕ) (step : Step) → HoldsAt (table_of result.matching)
+        ensures valid { (rest : List ℕ) (step : Step) → TableHoldsAt (name_table_of result.matching)
             (record { checker = kernel_of result.matching.certificate.checker; step = step; rest = rest }) initial_state [] }
         ensures looks { kernel_looks (kernel_of result.matching.certificate.checker) ≡ 0 }
         ensures number { result.number ≡ 0 }
@@ -142,11 +144,11 @@ impl ConfirmState {
         ask: &[Lit],
     ) -> Result<(), Stop>
         requires goes_on { StepsGoOn C.seen steps.old }
-        requires open_yet { IsNotAtEnd (answers_in A.seen answers.old self.old) }
+        requires open_yet { IsNotAtEnd (answers_source_in A.seen answers.old self.old) }
         ensures number { self.new.number ≡ self.old.number }
-        ensures confirms { ConfirmsBoth ⊥ true result A.seen C.seen answers.old answers.new steps.old steps.new self.old
-            self.new (ConfirmsAnswer self.old.number (named_literals ask.now) (table_of self.old.matching)
-            (table_of self.new.matching)) }
+        ensures confirms { CommandCall ⊥ true result A.seen C.seen answers.old answers.new steps.old steps.new self.old
+            self.new (ConfirmsAnswer self.old.number (named_literals ask.now) (name_table_of self.old.matching)
+            (name_table_of self.new.matching)) }
     {
         let settled = self.matching.certificate.checker.unsat();
         self.answers.read(answers, settled)?;
@@ -163,11 +165,11 @@ impl ConfirmState {
         command: Command<'_>,
     ) -> Result<(), Stop>
         requires goes_on { StepsGoOn C.seen steps.old }
-        requires open_yet { IsNotAtEnd (answers_in A.seen answers.old self.old) }
+        requires open_yet { IsNotAtEnd (answers_source_in A.seen answers.old self.old) }
         ensures number { self.new.number ≡ self.old.number }
-        ensures confirms { ConfirmsBoth ⊥ true result A.seen C.seen answers.old answers.new steps.old steps.new self.old
+        ensures confirms { CommandCall ⊥ true result A.seen C.seen answers.old answers.new steps.old steps.new self.old
             self.new (ConfirmsContent self.old.number (kind_of command.entry.kind)
-            (named_literals command.entry.literals.now) (table_of self.old.matching) (table_of self.new.matching)) }
+            (named_literals command.entry.literals.now) (name_table_of self.old.matching) (name_table_of self.new.matching)) }
     {
         expect_content(&mut self.matching.certificate, steps, command)?;
         if let CommandKind::Ask = command.kind {
@@ -184,11 +186,11 @@ impl ConfirmState {
         command: Command<'_>,
     ) -> Result<(), Stop>
         requires goes_on { StepsGoOn C.seen steps.old }
-        requires open_yet { IsNotAtEnd (answers_in A.seen answers.old self.old) }
+        requires open_yet { IsNotAtEnd (answers_source_in A.seen answers.old self.old) }
         ensures number { self.new.number ≡ self.old.number }
         ensures confirms { (c : Spelled) → RepresentsCommand command.entry c
-            → ConfirmsBoth ⊥ true result A.seen C.seen answers.old answers.new steps.old steps.new self.old self.new
-            (ConfirmsNext self.old.number c (table_of self.old.matching) (table_of self.new.matching)) }
+            → CommandCall ⊥ true result A.seen C.seen answers.old answers.new steps.old steps.new self.old self.new
+            (ConfirmsCommand self.old.number c (name_table_of self.old.matching) (name_table_of self.new.matching)) }
     {
         if let Some(refusal) = self.matching.names.refusal(command) {
             return self.answers.refuse(answers, self.number, refusal);
@@ -205,9 +207,9 @@ impl ConfirmState {
         steps: &mut StepReader<'_, C>,
     ) -> Result<(), Stop>
         requires goes_on { StepsGoOn C.seen steps.old }
-        requires open_yet { IsNotAtEnd (answers_in A.seen answers.old self.old) }
-        ensures confirms { (n : ℕ) → ConfirmsBoth ⊥ false result A.seen C.seen answers.old answers.new steps.old
-            steps.new self.old self.new (λ before following u v. ConfirmsLast n ([], Clean) (table_of self.old.matching)
+        requires open_yet { IsNotAtEnd (answers_source_in A.seen answers.old self.old) }
+        ensures confirms { (n : ℕ) → CommandCall ⊥ false result A.seen C.seen answers.old answers.new steps.old
+            steps.new self.old self.new (λ before following u v. ConfirmsRest n ([], Clean) (name_table_of self.old.matching)
             before u) }
     {
         self.matching.certificate.expect(steps, &Expected::End)?;
@@ -221,11 +223,11 @@ impl ConfirmState {
         steps: &mut StepReader<'_, C>,
     ) -> Result<(), Stop>
         requires goes_on { StepsGoOn C.seen steps.old }
-        requires open_yet { IsNotAtEnd (answers_in A.seen answers.old self.old) }
-        ensures confirms { ConfirmsBoth (2 ^ 64 < self.old.number + 1 + command_count (end_reading ScriptEnd.Asked)) false
+        requires open_yet { IsNotAtEnd (answers_source_in A.seen answers.old self.old) }
+        ensures confirms { CommandCall (2 ^ 64 < self.old.number + 1 + command_count (end_reading ScriptEnd.Asked)) false
             result A.seen C.seen answers.old answers.new steps.old steps.new self.old self.new
-            (λ before following u v. ConfirmsLast (self.old.number + 1) (end_reading ScriptEnd.Asked)
-            (table_of self.old.matching) before u) }
+            (λ before following u v. ConfirmsRest (self.old.number + 1) (end_reading ScriptEnd.Asked)
+            (name_table_of self.old.matching) before u) }
     {
         if self.number == u64::MAX {
             return Err(Stop::TooMany);
@@ -247,11 +249,11 @@ impl ConfirmState {
         steps: &mut StepReader<'_, C>,
     ) -> Result<(), Stop>
         requires goes_on { StepsGoOn C.seen steps.old }
-        requires open_yet { IsNotAtEnd (answers_in A.seen answers.old self.old) }
-        ensures confirms { ConfirmsBoth (2 ^ 64 < self.old.number + 1 + command_count (end_reading ScriptEnd.Malformed)) false
+        requires open_yet { IsNotAtEnd (answers_source_in A.seen answers.old self.old) }
+        ensures confirms { CommandCall (2 ^ 64 < self.old.number + 1 + command_count (end_reading ScriptEnd.Malformed)) false
             result A.seen C.seen answers.old answers.new steps.old steps.new self.old self.new
-            (λ before following u v. ConfirmsLast (self.old.number + 1) (end_reading ScriptEnd.Malformed)
-            (table_of self.old.matching) before u) }
+            (λ before following u v. ConfirmsRest (self.old.number + 1) (end_reading ScriptEnd.Malformed)
+            (name_table_of self.old.matching) before u) }
     {
         if self.number == u64::MAX {
             return Err(Stop::TooMany);
@@ -268,10 +270,10 @@ impl ConfirmState {
         end: ScriptEnd,
     ) -> Result<(), Stop>
         requires goes_on { StepsGoOn C.seen steps.old }
-        requires open_yet { IsNotAtEnd (answers_in A.seen answers.old self.old) }
-        ensures confirms { ConfirmsBoth (2 ^ 64 < self.old.number + 1 + command_count (end_reading end)) false result A.seen
+        requires open_yet { IsNotAtEnd (answers_source_in A.seen answers.old self.old) }
+        ensures confirms { CommandCall (2 ^ 64 < self.old.number + 1 + command_count (end_reading end)) false result A.seen
             C.seen answers.old answers.new steps.old steps.new self.old self.new
-            (λ before following u v. ConfirmsLast (self.old.number + 1) (end_reading end) (table_of self.old.matching)
+            (λ before following u v. ConfirmsRest (self.old.number + 1) (end_reading end) (name_table_of self.old.matching)
             before u) }
     {
         match end {

@@ -3,13 +3,13 @@ ghost use Rattle.std.specs.Prelude.{◌≡◌, ◌+◌, Some, None, IfOk, if◌t
 ghost use Rattle.sat_base.specs.steps.StepViews.{step_of};
 ghost use Rattle.sat_checker.specs.matching.Expected.{NewName, NoName, Adds, Opens, Fails, Closes, Finish};
 ghost use Rattle.certify.specs.answers.AnswerForms.{named_literals};
-ghost use Rattle.certify.specs.confirm.SpeltLiterals.{AllAmong, AnswersWhether};
-ghost use Rattle.certify.specs.judge.Names.{ListsUsed};
-ghost use Rattle.certify.specs.confirm.Comparing.{Compares, ComparesLine, ExcusesDue, due_of};
+ghost use Rattle.certify.specs.confirm.SpeltLiterals.{AllAmong, Decides};
+ghost use Rattle.certify.specs.refusals.Names.{ListsNamesInUse};
+ghost use Rattle.certify.specs.confirm.Comparing.{ComparesStep, ComparesLine, DecidesMayBeUnmet, due_of};
 
 use crate::confirm::literals::{LitScratch, are_spelt_by, are_spelt_in, has_all};
 use crate::confirm::variables::NamedVars;
-use crate::judge::Names;
+use crate::refusals::Names;
 use crate::verdict::Why;
 use sat_base::{Lit, ProofStep, Var};
 use sat_checker::Checker;
@@ -62,7 +62,7 @@ fn unless(holds: bool, why: Why) -> Option<Why>
 /// Checks whether the step gives `name` a variable that the checker does not know yet. Returns `None` if so, and
 /// otherwise the reason.
 fn compare_new_name(known: Known<'_>, step: &ProofStep<'_>, name: Var) -> Option<Why>
-    ensures { Compares (λ o ask. NewName (name + 1)) known.entry (step_of step.now) result }
+    ensures { ComparesStep (λ o ask. NewName (name + 1)) known.entry (step_of step.now) result }
 {
     let ProofStep::UserVarName { global, user } = *step else {
         return Some(Why::StepOutOfPlace);
@@ -82,7 +82,7 @@ fn compare_new_name(known: Known<'_>, step: &ProofStep<'_>, name: Var) -> Option
 
 /// Checks whether the step removes `name` from its variable. Returns `None` if so, and otherwise the reason.
 fn compare_no_name(known: Known<'_>, step: &ProofStep<'_>, name: Var) -> Option<Why>
-    ensures { Compares (λ o ask. NoName (name + 1)) known.entry (step_of step.now) result }
+    ensures { ComparesStep (λ o ask. NoName (name + 1)) known.entry (step_of step.now) result }
 {
     let ProofStep::UserVarName { global, user } = *step else {
         return Some(Why::StepOutOfPlace);
@@ -107,7 +107,7 @@ fn compare_clause(
     literals: &[Lit],
     room: &mut LitScratch,
 ) -> Result<Option<Why>, AllocError>
-    ensures { IfOk result (Compares (λ o ask. Adds (named_literals literals.now)) known.entry (step_of step.now)) }
+    ensures { IfOk result (ComparesStep (λ o ask. Adds (named_literals literals.now)) known.entry (step_of step.now)) }
 {
     let ProofStep::AddClause { clause } = *step else {
         return Ok(Some(Why::StepOutOfPlace));
@@ -124,7 +124,7 @@ fn compare_ask(
     literals: &[Lit],
     room: &mut LitScratch,
 ) -> Result<Option<Why>, AllocError>
-    ensures { IfOk result (Compares (λ o ask. Opens (named_literals literals.now) o) known.entry (step_of step.now)) }
+    ensures { IfOk result (ComparesStep (λ o ask. Opens (named_literals literals.now) o) known.entry (step_of step.now)) }
 {
     let ProofStep::Assumptions { assumptions } = *step else {
         return Ok(Some(Why::StepOutOfPlace));
@@ -141,7 +141,7 @@ fn compare_core(
     core: &[Lit],
     room: &mut LitScratch,
 ) -> Result<Option<Why>, AllocError>
-    ensures { IfOk result (Compares (λ o ask. Fails ask (named_literals core.now)) known.entry (step_of step.now)) }
+    ensures { IfOk result (ComparesStep (λ o ask. Fails ask (named_literals core.now)) known.entry (step_of step.now)) }
 {
     let ProofStep::FailedAssumptions {
         failed_core,
@@ -161,7 +161,7 @@ fn is_line(
     line: &[Lit],
     room: &mut LitScratch,
 ) -> Result<bool, AllocError>
-    ensures { IfOk result (λ yes. AnswersWhether yes (ListsUsed names.now line.now × AllAmong ask.now line.now)) }
+    ensures { IfOk result (λ yes. Decides yes (ListsNamesInUse names.now line.now × AllAmong ask.now line.now)) }
 {
     if names.are_listed(line) {
         return has_all(line, ask, room);
@@ -187,7 +187,7 @@ fn compare_line(
 
 /// Checks whether the step assumes no literals, which ends an ask. Returns `None` if so, and otherwise the reason.
 fn compare_close(known: Known<'_>, step: &ProofStep<'_>) -> Option<Why>
-    ensures { Compares (λ o ask. Closes) known.entry (step_of step.now) result }
+    ensures { ComparesStep (λ o ask. Closes) known.entry (step_of step.now) result }
 {
     let ProofStep::Assumptions { assumptions } = *step else {
         return Some(Why::StepOutOfPlace);
@@ -201,7 +201,7 @@ fn compare_close(known: Known<'_>, step: &ProofStep<'_>) -> Option<Why>
 /// Checks whether the step is the end of the certificate. Returns `None` if so, and otherwise the reason. Bytes after
 /// that step don't matter.
 fn compare_end(known: Known<'_>, step: &ProofStep<'_>) -> Option<Why>
-    ensures { Compares (λ o ask. Finish) known.entry (step_of step.now) result }
+    ensures { ComparesStep (λ o ask. Finish) known.entry (step_of step.now) result }
 {
     let ProofStep::End = *step else {
         return Some(Why::StepOutOfPlace);
@@ -216,7 +216,7 @@ pub(crate) fn fits(
     expected: &Expected<'_>,
     room: &mut LitScratch,
 ) -> Result<Option<Why>, AllocError>
-    ensures { IfOk result (Compares (due_of expected.now) known.entry (step_of step.now)) }
+    ensures { IfOk result (ComparesStep (due_of expected.now) known.entry (step_of step.now)) }
 {
     match *expected {
         Expected::NewName(name) => Ok(compare_new_name(known, step, name)),
@@ -240,8 +240,8 @@ pub(crate) fn fits(
 
 /// Returns `None` if the expected step may be missing once `unsat` is recorded, and otherwise why the certificate is
 /// rejected. Only a model, or a core that is not empty, must be present.
-pub(crate) fn excuse(expected: &Expected<'_>) -> Option<Why>
-    ensures { ExcusesDue (due_of expected.now) result }
+pub(crate) fn why_not_optional(expected: &Expected<'_>) -> Option<Why>
+    ensures { DecidesMayBeUnmet (due_of expected.now) result }
 {
     match *expected {
         Expected::Model { names: _names, .. } => Some(Why::AnswerDiffers),

@@ -4,8 +4,9 @@ ghost use Rattle.sat_base.specs.steps.StepReading.{reader_source};
 ghost use Rattle.sat_base.specs.steps.StepViews.{step_of};
 ghost use Rattle.sat_checker.specs.KernelView.{LooksAtMost};
 ghost use Rattle.certify.specs.confirm.Feeding.{FeedsStep, SettlesConflict};
-ghost use Rattle.certify.specs.confirm.Stepping.{ReadsOne, is_ordered_tag};
-ghost use Rattle.certify.specs.confirm.Streams.{StepsGoOn, StepsGoOnIf, IsReadFew, GoesOrStops, SameLoan, most_bytes_left};
+ghost use Rattle.certify.specs.confirm.Stepping.{ReadsOneStep, is_ordered_tag};
+ghost use Rattle.certify.specs.confirm.Streams.{StepsGoOn, StepsGoOnIf, StepReadsAreFew, CallReturns, SameLoan};
+ghost use Rattle.certify.specs.confirm.Streams.{most_bytes_left};
 ghost use Rattle.certify.specs.confirm.Streams.{stream_of};
 ghost use Rattle.sat_checker.specs.CheckerView.{kernel_of};
 ghost use Rattle.sat_checker.specs.declared.kernel.Kernel.{Kernel};
@@ -25,13 +26,13 @@ pub(crate) fn is_ordered(tag: u8) -> bool
 pub(crate) fn read_next<R: CountedRead>(steps: &mut StepReader<'_, R>) -> Result<(), Stop>
     requires { StepsGoOn R.seen steps.old }
     ensures same { SameLoan steps.old steps.new }
-    ensures bound { IsReadFew R.seen steps.new }
+    ensures bound { StepReadsAreFew R.seen steps.new }
     ensures goes_on { StepsGoOnIf result R.seen steps.new }
     ensures takes { OnOk result (most_bytes_left (reader_source R.seen steps.new)
         < most_bytes_left (reader_source R.seen steps.old)) }
     ensures reads { (checker : Kernel)
-        → GoesOrStops (λ x. false) result (stream_of R.seen steps.old checker) (stream_of R.seen steps.new checker)
-        ReadsOne }
+        → CallReturns (λ x. false) result (stream_of R.seen steps.old checker) (stream_of R.seen steps.new checker)
+        ReadsOneStep }
 {
     match steps.advance() {
         Ok(()) => Ok(()),

@@ -3,7 +3,7 @@ ghost use Rattle.std.specs.Prelude.{◌+◌, OnOk};
 ghost use Rattle.sat_base.specs.steps.StepViews.{step_of};
 ghost use Rattle.sat_checker.specs.matching.Expected.{NewName, NoName};
 ghost use Rattle.certify.specs.confirm.Comparing.{due_of};
-ghost use Rattle.certify.specs.confirm.Following.{NamesFollow};
+ghost use Rattle.certify.specs.confirm.NamesAfterStep.{NamesFollowStep};
 
 use crate::confirm::expect::Expected;
 use crate::confirm::variables::NamedVars;
@@ -16,7 +16,7 @@ fn follow_new_name(
     name: Var,
     step: &ProofStep<'_>,
 ) -> Result<(), AllocError>
-    ensures { OnOk result (NamesFollow (λ o ask. NewName (name + 1)) variables.old (step_of step.now) variables.new) }
+    ensures { OnOk result (NamesFollowStep (λ o ask. NewName (name + 1)) variables.old (step_of step.now) variables.new) }
 {
     let ProofStep::UserVarName {
         global,
@@ -30,7 +30,7 @@ fn follow_new_name(
 
 /// Removes the variable of `name`.
 fn follow_no_name(variables: &mut NamedVars, name: Var, step: &ProofStep<'_>)
-    ensures { NamesFollow (λ o ask. NoName (name + 1)) variables.old (step_of step.now) variables.new }
+    ensures { NamesFollowStep (λ o ask. NoName (name + 1)) variables.old (step_of step.now) variables.new }
 {
     variables.remove(name);
 }
@@ -41,7 +41,7 @@ pub(crate) fn follow(
     expected: &Expected<'_>,
     step: &ProofStep<'_>,
 ) -> Result<(), AllocError>
-    ensures { OnOk result (NamesFollow (due_of expected.now) variables.old (step_of step.now) variables.new) }
+    ensures { OnOk result (NamesFollowStep (due_of expected.now) variables.old (step_of step.now) variables.new) }
 {
     match *expected {
         Expected::NewName(name) => follow_new_name(variables, name, step),

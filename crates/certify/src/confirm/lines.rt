@@ -1,10 +1,10 @@
 //! Reads answers line by line.
 ghost use Rattle.std.specs.Prelude.{◌≡◌, ◌<◌, [], false, MatchOption};
-ghost use Rattle.certify.specs.confirm.Lines.{GoesUpToLine, IsWantedLine, IsWrong, MovesPrefix, ReadsLineOfKind};
-ghost use Rattle.certify.specs.confirm.Lines.{StartsNone};
+ghost use Rattle.certify.specs.confirm.Lines.{EndsLineAt, IsWantedLine, IsWrongStart, MovesPrefix, ReadsLineOfKind};
+ghost use Rattle.certify.specs.confirm.Lines.{CannotBegin};
 ghost use Rattle.certify.specs.script.LastPiece.{source_in, waiting_bytes};
 
-use crate::answers::read::{AnswerKind, begins_kind, begins_line, is_front};
+use crate::answers::read::{AnswerKind, begins_kind, begins_line, is_prefix};
 use crate::script::ahead::LastPiece;
 use sat_base::{CountedRead, ReadError};
 use std::alloc::{AllocError, Global};
@@ -36,7 +36,7 @@ pub(crate) struct Lines {
 /// Returns the number of bytes up to and including the first LF, or of all bytes if there is no LF; and whether there
 /// is one.
 fn up_to_line(bytes: &[u8]) -> (usize, bool)
-    ensures { GoesUpToLine result.1 bytes.now result.0 }
+    ensures { EndsLineAt result.1 bytes.now result.0 }
 {
     for i in 0..bytes.len() {
         let byte = bytes[i];
@@ -48,11 +48,11 @@ fn up_to_line(bytes: &[u8]) -> (usize, bool)
 }
 
 /// Returns `true` if an allowed line can begin with `bytes`.
-fn may_begin(wanted: Wanted, due: &[u8], bytes: &[u8]) -> bool
-    ensures { result ≡ false → StartsNone (IsWantedLine wanted due.now) bytes.now }
+fn can_begin(wanted: Wanted, due: &[u8], bytes: &[u8]) -> bool
+    ensures { result ≡ false → CannotBegin (IsWantedLine wanted due.now) bytes.now }
 {
     match wanted {
-        Wanted::Due => is_front(bytes, due),
+        Wanted::Due => is_prefix(bytes, due),
         Wanted::First => begins_kind(bytes),
         Wanted::Second(kind) => begins_line(kind, bytes),
         Wanted::Nothing => false,
@@ -63,12 +63,12 @@ fn may_begin(wanted: Wanted, due: &[u8], bytes: &[u8]) -> bool
 /// there are fewer than `limit` bytes, they are not examined.
 fn look(wanted: Wanted, due: &[u8], bytes: &[u8], limit: usize) -> Option<usize>
     requires { 0 < limit }
-    ensures { MatchOption result (IsWrong (IsWantedLine wanted due.now) bytes.now) (λ next. 0 < next) }
+    ensures { MatchOption result (IsWrongStart (IsWantedLine wanted due.now) bytes.now) (λ next. 0 < next) }
 {
     if bytes.len() < limit {
         return Some(limit);
     }
-    if !may_begin(wanted, due, bytes) {
+    if !can_begin(wanted, due, bytes) {
         return None;
     }
     if bytes.len() < HELD {

@@ -3,9 +3,9 @@
 //! In literals over names, each name stands for its variable.
 ghost use Rattle.std.specs.Prelude.{IfOk, ◌≡◌, [], true};
 ghost use Rattle.sat_checker.specs.LiteralSets.{is_among};
-ghost use Rattle.sat_checker.specs.matching.Expected.{EachSpelt, SameSet, Spells};
+ghost use Rattle.sat_checker.specs.matching.Expected.{EachHasItsLiteral, IsSameLiteralSet, IsLiteralOf};
 ghost use Rattle.certify.specs.answers.AnswerForms.{named_literal, named_literals};
-ghost use Rattle.certify.specs.confirm.SpeltLiterals.{AllAmong, AreSpelt, SpellsAll, AnswersWhether};
+ghost use Rattle.certify.specs.confirm.SpeltLiterals.{AllAmong, AreSpelt, DecidesSpelling, Decides};
 ghost use Rattle.certify.specs.confirm.Variables.{variable_in};
 
 use crate::confirm::variables::NamedVars;
@@ -49,7 +49,7 @@ impl LitScratch {
 
 /// Returns `true` if all of `literals` are among `others`.
 fn are_among(literals: &[Lit], others: &[Lit], sets: &mut Sets) -> Result<bool, AllocError>
-    ensures { IfOk result (λ yes. AnswersWhether yes (AllAmong literals.now others.now)) }
+    ensures { IfOk result (λ yes. Decides yes (AllAmong literals.now others.now)) }
 {
     copy_canonical(&mut sets.first, literals)?;
     copy_canonical(&mut sets.second, others)?;
@@ -70,7 +70,7 @@ fn is_in(lit: Lit, lits: &[Lit]) -> bool
 
 /// Returns `true` if `others` contains all of `literals`. Compares all pairs, without branches.
 fn are_all_in(literals: &[Lit], others: &[Lit]) -> bool
-    ensures { AnswersWhether result (AllAmong literals.now others.now) }
+    ensures { Decides result (AllAmong literals.now others.now) }
 {
     let mut all = true;
     for lit in literals {
@@ -81,7 +81,7 @@ fn are_all_in(literals: &[Lit], others: &[Lit]) -> bool
 
 /// Returns `true` if both lists contain the same literals. Meant for short lists.
 fn are_same_short(xs: &[Lit], ys: &[Lit]) -> bool
-    ensures { AnswersWhether result (AllAmong xs.now ys.now × AllAmong ys.now xs.now) }
+    ensures { Decides result (AllAmong xs.now ys.now × AllAmong ys.now xs.now) }
 {
     if !are_all_in(xs, ys) {
         return false;
@@ -91,7 +91,7 @@ fn are_same_short(xs: &[Lit], ys: &[Lit]) -> bool
 
 /// Returns `true` if both lists contain the same literals.
 fn are_same(xs: &[Lit], ys: &[Lit], sets: &mut Sets) -> Result<bool, AllocError>
-    ensures { IfOk result (λ yes. AnswersWhether yes (AllAmong xs.now ys.now × AllAmong ys.now xs.now)) }
+    ensures { IfOk result (λ yes. Decides yes (AllAmong xs.now ys.now × AllAmong ys.now xs.now)) }
 {
     if xs.len() <= SHORT && ys.len() <= SHORT {
         return Ok(are_same_short(xs, ys));
@@ -110,7 +110,7 @@ pub(crate) fn has_all(
     literals: &[Lit],
     room: &mut LitScratch,
 ) -> Result<bool, AllocError>
-    ensures { IfOk result (λ yes. AnswersWhether yes (AllAmong literals.now line.now)) }
+    ensures { IfOk result (λ yes. Decides yes (AllAmong literals.now line.now)) }
 {
     are_among(literals, line, &mut room.sets)
 }
@@ -118,7 +118,7 @@ pub(crate) fn has_all(
 /// Writes `literals` to `spelt`, with every name replaced by its variable. Returns `true` if every name has a variable.
 fn spell(variables: &NamedVars, literals: &[Lit], spelt: &mut Vec<Lit>) -> Result<bool, AllocError>
     ensures { IfOk result
-        (λ yes. SpellsAll yes (variable_in variables.now) (named_literals literals.now) spelt.new.items) }
+        (λ yes. DecidesSpelling yes (variable_in variables.now) (named_literals literals.now) spelt.new.items) }
 {
     spelt.clear();
     for lit in literals {
@@ -132,7 +132,7 @@ fn spell(variables: &NamedVars, literals: &[Lit], spelt: &mut Vec<Lit>) -> Resul
 
 /// Returns `true` if `code` is `literal` with its name replaced by the variable of that name.
 fn is_spelt(variables: &NamedVars, literal: Lit, code: Lit) -> bool
-    ensures { result ≡ true → Spells (variable_in variables.now) (named_literal literal) code }
+    ensures { result ≡ true → IsLiteralOf (variable_in variables.now) (named_literal literal) code }
 {
     match variables.get(literal.var()) {
         Some(variable) => variable.lit(literal.is_positive()) == code,
@@ -163,7 +163,7 @@ pub(crate) fn are_spelt_in(
     room: &mut LitScratch,
 ) -> Result<bool, AllocError>
     ensures { IfOk result
-        (λ yes. AnswersWhether yes (EachSpelt (variable_in variables.now) (named_literals literals.now) codes.now)) }
+        (λ yes. Decides yes (EachHasItsLiteral (variable_in variables.now) (named_literals literals.now) codes.now)) }
 {
     if are_spelt(variables, literals, codes) {
         return Ok(true);
@@ -183,7 +183,7 @@ pub(crate) fn are_spelt_by(
     room: &mut LitScratch,
 ) -> Result<bool, AllocError>
     ensures { IfOk result
-        (λ yes. AnswersWhether yes (SameSet (variable_in variables.now) (named_literals literals.now) codes.now)) }
+        (λ yes. Decides yes (IsSameLiteralSet (variable_in variables.now) (named_literals literals.now) codes.now)) }
 {
     if are_spelt(variables, literals, codes) {
         return Ok(true);

@@ -6,15 +6,16 @@ ghost use Rattle.sat_base.specs.values.Literals.{var_limit};
 ghost use Rattle.sat_checker.specs.CheckerView.{kernel_of};
 ghost use Rattle.sat_checker.specs.matching.Expected.{NewName};
 ghost use Rattle.certify.specs.answers.AnswerForms.{named_literals};
-ghost use Rattle.certify.specs.confirm.Streams.{Confirms, StepsGoOn, StepsGoOnIf, IsReadFew, SameLoan, stream_of};
-ghost use Rattle.certify.specs.judge.Names.{Changes, taken};
-ghost use Rattle.certify.specs.confirm.Naming.{MeetsAll, MeetsName, MeetsNames, hidden_by, taken_by};
+ghost use Rattle.certify.specs.confirm.Streams.{CertificateCall, StepsGoOn, StepsGoOnIf, StepReadsAreFew, SameLoan};
+ghost use Rattle.certify.specs.confirm.Streams.{stream_of};
+ghost use Rattle.certify.specs.refusals.Names.{NamesChangeBy, state_after_name};
+ghost use Rattle.certify.specs.confirm.Naming.{MeetsAll, MeetsName, MeetsNames, hiding_step_of, state_after_names};
 ghost use Rattle.certify.specs.script.Commands.{kind_of};
 
 use crate::confirm::certificate::Certificate;
 use crate::confirm::expect::Expected;
 use crate::confirm::stop::Stop;
-use crate::judge::{Names, NewNames};
+use crate::refusals::{Names, NewNames};
 use crate::script::CommandKind;
 use sat_base::{CountedRead, Lit, StepReader, Var};
 
@@ -34,9 +35,9 @@ fn expect_new<R: CountedRead>(
     requires goes_on { StepsGoOn R.seen steps.old }
     requires within { new.first + new.count ≤ var_limit }
     ensures same { SameLoan steps.old steps.new }
-    ensures bound { IsReadFew R.seen steps.new }
+    ensures bound { StepReadsAreFew R.seen steps.new }
     ensures goes_on { StepsGoOnIf result R.seen steps.new }
-    ensures confirms { Confirms result (stream_of R.seen steps.old (kernel_of certificate.old.checker))
+    ensures confirms { CertificateCall result (stream_of R.seen steps.old (kernel_of certificate.old.checker))
         (stream_of R.seen steps.new (kernel_of certificate.new.checker))
         (MeetsAll (map NewName (names_from new.count (new.first + 1))) certificate.old.names certificate.new.names) }
 {
@@ -56,11 +57,11 @@ fn expect_hidden<R: CountedRead>(
 ) -> Result<(), Stop>
     requires goes_on { StepsGoOn R.seen steps.old }
     ensures same { SameLoan steps.old steps.new }
-    ensures bound { IsReadFew R.seen steps.new }
+    ensures bound { StepReadsAreFew R.seen steps.new }
     ensures goes_on { StepsGoOnIf result R.seen steps.new }
-    ensures confirms { Confirms result (stream_of R.seen steps.old (kernel_of certificate.old.checker))
+    ensures confirms { CertificateCall result (stream_of R.seen steps.old (kernel_of certificate.old.checker))
         (stream_of R.seen steps.new (kernel_of certificate.new.checker))
-        (MeetsAll (hidden_by (kind_of kind) (name + 1)) certificate.old.names certificate.new.names) }
+        (MeetsAll (hiding_step_of (kind_of kind) (name + 1)) certificate.old.names certificate.new.names) }
 {
     match kind {
         CommandKind::Hide => certificate.expect(steps, &Expected::NoName(name)),
@@ -81,10 +82,10 @@ impl Matching {
     ) -> Result<(), Stop>
         requires goes_on { StepsGoOn R.seen steps.old }
         ensures same { SameLoan steps.old steps.new }
-        ensures bound { IsReadFew R.seen steps.new }
+        ensures bound { StepReadsAreFew R.seen steps.new }
         ensures goes_on { StepsGoOnIf result R.seen steps.new }
-        ensures changes { OnOk result (Changes self.old.names self.new.names (taken (kind_of kind) (name + 1))) }
-        ensures confirms { Confirms result (stream_of R.seen steps.old (kernel_of self.old.certificate.checker))
+        ensures changes { OnOk result (NamesChangeBy self.old.names self.new.names (state_after_name (kind_of kind) (name + 1))) }
+        ensures confirms { CertificateCall result (stream_of R.seen steps.old (kernel_of self.old.certificate.checker))
             (stream_of R.seen steps.new (kernel_of self.new.certificate.checker))
             (MeetsName (kind_of kind) (name + 1) self.old.names self.old.certificate.names self.new.certificate.names) }
     {
@@ -105,11 +106,11 @@ impl Matching {
     ) -> Result<(), Stop>
         requires goes_on { StepsGoOn R.seen steps.old }
         ensures same { SameLoan steps.old steps.new }
-        ensures bound { IsReadFew R.seen steps.new }
+        ensures bound { StepReadsAreFew R.seen steps.new }
         ensures goes_on { StepsGoOnIf result R.seen steps.new }
-        ensures changes { OnOk result (Changes self.old.names self.new.names
-            (taken_by (kind_of kind) (names_of (named_literals literals.now)))) }
-        ensures confirms { Confirms result (stream_of R.seen steps.old (kernel_of self.old.certificate.checker))
+        ensures changes { OnOk result (NamesChangeBy self.old.names self.new.names
+            (state_after_names (kind_of kind) (names_of (named_literals literals.now)))) }
+        ensures confirms { CertificateCall result (stream_of R.seen steps.old (kernel_of self.old.certificate.checker))
             (stream_of R.seen steps.new (kernel_of self.new.certificate.checker))
             (MeetsNames (kind_of kind) (names_of (named_literals literals.now)) self.old.names
             self.old.certificate.names self.new.certificate.names) }

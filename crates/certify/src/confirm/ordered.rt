@@ -3,10 +3,11 @@ ghost use Rattle.std.specs.Prelude.{◌<◌, IfNone, IfOk};
 ghost use Rattle.sat_base.specs.steps.StepReading.{reader_source};
 ghost use Rattle.sat_checker.specs.CheckerView.{kernel_of};
 ghost use Rattle.certify.specs.confirm.Stepping.{is_fed, is_fed_so_far};
-ghost use Rattle.certify.specs.confirm.Streams.{StepsGoOn, StepsGoOnIf, IsReadFew, GoesOrStops, SameLoan, most_bytes_left};
+ghost use Rattle.certify.specs.confirm.Streams.{StepsGoOn, StepsGoOnIf, StepReadsAreFew, CallReturns, SameLoan};
+ghost use Rattle.certify.specs.confirm.Streams.{most_bytes_left};
 ghost use Rattle.certify.specs.confirm.Streams.{stream_of};
 ghost use Rattle.certify.specs.declared.confirm.variables.NamedVars.{NamedVars};
-ghost use Rattle.certify.specs.confirm.Awaiting.{AwaitsNext, StepsOnce};
+ghost use Rattle.certify.specs.confirm.Awaiting.{AwaitsNext, AwaitsByOneStep};
 
 use crate::confirm::feed::{feed, is_ordered, read_next, settle};
 use crate::confirm::stop::Stop;
@@ -30,13 +31,13 @@ fn advance<R: CountedRead>(
 ) -> Result<Option<Awaited>, Stop>
     requires { StepsGoOn R.seen steps.old }
     ensures same { SameLoan steps.old steps.new }
-    ensures bound { IsReadFew R.seen steps.new }
+    ensures bound { StepReadsAreFew R.seen steps.new }
     ensures goes_on { StepsGoOnIf result R.seen steps.new }
     ensures takes { IfOk result (λ awaited. IfNone awaited
         (most_bytes_left (reader_source R.seen steps.new) < most_bytes_left (reader_source R.seen steps.old))) }
     ensures confirms { (names : NamedVars)
-        → GoesOrStops is_fed_so_far result (stream_of R.seen steps.old (kernel_of checker.old))
-        (stream_of R.seen steps.new (kernel_of checker.new)) (StepsOnce names) }
+        → CallReturns is_fed_so_far result (stream_of R.seen steps.old (kernel_of checker.old))
+        (stream_of R.seen steps.new (kernel_of checker.new)) (AwaitsByOneStep names) }
 {
     if checker.unsat() {
         return Ok(Some(Awaited::Cut));
@@ -58,10 +59,10 @@ fn find_ordered<R: CountedRead>(
 ) -> Result<Awaited, Stop>
     requires { StepsGoOn R.seen steps.old }
     ensures same { SameLoan steps.old steps.new }
-    ensures bound { IsReadFew R.seen steps.new }
+    ensures bound { StepReadsAreFew R.seen steps.new }
     ensures goes_on { StepsGoOnIf result R.seen steps.new }
     ensures confirms { (names : NamedVars)
-        → GoesOrStops is_fed result (stream_of R.seen steps.old (kernel_of checker.old))
+        → CallReturns is_fed result (stream_of R.seen steps.old (kernel_of checker.old))
         (stream_of R.seen steps.new (kernel_of checker.new)) (AwaitsNext names) }
 {
     loop {
@@ -79,10 +80,10 @@ pub(crate) fn await_ordered<R: CountedRead>(
 ) -> Result<Awaited, Stop>
     requires { StepsGoOn R.seen steps.old }
     ensures same { SameLoan steps.old steps.new }
-    ensures bound { IsReadFew R.seen steps.new }
+    ensures bound { StepReadsAreFew R.seen steps.new }
     ensures goes_on { StepsGoOnIf result R.seen steps.new }
     ensures confirms { (names : NamedVars)
-        → GoesOrStops is_fed result (stream_of R.seen steps.old (kernel_of checker.old))
+        → CallReturns is_fed result (stream_of R.seen steps.old (kernel_of checker.old))
         (stream_of R.seen steps.new (kernel_of checker.new)) (AwaitsNext names) }
 {
     let awaited = find_ordered(checker, steps)?;

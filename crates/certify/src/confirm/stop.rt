@@ -1,9 +1,9 @@
 //! Why a confirmation ends early.
 ghost use Rattle.std.specs.Prelude.{◌≡◌};
 ghost use Rattle.sat_checker.specs.KernelView.{step_error};
-ghost use Rattle.certify.specs.confirm.Feeding.{stop_by};
-ghost use Rattle.certify.specs.confirm.Stopping.{answers_stop, script_stop};
-ghost use Rattle.certify.specs.confirm.Streams.{stop_of};
+ghost use Rattle.certify.specs.confirm.Feeding.{stop_for_checker};
+ghost use Rattle.certify.specs.confirm.CallResults.{stop_for_answers_read, stop_for_script_read};
+ghost use Rattle.certify.specs.confirm.Streams.{stop_for_step};
 
 use crate::verdict::Why;
 use sat_base::{ReadError, StepError};
@@ -60,7 +60,7 @@ impl<T: Drop> From<AllocFailed<T>> for Stop {
 
 /// Returns why the script can't be read.
 pub(crate) fn unread_script(error: ReadError) -> Stop
-    ensures { result ≡ script_stop error }
+    ensures { result ≡ stop_for_script_read error }
 {
     match error {
         ReadError::Failed => Stop::ScriptRead,
@@ -70,7 +70,7 @@ pub(crate) fn unread_script(error: ReadError) -> Stop
 
 /// Returns why the answers can't be read.
 pub(crate) fn unread_answers(error: ReadError) -> Stop
-    ensures { result ≡ answers_stop error }
+    ensures { result ≡ stop_for_answers_read error }
 {
     match error {
         ReadError::Failed => Stop::AnswersRead,
@@ -80,7 +80,7 @@ pub(crate) fn unread_answers(error: ReadError) -> Stop
 
 /// Returns why no step was read. A step reader that has failed is never called again, so `HasFailed` does not occur.
 pub(crate) fn unread(error: StepError) -> Stop
-    ensures { result ≡ stop_of error }
+    ensures { result ≡ stop_for_step error }
 {
     match error {
         StepError::Ends => Stop::No(Why::CertificateEnds),
@@ -94,7 +94,7 @@ pub(crate) fn unread(error: StepError) -> Stop
 
 /// Returns why a step is not accepted. A checker that has not failed never returns `HasFailed`.
 pub(crate) fn refused_step(refusal: StepRefusal) -> Stop
-    ensures { result ≡ stop_by (step_error refusal) }
+    ensures { result ≡ stop_for_checker (step_error refusal) }
 {
     match refusal {
         StepRefusal::CheckFailed => Stop::No(Why::StepRefused),
@@ -107,7 +107,7 @@ pub(crate) fn refused_step(refusal: StepRefusal) -> Stop
 /// Returns why a pending conflict is not settled. A checker that has not failed returns one of the first three errors.
 /// The checker of a confirmation has no listener, so the last error does not occur.
 pub(crate) fn refused(error: CheckerError) -> Stop
-    ensures { result ≡ stop_by error }
+    ensures { result ≡ stop_for_checker error }
 {
     match error {
         CheckerError::CheckFailed => Stop::No(Why::StepRefused),

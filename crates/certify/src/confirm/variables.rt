@@ -1,7 +1,7 @@
 //! The variables that names have in a certificate.
 ghost use Rattle.std.specs.Prelude.{ℕ, ◌≡◌, ◌+◌, ◌<◌, None, Some, OnOk};
 ghost use Rattle.sat_base.specs.values.Literals.{var_limit};
-ghost use Rattle.certify.specs.confirm.Variables.{PutsVariable, variable_in};
+ghost use Rattle.certify.specs.confirm.Variables.{SetsVariable, variable_in};
 
 use sat_base::{MaybeVar, Table, Var};
 use std::alloc::{AllocError, Global};
@@ -32,7 +32,7 @@ impl NamedVars {
 
     /// Sets the variable of `name` to `variable`.
     pub fn put(&mut self, name: Var, variable: Var) -> Result<(), AllocError>
-        ensures put { OnOk result (PutsVariable self.old self.new (name + 1) (Some variable)) }
+        ensures put { OnOk result (SetsVariable self.old self.new (name + 1) (Some variable)) }
         ensures within { name < var_limit }
     {
         self.variables.set(
@@ -44,7 +44,7 @@ impl NamedVars {
 
     /// Removes the variable of `name`.
     pub fn remove(&mut self, name: Var)
-        ensures { PutsVariable self.old self.new (name + 1) None }
+        ensures { SetsVariable self.old self.new (name + 1) None }
     {
         self.variables.reset(name.index(), MaybeVar::none());
     }

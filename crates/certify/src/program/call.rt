@@ -1,7 +1,7 @@
 //! Reads the arguments of the program.
 ghost use Rattle.std.specs.Prelude.{ℕ, [], ◌∷◌, map, MatchOption};
 ghost use Rattle.std.specs.String.{string_bytes};
-ghost use Rattle.certify.specs.program.Calls.{AllowsRequest, IsParsedAs, IsRoundCount, running};
+ghost use Rattle.certify.specs.program.Calls.{AllowsRequest, IsParsedAs, IsRoundCount, run_request};
 
 /// The paths of a script, its answers and their certificate.
 #[derive(Clone, Copy)]
@@ -50,7 +50,7 @@ fn rounds_of(word: &str) -> Option<u64>
 
 /// Returns a run, or `None` if it would overwrite its script.
 fn run_of(files: RunFiles<'_>, budget: u64) -> Option<Call<'_>>
-    ensures { AllowsRequest result (running files.entry budget) }
+    ensures { AllowsRequest result (run_request files.entry budget) }
 {
     if files.answers == files.script || files.certificate == files.script {
         return None;

@@ -4,7 +4,8 @@ ghost use Rattle.std.specs.Io.{ReadsAtMost, WritesAtMost};
 ghost use Rattle.std.specs.Io.KnownBytes.{Keeps, ReadConsumes, WriteAppends};
 ghost use Rattle.sat_base.specs.device.Counting.{device_of, reader_of, writer_of};
 ghost use Rattle.sat_base.specs.device.Device.{FlushesOnce, ReadsOnce, WritesOnce};
-ghost use Rattle.certify.specs.program.Calls.{Check, Hints, NamesFiles, WritesFiles, confirming, request_of, running};
+ghost use Rattle.certify.specs.program.Calls.{Check, Hints, NamesFiles, WritesFiles, confirm_request, request_of};
+ghost use Rattle.certify.specs.program.Calls.{run_request};
 ghost use Rattle.certify.specs.program.FileCalls.{IsOpenedFor, IsUnread, IsUnwritten};
 
 use crate::fault::RunFault;
@@ -190,8 +191,8 @@ fn open_run<'a, R: Files>(
     files: RunFiles<'a>,
     budget: u64,
 ) -> Result<Option<OpenCall<'a, R::File, R::File>>, OpenFault<'a>>
-    ensures { IfOk result (λ made. MatchOption made (WritesFiles (running files.entry budget))
-        (IsOpenedFor R.File.remaining R.File.contents (running files.entry budget))) }
+    ensures { IfOk result (λ made. MatchOption made (WritesFiles (run_request files.entry budget))
+        (IsOpenedFor R.File.remaining R.File.contents (run_request files.entry budget))) }
 {
     if overlaps(rt, files) {
         return Ok(None);
@@ -219,7 +220,7 @@ fn open_confirm<'a, R: Files>(
     rt: &R,
     files: RunFiles<'a>,
 ) -> Result<OpenCall<'a, R::File, R::File>, OpenFault<'a>>
-    ensures { IfOk result (IsOpenedFor R.File.remaining R.File.contents (confirming files.entry)) }
+    ensures { IfOk result (IsOpenedFor R.File.remaining R.File.contents (confirm_request files.entry)) }
 {
     let script = open(
         rt,

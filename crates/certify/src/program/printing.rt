@@ -29,7 +29,7 @@ pub(super) fn report<E: CountedWrite>(errors: &mut E, name: &str) {
 }
 
 /// Writes the usage and its explanation to standard error. If that fails, the error is ignored. Returns the status.
-pub(super) fn misused<E: CountedWrite>(errors: &mut E) -> u8
+pub(super) fn report_misuse<E: CountedWrite>(errors: &mut E) -> u8
     ensures { result ≡ 2 }
 {
     let _ = errors.write_all_counted(USAGE.as_bytes());

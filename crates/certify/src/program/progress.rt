@@ -7,7 +7,7 @@ use sat_base::CountedWrite;
 use sat_solver::Progress;
 use std::io::Write;
 
-/// The size of the line's buffer. The line has nine numbers of at most 20 digits, and fewer than 150 other bytes.
+/// The size of the line's buffer. The line has ten numbers of at most 20 digits, and fewer than 150 other bytes.
 const LINE: usize = 512;
 
 /// Writes the line with the counts of a finished run to `line`, as far as it fits. Returns the number of bytes written.
@@ -46,7 +46,11 @@ fn fill_note(line: &mut [u8], summary: &Summary) -> usize {
     let size = line.len();
     let mut room: &mut [u8] = line;
     let _ = match summary.malformed {
-        Some(command) => writeln!(room, " malformed at command {command}"),
+        Some(command) => writeln!(
+            room,
+            " malformed at command {command}, line {}",
+            summary.line
+        ),
         None => writeln!(room, "{}", ask_note(summary)),
     };
     size.saturating_sub(room.len())

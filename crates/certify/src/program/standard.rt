@@ -1,12 +1,12 @@
 //! Handles the call without arguments: answers a script while it is read from standard input. The certificate and the
 //! bytes that were read are kept in memory.
 ghost use Rattle.std.specs.Prelude.{◌≡◌, ◌⊎◌, [], IfOk, OnErr, false};
-ghost use Rattle.sat_base.specs.dimacs.Parsing.{StopsReading};
+ghost use Rattle.sat_base.specs.dimacs.Parsing.{MakesNoReadAfterEnd};
 ghost use Rattle.certify.specs.Devices.{reader_before_after, writer_before_after};
 ghost use Rattle.certify.specs.program.Calls.{HasStatus};
 ghost use Rattle.certify.specs.program.Copies.{GaveKept};
-ghost use Rattle.certify.specs.program.Failures.{ReadsToFailure};
-ghost use Rattle.certify.specs.program.Printing.{CutsWritten, IsWritten, Prints, PrintsCut, PrintsWritten};
+ghost use Rattle.certify.specs.program.Failures.{ReadsStopAtFailure};
+ghost use Rattle.certify.specs.program.Printing.{PrintsWrittenPrefix, IsWritten, Prints, PrintsPrefix, PrintsWritten};
 
 use crate::fault::RunFault;
 use crate::headline::{Written, run_in_memory};
@@ -30,7 +30,7 @@ fn print_confirmed<O: CountedWrite>(
     requires { IsWritten script.now written.now }
     ensures small { HasStatus result }
     ensures printed { IfOk result (λ s. PrintsWritten s written.now (O.seen output.old) (O.seen output.new)) }
-    ensures cut { OnErr result (CutsWritten written.now (O.seen output.old) (O.seen output.new)) }
+    ensures cut { OnErr result (PrintsWrittenPrefix written.now (O.seen output.old) (O.seen output.new)) }
 {
     write_out(output, &written.answers)?;
     let mut line = Vec::new(alloc);
@@ -66,8 +66,8 @@ fn run_kept<R: CountedRead>(alloc: Global, script: &mut Keeping<R>) -> Result<Wr
     requires enough { script.old.is_refused ≡ false }
     ensures gave { IfOk result (λ w. GaveKept (R.seen script.old.reader) (R.seen script.new.reader) script.new.kept.items
         (λ text. IsWritten text w)) }
-    ensures reads { ReadsToFailure (reader_before_after R.seen script.old.reader script.new.reader) }
-    ensures stops { StopsReading (R.seen script.old.reader) (R.seen script.new.reader) }
+    ensures reads { ReadsStopAtFailure (reader_before_after R.seen script.old.reader script.new.reader) }
+    ensures stops { MakesNoReadAfterEnd (R.seen script.old.reader) (R.seen script.new.reader) }
 {
     match run_in_memory(alloc, script, u64::MAX) {
         Ok(written) => {
@@ -93,10 +93,10 @@ fn answer_kept<R: CountedRead, O: CountedWrite, E: CountedWrite>(
     ensures printed { IfOk result (λ s. Prints s (reader_before_after R.seen script.old.reader script.new.reader)
         (writer_before_after O.seen output.old output.new)) }
     ensures cut { OnErr result ((O.seen output.new ≡ O.seen output.old)
-        ⊎ PrintsCut (reader_before_after R.seen script.old.reader script.new.reader)
+        ⊎ PrintsPrefix (reader_before_after R.seen script.old.reader script.new.reader)
         (writer_before_after O.seen output.old output.new)) }
-    ensures reads { ReadsToFailure (reader_before_after R.seen script.old.reader script.new.reader) }
-    ensures stops { StopsReading (R.seen script.old.reader) (R.seen script.new.reader) }
+    ensures reads { ReadsStopAtFailure (reader_before_after R.seen script.old.reader script.new.reader) }
+    ensures stops { MakesNoReadAfterEnd (R.seen script.old.reader) (R.seen script.new.reader) }
 {
     let written = run_kept(alloc, script)?;
     report_progress(errors, &written.summary);
@@ -114,9 +114,9 @@ fn answer_and_return<R: CountedRead + Drop, O: CountedWrite, E: CountedWrite>(
     ensures printed { IfOk result.1
         (λ s. Prints s (R.seen input, R.seen result.0) (writer_before_after O.seen output.old output.new)) }
     ensures cut { OnErr result.1 ((O.seen output.new ≡ O.seen output.old)
-        ⊎ PrintsCut (R.seen input, R.seen result.0) (writer_before_after O.seen output.old output.new)) }
-    ensures reads { ReadsToFailure (R.seen input, R.seen result.0) }
-    ensures stops { StopsReading (R.seen input) (R.seen result.0) }
+        ⊎ PrintsPrefix (R.seen input, R.seen result.0) (writer_before_after O.seen output.old output.new)) }
+    ensures reads { ReadsStopAtFailure (R.seen input, R.seen result.0) }
+    ensures stops { MakesNoReadAfterEnd (R.seen input) (R.seen result.0) }
 {
     let mut script = Keeping::new(alloc, input);
     let result = answer_kept(alloc, &mut script, output, errors);
@@ -135,9 +135,9 @@ pub(super) fn answer<I: CountedRead, O: CountedWrite, E: CountedWrite>(
     ensures printed { IfOk result (λ s. Prints s (reader_before_after I.seen input.old input.new)
         (writer_before_after O.seen output.old output.new)) }
     ensures cut { OnErr result ((O.seen output.new ≡ O.seen output.old)
-        ⊎ PrintsCut (reader_before_after I.seen input.old input.new) (writer_before_after O.seen output.old output.new)) }
-    ensures reads { ReadsToFailure (reader_before_after I.seen input.old input.new) }
-    ensures stops { StopsReading (I.seen input.old) (I.seen input.new) }
+        ⊎ PrintsPrefix (reader_before_after I.seen input.old input.new) (writer_before_after O.seen output.old output.new)) }
+    ensures reads { ReadsStopAtFailure (reader_before_after I.seen input.old input.new) }
+    ensures stops { MakesNoReadAfterEnd (I.seen input.old) (I.seen input.new) }
 {
     let (lent, result) = answer_and_return(alloc, input, output, errors);
     let _input: &mut I = lent;

@@ -1,14 +1,16 @@
 //! Carries out calls that name files, with any readers and writers instead of the files. All calls return the status.
 ghost use Rattle.std.specs.Prelude.{◌≡◌, ◌≤◌, ◌↔◌, ◌⊎◌, None, [], IfOk, OnErr, OnOk, true};
 ghost use Rattle.sat_base.specs.device.Device.{WriterFails, WriterAccepts};
-ghost use Rattle.sat_base.specs.dimacs.Parsing.{StopsReading};
+ghost use Rattle.sat_base.specs.dimacs.Parsing.{MakesNoReadAfterEnd};
 ghost use Rattle.certify.specs.Devices.{reader_before_after, writer_before_after};
 ghost use Rattle.certify.specs.declared.verdict.Verdict.TheVariants.{Yes};
 ghost use Rattle.certify.specs.program.Calls.{HasStatus};
-ghost use Rattle.certify.specs.program.Failures.{ConfirmsToFailure, ReadsToFailure, RunsToFailure};
-ghost use Rattle.certify.specs.program.HintPrinting.{CutsHintVerdict, CutsHints, PrintsHintVerdict, WritesHints};
+ghost use Rattle.certify.specs.program.Failures.{ConfirmStopsAtFailure, ReadsStopAtFailure, RunStopsAtFailure};
+ghost use Rattle.certify.specs.program.HintPrinting.{PrintsHintVerdictPrefix, WritesHintsPrefix, PrintsHintVerdict};
+ghost use Rattle.certify.specs.program.HintPrinting.{WritesHints};
 ghost use Rattle.certify.specs.program.HintPrinting.{hint_verdict_text, is_proved};
-ghost use Rattle.certify.specs.program.Printing.{CutsYesOrNo, PrintsLine, PrintsYesOrNo, Ran, yes_or_no_text};
+ghost use Rattle.certify.specs.program.Printing.{PrintsYesOrNoPrefix, PrintsLine, PrintsYesOrNo, WroteFinishedRun};
+ghost use Rattle.certify.specs.program.Printing.{yes_or_no_text};
 ghost use Rattle.certify.specs.run.Unfinished.{Stopped};
 
 use crate::confirm::confirm;
@@ -46,13 +48,13 @@ pub(super) fn run_text<S: CountedRead, A: CountedWrite, C: CountedWrite, E: Coun
     errors: &mut E,
 ) -> Result<u8, ProgramFault>
     ensures small { HasStatus result }
-    ensures ran { IfOk result (λ s. Ran s budget (reader_before_after S.seen script.old script.new)
+    ensures ran { IfOk result (λ s. WroteFinishedRun s budget (reader_before_after S.seen script.old script.new)
         (writer_before_after A.seen answers.old answers.new) (writer_before_after C.seen certificate.old certificate.new)) }
     ensures unfinished { OnErr result
         (Stopped budget (reader_before_after S.seen script.old script.new) (writer_before_after A.seen answers.old answers.new)
         (writer_before_after C.seen certificate.old certificate.new)) }
-    ensures stops { StopsReading (S.seen script.old) (S.seen script.new) }
-    ensures calls { RunsToFailure (reader_before_after S.seen script.old script.new)
+    ensures stops { MakesNoReadAfterEnd (S.seen script.old) (S.seen script.new) }
+    ensures calls { RunStopsAtFailure (reader_before_after S.seen script.old script.new)
         (writer_before_after A.seen answers.old answers.new) (writer_before_after C.seen certificate.old certificate.new) }
 {
     match run(alloc, script, answers, certificate, budget) {
@@ -97,10 +99,10 @@ pub(super) fn confirm_given<S: CountedRead, A: CountedRead, C: CountedRead, O: C
         (reader_before_after A.seen answers.old answers.new) (reader_before_after C.seen certificate.old certificate.new)
         (writer_before_after O.seen output.old output.new)) }
     ensures cut { OnErr result ((O.seen output.new ≡ O.seen output.old)
-        ⊎ CutsYesOrNo (reader_before_after S.seen script.old script.new) (reader_before_after A.seen answers.old answers.new)
+        ⊎ PrintsYesOrNoPrefix (reader_before_after S.seen script.old script.new) (reader_before_after A.seen answers.old answers.new)
         (reader_before_after C.seen certificate.old certificate.new) (writer_before_after O.seen output.old output.new)) }
-    ensures stops { StopsReading (S.seen script.old) (S.seen script.new) }
-    ensures calls { ConfirmsToFailure (reader_before_after S.seen script.old script.new)
+    ensures stops { MakesNoReadAfterEnd (S.seen script.old) (S.seen script.new) }
+    ensures calls { ConfirmStopsAtFailure (reader_before_after S.seen script.old script.new)
         (reader_before_after A.seen answers.old answers.new) (reader_before_after C.seen certificate.old certificate.new) }
 {
     let mut looks = Looks::new();
@@ -119,7 +121,7 @@ pub(super) fn write_hints<C: CountedRead, H: CountedWrite, E: CountedWrite>(
     ensures small { HasStatus result }
     ensures written { IfOk result (λ s. WritesHints s (reader_before_after C.seen certificate.old certificate.new)
         (writer_before_after H.seen hints.old hints.new)) }
-    ensures cut { OnErr result (CutsHints (reader_before_after C.seen certificate.old certificate.new)
+    ensures cut { OnErr result (WritesHintsPrefix (reader_before_after C.seen certificate.old certificate.new)
         (writer_before_after H.seen hints.old hints.new)) }
 {
     match convert(alloc, certificate, hints) {
@@ -181,8 +183,8 @@ pub(super) fn check_text<H: CountedRead, O: CountedWrite>(
     ensures printed { IfOk result (λ s. PrintsHintVerdict s (reader_before_after H.seen text.old text.new)
         (writer_before_after O.seen output.old output.new)) }
     ensures cut { OnErr result ((O.seen output.new ≡ O.seen output.old)
-        ⊎ CutsHintVerdict (reader_before_after H.seen text.old text.new) (writer_before_after O.seen output.old output.new)) }
-    ensures calls { ReadsToFailure (reader_before_after H.seen text.old text.new) }
+        ⊎ PrintsHintVerdictPrefix (reader_before_after H.seen text.old text.new) (writer_before_after O.seen output.old output.new)) }
+    ensures calls { ReadsStopAtFailure (reader_before_after H.seen text.old text.new) }
 {
     let verdict = check(alloc, text)?;
     print_hint_verdict(alloc, verdict, output)

@@ -2,7 +2,7 @@
 ghost use Rattle.std.specs.Prelude.{◌≡◌, ◌≤◌, ◌↔◌, ◌++◌, IfOk, OnOk, false};
 ghost use Rattle.certify.specs.declared.verdict.Verdict.TheVariants.{Yes};
 ghost use Rattle.certify.specs.laws.EndToEnd.{VerdictGuarantee};
-ghost use Rattle.certify.specs.program.Printing.{no_text, verdict_text, yes_or_no_text};
+ghost use Rattle.certify.specs.program.Printing.{no_verdict_text, verdict_text, yes_or_no_text};
 
 use crate::headline::confirm_over;
 use crate::program::printing::{DONE, REFUSED};
@@ -13,7 +13,7 @@ use std::alloc::{AllocError, Global};
 
 /// Appends the ask and the reason from a `No`, followed by LF.
 fn push_no(out: &mut Vec<u8>, ask: u64, why: Why) -> Result<(), AllocError>
-    ensures { OnOk result (out.new.items ≡ out.old.items ++ no_text ask why) }
+    ensures { OnOk result (out.new.items ≡ out.old.items ++ no_verdict_text ask why) }
 {
     push_decimal(out, ask)?;
     out.extend_from_slice(b" ")?;

@@ -5,8 +5,8 @@ ghost use Rattle.sat_base.specs.script.Script.{Ask};
 ghost use Rattle.sat_solver.specs.facade.Calls.{HasFullStore};
 ghost use Rattle.certify.specs.answers.AnswerForms.{named_literals};
 ghost use Rattle.certify.specs.run.Asking.{AskEffect};
-ghost use Rattle.certify.specs.run.SolverCalls.{FailsIf, IsAllowed, IsCaused, IsReadySolver, LacksFor};
-ghost use Rattle.certify.specs.run.BetweenCommands.{CarriedOut, CausedBy, StopsCarrying, WritesBoth};
+ghost use Rattle.certify.specs.run.SolverCalls.{FailsIf, AreAllowedNames, IsCaused, IsReadySolver, LacksVariablesFor};
+ghost use Rattle.certify.specs.run.BetweenCommands.{CommandCarriedOut, IsCausedByCommand, StopsInCommand, WritesBoth};
 
 use super::page::Page;
 use super::session::RunState;
@@ -25,15 +25,15 @@ fn ask<C: CountedWrite + Drop>(
     page: &mut Page,
 ) -> Result<AskReport, RunFault>
     requires ready { IsReadySolver solver.old }
-    requires allowed { IsAllowed solver.old literals.now }
+    requires allowed { AreAllowedNames solver.old literals.now }
     ensures effect { IfOk result (λ report. AskEffect budget report literals.now page.new.text.items solver.old
         solver.new) }
     ensures ready { OnOk result (IsReadySolver solver.new) }
     // Afterwards, an ask without literals is allowed, since it contains no name to refuse.
-    ensures allowed { OnOk result (IsAllowed solver.new []) }
+    ensures allowed { OnOk result (AreAllowedNames solver.new []) }
     ensures fails { FailsIf result solver.old solver.new }
     ensures cause { IfErr result (λ e. IsCaused e (HasFullStore solver.new)
-        (LacksFor solver.old solver.new (Ask (named_literals literals.now)))) }
+        (LacksVariablesFor solver.old solver.new (Ask (named_literals literals.now)))) }
 {
     assume(solver, literals)?;
     let report = search(solver, budget)?;
@@ -48,13 +48,13 @@ pub fn answer_ask<A: CountedWrite, C: CountedWrite + Drop>(
     literals: &[Lit],
 ) -> Result<(), RunFault>
     requires ready { IsReadySolver session.old.solver }
-    requires allowed { IsAllowed session.old.solver literals.now }
-    ensures carried { OnOk result (CarriedOut session.old session.new (Ask (named_literals literals.now))
+    requires allowed { AreAllowedNames session.old.solver literals.now }
+    ensures carried { OnOk result (CommandCarriedOut session.old session.new (Ask (named_literals literals.now))
         (A.seen answers.old) (A.seen answers.new)) }
     ensures stops { (left : Reading)
-        → StopsCarrying result session.old session.new (Ask (named_literals literals.now)) left (A.seen answers.old)
+        → StopsInCommand result session.old session.new (Ask (named_literals literals.now)) left (A.seen answers.old)
         (A.seen answers.new) }
-    ensures cause { CausedBy result session.old session.new (Ask (named_literals literals.now)) }
+    ensures cause { IsCausedByCommand result session.old session.new (Ask (named_literals literals.now)) }
     ensures names { session.new.names ≡ session.old.names }
     ensures written { WritesBoth result (A.seen answers.old) (A.seen answers.new) session.old.solver
         session.new.solver }

@@ -1,14 +1,16 @@
 //! Hides names, and sets their modes.
 ghost use Rattle.std.specs.Prelude.{◌≡◌, ◌+◌, [], ◌∷◌, IfErr, OnOk};
-ghost use Rattle.sat_solver.specs.facade.Calls.{Writes};
+ghost use Rattle.sat_solver.specs.facade.Calls.{WritesSteps};
 ghost use Rattle.sat_solver.specs.facade.Naming.{OnlyMakes};
 ghost use Rattle.sat_solver.specs.variables.Refusing.{names_in};
-ghost use Rattle.certify.specs.run.SolverCalls.{AgreesWithChecker, FailsIf, IsCaused, IsReadySolver, LacksFor, RefusedForRoom};
-ghost use Rattle.certify.specs.run.Obeying.{ChangesName, Obeyed, command_to, due_to, may_to};
+ghost use Rattle.certify.specs.run.SolverCalls.{AgreesWithChecker, FailsIf, IsCaused, IsReadySolver, LacksVariablesFor};
+ghost use Rattle.certify.specs.run.SolverCalls.{RefusedForRoom};
+ghost use Rattle.certify.specs.run.NonAskCommands.{ChangesNameState, NonAskCarriedOut, command_for_state};
+ghost use Rattle.certify.specs.run.NonAskCommands.{due_for_state, IsStepForState};
 
 use super::faults::fault_of;
 use crate::fault::RunFault;
-use crate::judge::NameState;
+use crate::refusals::NameState;
 use sat_base::{CountedWrite, Lit, Var};
 use sat_solver::facade::laws::steps_record_answers;
 use sat_solver::{Solver, SolverError};
@@ -19,9 +21,9 @@ fn change_name<C: CountedWrite + Drop>(
     user: Var,
     state: NameState,
 ) -> Result<(), SolverError>
-    ensures changes { ChangesName result solver.old solver.new user state }
-    ensures steps { OnOk result (OnlyMakes (may_to state (user + 1)) (due_to state ((user + 1) ∷ [])) solver.old solver.new) }
-    ensures text { Writes result solver.old solver.new }
+    ensures changes { ChangesNameState result solver.old solver.new user state }
+    ensures steps { OnOk result (OnlyMakes (IsStepForState state (user + 1)) (due_for_state state ((user + 1) ∷ [])) solver.old solver.new) }
+    ensures text { WritesSteps result solver.old solver.new }
     ensures checker { AgreesWithChecker result solver.old solver.new }
 {
     match state {
@@ -39,7 +41,7 @@ fn set_name<C: CountedWrite + Drop>(
 ) -> Result<(), RunFault>
     requires ready { IsReadySolver solver.old }
     requires free { solver.old.assumptions ≡ [] }
-    ensures obeyed { OnOk result (Obeyed (command_to state ((user + 1) ∷ [])) solver.old solver.new) }
+    ensures obeyed { OnOk result (NonAskCarriedOut (command_for_state state ((user + 1) ∷ [])) solver.old solver.new) }
     ensures fails { FailsIf result solver.old solver.new }
     // Setting states stores no clause.
     ensures cause { IfErr result (λ e. IsCaused e ⊥ (RefusedForRoom solver.old solver.new (user ∷ []))) }
@@ -61,11 +63,11 @@ pub(crate) fn set_names<C: CountedWrite + Drop>(
 ) -> Result<(), RunFault>
     requires ready { IsReadySolver solver.old }
     requires free { solver.old.assumptions ≡ [] }
-    ensures obeyed { OnOk result (Obeyed (command_to state (names_in literals.now)) solver.old solver.new) }
+    ensures obeyed { OnOk result (NonAskCarriedOut (command_for_state state (names_in literals.now)) solver.old solver.new) }
     ensures fails { FailsIf result solver.old solver.new }
     // Setting states stores no clause.
-    ensures cause { IfErr result (λ e. IsCaused e ⊥ (LacksFor solver.old solver.new
-        (command_to state (names_in literals.now)))) }
+    ensures cause { IfErr result (λ e. IsCaused e ⊥ (LacksVariablesFor solver.old solver.new
+        (command_for_state state (names_in literals.now)))) }
 {
     for lit in literals {
         set_name(solver, lit.var(), state)?;

@@ -1,7 +1,7 @@
 //! Writes the answers of a run's solver to a buffer, as text.
 ghost use Rattle.std.specs.Prelude.{◌≡◌, ◌++◌, IfErr, OnOk, []};
 ghost use Rattle.certify.specs.answers.Answers.{outcome_text};
-ghost use Rattle.certify.specs.run.SolverCalls.{AnswerIs, IsReadySolver};
+ghost use Rattle.certify.specs.run.SolverCalls.{IsAnswerOfState, IsReadySolver};
 ghost use Rattle.certify.specs.run.Reporting.{IsReportedRight, outcome_for};
 
 use crate::answers::write::{push_sat, push_unknown, push_unsat};
@@ -18,7 +18,7 @@ fn push_model<C: CountedWrite + Drop>(
     solver: &Solver<C>,
 ) -> Result<(), RunFault>
     requires ready { IsReadySolver solver.now }
-    requires sat { AnswerIs solver.now.answer Answer.Sat }
+    requires sat { IsAnswerOfState solver.now.answer Answer.Sat }
     ensures text { OnOk result (text.new.items ≡ text.old.items ++ outcome_text (outcome_for Answer.Sat solver.now)) }
     ensures right { OnOk result (IsReportedRight Answer.Sat solver.now) }
     ensures memory { IfErr result (λ e. e ≡ RunFault.OutOfMemory) }
@@ -37,7 +37,7 @@ fn push_core<C: CountedWrite + Drop>(
     core: &mut Vec<Lit>,
 ) -> Result<(), AllocError>
     requires ready { IsReadySolver solver.now }
-    requires unsat { AnswerIs solver.now.answer Answer.Unsat }
+    requires unsat { IsAnswerOfState solver.now.answer Answer.Unsat }
     ensures text { OnOk result (text.new.items ≡ text.old.items ++ outcome_text (outcome_for Answer.Unsat solver.now)) }
     ensures right { OnOk result (IsReportedRight Answer.Unsat solver.now) }
 {
@@ -78,7 +78,7 @@ impl Page {
         answer: Answer,
     ) -> Result<(), RunFault>
         requires ready { IsReadySolver solver.now }
-        requires answer { AnswerIs solver.now.answer answer }
+        requires answer { IsAnswerOfState solver.now.answer answer }
         ensures text { OnOk result (self.new.text.items ≡ outcome_text (outcome_for answer solver.now)) }
         ensures right { OnOk result (IsReportedRight answer solver.now) }
         ensures memory { IfErr result (λ e. e ≡ RunFault.OutOfMemory) }

@@ -1,23 +1,23 @@
 //! Serves the commands of a script as they are read, and then its end.
 ghost use Rattle.std.specs.Prelude.{◌≡◌, ◌+◌, ◌∷◌, [], false, IfErr, IfOk, OnErr, OnOk};
-ghost use Rattle.sat_base.specs.device.Device.{Reader, WriterAccepts};
-ghost use Rattle.sat_base.specs.dimacs.Parsing.{StopsReading};
+ghost use Rattle.sat_base.specs.device.Device.{WriterAccepts};
 ghost use Rattle.sat_base.specs.script.ScriptState.{ScriptState, initial_state};
 ghost use Rattle.sat_base.specs.script.Script.{Command as Spelled, Malformed};
 ghost use Rattle.certify.specs.answers.Answers.{malformed_line};
-ghost use Rattle.certify.specs.script.LastChunk.{ReadsOn};
+ghost use Rattle.certify.specs.script.LastChunk.{KeepsAccount};
 ghost use Rattle.certify.specs.script.LastPiece.{IsNotAtEnd, source_in};
-ghost use Rattle.certify.specs.script.Commands.{RepresentsCommand, RepresentsSomeCommand, ReaderMeans, MeansIf};
+ghost use Rattle.certify.specs.script.Commands.{RepresentsCommand, RepresentsSomeCommand, ReaderMeans, ReaderMeansIf};
 ghost use Rattle.certify.specs.script.Commands.{end_reading};
 ghost use Rattle.sat_base.specs.script.Language.{Reading, prepend_commands, reading, plain_reading};
 ghost use Rattle.certify.specs.run.Stopping.{StopsServing};
 ghost use Rattle.certify.specs.run.SolverCalls.{IsCaused, IsReadySolver};
-ghost use Rattle.certify.specs.run.BetweenCommands.{CausedOver, RunGoesOn, HasStateBetweenCommands, ServedNext};
-ghost use Rattle.certify.specs.run.BetweenCommands.{StopsOver, WritesBoth, place_in};
-ghost use Rattle.certify.specs.run.ServedScript.{ServesScript, ServesWhole, run_fault};
+ghost use Rattle.certify.specs.run.BetweenCommands.{IsCausedByScript, RunInvariant, HasStateBetweenCommands};
+ghost use Rattle.certify.specs.run.BetweenCommands.{CommandServed};
+ghost use Rattle.certify.specs.run.BetweenCommands.{StopsInScript, WritesBoth, run_place};
+ghost use Rattle.certify.specs.run.ServedScript.{ServesScript, ServesWholeScript, run_fault};
 
 use super::ask::answer_ask;
-use super::commands::take_command;
+use super::commands::serve_command;
 use super::session::RunState;
 use super::write::write_answer;
 use crate::answers::write::push_malformed;
@@ -27,7 +27,7 @@ use crate::script::{Command, ScriptEnd};
 use sat_base::{CountedRead, CountedWrite, ReadError};
 
 /// Returns the fault of a run whose script can't be read.
-fn unread_script(error: ReadError) -> RunFault
+fn script_read_fault(error: ReadError) -> RunFault
     ensures { result ≡ run_fault error }
 {
     match error {
@@ -42,22 +42,22 @@ fn serve_next<A: CountedWrite, C: CountedWrite + Drop>(
     answers: &mut A,
     command: Command<'_>,
 ) -> Result<(), RunFault>
-    requires goes_on { RunGoesOn session.old }
+    requires goes_on { RunInvariant session.old }
     requires whole { RepresentsSomeCommand command }
     ensures served { (c : Spelled) → RepresentsCommand command.entry c
-        → OnOk result (ServedNext session.old session.new c (A.seen answers.old) (A.seen answers.new)) }
+        → OnOk result (CommandServed session.old session.new c (A.seen answers.old) (A.seen answers.new)) }
     ensures stops { (c : Spelled) → RepresentsCommand command.entry c → (left : Reading)
-        → StopsOver result session.old session.new (prepend_commands (c ∷ []) left) (A.seen answers.old)
+        → StopsInScript result session.old session.new (prepend_commands (c ∷ []) left) (A.seen answers.old)
         (A.seen answers.new) }
     ensures cause { (c : Spelled) → RepresentsCommand command.entry c → (left : Reading)
-        → CausedOver result session.old session.new (prepend_commands (c ∷ []) left) }
+        → IsCausedByScript result session.old session.new (prepend_commands (c ∷ []) left) }
     ensures written { WritesBoth result (A.seen answers.old) (A.seen answers.new) session.old.solver
         session.new.solver }
 {
     if session.commands == u64::MAX {
         return Err(RunFault::CounterEnd);
     }
-    take_command(session, answers, command)
+    serve_command(session, answers, command)
 }
 
 /// Writes the line that says that the text is malformed at command `number`.
@@ -69,7 +69,7 @@ fn report_malformed<A: CountedWrite, C: CountedWrite + Drop>(
     ensures takes { OnOk result (WriterAccepts (A.seen answers.old) (A.seen answers.new) (malformed_line number)) }
     ensures same { session.new ≡ record session.old { page = session.new.page } }
     ensures stops { (j : ScriptState) → OnErr result
-        (StopsServing session.old.budget (record (place_in session.old j) { number = number }) ([], Malformed)
+        (StopsServing session.old.budget (record (run_place session.old j) { number = number }) ([], Malformed)
         session.new.solver.steps (A.seen answers.old) (A.seen answers.new)) }
     ensures cause { IfErr result (λ e. IsCaused e ⊥ ⊥) }
     ensures written { WritesBoth result (A.seen answers.old) (A.seen answers.new) session.old.solver
@@ -86,12 +86,12 @@ fn serve_end<A: CountedWrite, C: CountedWrite + Drop>(
     answers: &mut A,
     end: ScriptEnd,
 ) -> Result<Option<u64>, RunFault>
-    requires { RunGoesOn session.old }
+    requires { RunInvariant session.old }
     ensures serves { (j : ScriptState) → HasStateBetweenCommands session.old j
-        → IfOk result (λ at. ServesWhole j (end_reading end) 0 at session.old session.new (A.seen answers.old)
+        → IfOk result (λ at. ServesWholeScript j (end_reading end) 0 at session.old session.new (A.seen answers.old)
         (A.seen answers.new)) }
-    ensures stops { StopsOver result session.old session.new (end_reading end) (A.seen answers.old) (A.seen answers.new) }
-    ensures cause { CausedOver result session.old session.new (end_reading end) }
+    ensures stops { StopsInScript result session.old session.new (end_reading end) (A.seen answers.old) (A.seen answers.new) }
+    ensures cause { IsCausedByScript result session.old session.new (end_reading end) }
     ensures ready { OnOk result (IsReadySolver session.new.solver) }
     ensures written { WritesBoth result (A.seen answers.old) (A.seen answers.new) session.old.solver
         session.new.solver }
@@ -120,16 +120,16 @@ fn serve_last<A: CountedWrite, C: CountedWrite + Drop>(
     command: Command<'_>,
     end: ScriptEnd,
 ) -> Result<Option<u64>, RunFault>
-    requires goes_on { RunGoesOn session.old }
+    requires goes_on { RunInvariant session.old }
     requires whole { RepresentsSomeCommand command }
     ensures serves { (c : Spelled) → RepresentsCommand command.entry c → (j : ScriptState) → HasStateBetweenCommands session.old j
-        → IfOk result (λ at. ServesWhole j (prepend_commands (c ∷ []) (end_reading end)) 1 at session.old
+        → IfOk result (λ at. ServesWholeScript j (prepend_commands (c ∷ []) (end_reading end)) 1 at session.old
         session.new (A.seen answers.old) (A.seen answers.new)) }
     ensures stops { (c : Spelled) → RepresentsCommand command.entry c
-        → StopsOver result session.old session.new (prepend_commands (c ∷ []) (end_reading end)) (A.seen answers.old)
+        → StopsInScript result session.old session.new (prepend_commands (c ∷ []) (end_reading end)) (A.seen answers.old)
         (A.seen answers.new) }
     ensures cause { (c : Spelled) → RepresentsCommand command.entry c
-        → CausedOver result session.old session.new (prepend_commands (c ∷ []) (end_reading end)) }
+        → IsCausedByScript result session.old session.new (prepend_commands (c ∷ []) (end_reading end)) }
     ensures ready { OnOk result (IsReadySolver session.new.solver) }
     ensures written { WritesBoth result (A.seen answers.old) (A.seen answers.new) session.old.solver
         session.new.solver }
@@ -146,21 +146,21 @@ pub(crate) fn serve_all<S: CountedRead, A: CountedWrite, C: CountedWrite + Drop>
     script: &mut S,
     answers: &mut A,
 ) -> Result<Option<u64>, RunFault>
-    requires goes_on { RunGoesOn session.old }
+    requires goes_on { RunInvariant session.old }
     requires at { HasStateBetweenCommands session.old initial_state }
     requires open_yet { IsNotAtEnd (source_in S.seen script.old stream.old.ahead) }
     requires means { ReaderMeans stream.old.reader reading }
-    requires counts { MeansIf false stream.old.reader plain_reading }
+    requires counts { ReaderMeansIf false stream.old.reader plain_reading }
     ensures serves { ServesScript initial_state reading plain_reading result
         (source_in S.seen script.old stream.old.ahead) (source_in S.seen script.new stream.new.ahead) session.old
         session.new (A.seen answers.old) (A.seen answers.new) }
-    ensures stops { (start : Reader) → ReadsOn start (source_in S.seen script.old stream.old.ahead) stream.old.reader
-        → StopsReading start (S.seen script.new) }
+    ensures stops { KeepsAccount result (source_in S.seen script.old stream.old.ahead)
+        (source_in S.seen script.new stream.new.ahead) stream.old.reader stream.new.reader }
 {
     loop {
         let next = match stream.next(script) {
             Ok(next) => next,
-            Err(error) => return Err(unread_script(error)),
+            Err(error) => return Err(script_read_fault(error)),
         };
         match next {
             Next::Command => serve_next(session, answers, stream.command())?,

@@ -5,10 +5,10 @@ ghost use Rattle.sat_base.specs.script.ScriptState.{initial_state};
 ghost use Rattle.sat_solver.specs.proof.Counting.{nothing_counted as uncounted};
 ghost use Rattle.sat_solver.specs.proof.ProofView.{Open};
 ghost use Rattle.certify.specs.run.SolverCalls.{IsReadySolver};
-ghost use Rattle.certify.specs.run.BetweenCommands.{RunGoesOn, HasStateBetweenCommands};
+ghost use Rattle.certify.specs.run.BetweenCommands.{RunInvariant, HasStateBetweenCommands};
 
 use super::page::Page;
-use crate::judge::Names;
+use crate::refusals::Names;
 use crate::summary::AskReport;
 use sat_base::CountedWrite;
 use sat_solver::facade::laws::steps_record_answers;
@@ -59,7 +59,7 @@ fn solver_into<C: CountedWrite + Drop>(alloc: Global, certificate: C) -> Solver<
 impl<C: CountedWrite + Drop> RunState<C> {
     /// Returns the state before the first command. The run writes its certificate to `certificate`.
     pub fn new(alloc: Global, certificate: C, budget: u64) -> RunState<C>
-        ensures goes_on { RunGoesOn result }
+        ensures goes_on { RunInvariant result }
         ensures at { HasStateBetweenCommands result initial_state }
         ensures steps { result.solver.steps ≡ [] }
         ensures target { result.solver.target

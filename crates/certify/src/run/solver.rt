@@ -4,8 +4,9 @@
 ghost use Rattle.std.specs.Prelude.{IfOk, IfErr, OnOk};
 ghost use Rattle.sat_solver.specs.variables.VariableRoom.{user_vars_in};
 ghost use Rattle.sat_solver.specs.facade.Calls.{HasFullStore};
-ghost use Rattle.certify.specs.run.SolverCalls.{AssumptionsAccepted, ClauseAccepted, FailsIf, IsAllowed, IsCaused, IsReadySolver};
-ghost use Rattle.certify.specs.run.SolverCalls.{Limited, RefusedForRoom, Searched, Solved};
+ghost use Rattle.certify.specs.run.SolverCalls.{AssumptionsAccepted, ClauseAccepted, FailsIf, AreAllowedNames};
+ghost use Rattle.certify.specs.run.SolverCalls.{IsCaused, IsReadySolver};
+ghost use Rattle.certify.specs.run.SolverCalls.{RoundsLimited, RefusedForRoom, Searched, Solved};
 
 use super::faults::{fault_of, is_interrupted};
 use crate::fault::RunFault;
@@ -20,7 +21,7 @@ pub fn add_clause<C: CountedWrite + Drop>(
     literals: &[Lit],
 ) -> Result<(), RunFault>
     requires ready { IsReadySolver solver.old }
-    requires allowed { IsAllowed solver.old literals.now }
+    requires allowed { AreAllowedNames solver.old literals.now }
     ensures added { OnOk result (ClauseAccepted solver.old solver.new literals.now) }
     ensures fails { FailsIf result solver.old solver.new }
     ensures cause { IfErr result (λ e. IsCaused e (HasFullStore solver.new)
@@ -41,7 +42,7 @@ pub fn assume<C: CountedWrite + Drop>(
     literals: &[Lit],
 ) -> Result<(), RunFault>
     requires ready { IsReadySolver solver.old }
-    requires allowed { IsAllowed solver.old literals.now }
+    requires allowed { AreAllowedNames solver.old literals.now }
     ensures assumed { OnOk result (AssumptionsAccepted solver.old solver.new literals.now) }
     ensures fails { FailsIf result solver.old solver.new }
     // Assuming literals stores no clause.
@@ -59,7 +60,7 @@ pub fn assume<C: CountedWrite + Drop>(
 /// Limits every search from now on to `budget` rounds.
 fn limit_rounds<C: CountedWrite + Drop>(solver: &mut Solver<C>, budget: u64)
     requires { IsReadySolver solver.old }
-    ensures { Limited budget solver.old solver.new }
+    ensures { RoundsLimited budget solver.old solver.new }
 {
     let mut update = SolverConfigUpdate::new();
     update.max_steps = Some(budget);

@@ -1,7 +1,7 @@
 //! Writes answers.
 ghost use Rattle.std.specs.Prelude.{◌≡◌, IfErr, OnErr, OnOk};
 ghost use Rattle.sat_base.specs.device.Device.{WriterFails, WriterAccepts};
-ghost use Rattle.certify.specs.Devices.{OneFailed};
+ghost use Rattle.certify.specs.Devices.{OneWriterCallFailed};
 
 use crate::fault::RunFault;
 use sat_base::CountedWrite;
@@ -10,7 +10,7 @@ use sat_base::CountedWrite;
 pub fn write_answer<A: CountedWrite>(answers: &mut A, text: &[u8]) -> Result<(), RunFault>
     ensures takes { OnOk result (WriterAccepts (A.seen answers.old) (A.seen answers.new) text.now) }
     ensures fails { IfErr result (λ e. (e ≡ RunFault.AnswersWrite)
-        × OneFailed (A.seen answers.old) (A.seen answers.new)) }
+        × OneWriterCallFailed (A.seen answers.old) (A.seen answers.new)) }
     ensures breaks { OnErr result (WriterFails (A.seen answers.old) (A.seen answers.new) text.now) }
 {
     match answers.write_all_counted(text) {

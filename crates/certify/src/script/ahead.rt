@@ -1,6 +1,6 @@
 //! Bytes that are read from a reader before they are needed.
 ghost use Rattle.std.specs.Prelude.{◌≤◌};
-ghost use Rattle.sat_base.specs.device.Device.{most_reads};
+ghost use Rattle.sat_base.specs.device.Device.{max_reads};
 
 mod bytes;
 
@@ -17,5 +17,5 @@ pub(crate) struct LastPiece {
     reads: u64,
     ghost ordered: { at ≤ end },
     ghost within: { end ≤ 4096 },
-    ghost bounded: { reads ≤ most_reads },
+    ghost bounded: { reads ≤ max_reads },
 }

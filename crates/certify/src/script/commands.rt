@@ -2,8 +2,9 @@
 ghost use Rattle.std.specs.Prelude.{◌≡◌, ◌<◌, ◌&&◌, ◌||◌, ℕ, [], ◌∷◌, Bool, false, not, IfOk};
 ghost use Rattle.sat_base.specs.text.Text.{Token as Spelled, Letter, Number};
 ghost use Rattle.sat_base.specs.text.Tokenizing.{capped, capped_token};
-ghost use Rattle.sat_base.specs.script.Language.{PartialCommand, Nothing, allows_sign};
-ghost use Rattle.certify.specs.script.Commands.{BeginsKind, EndsSo, HoldsPartialCommand, TakesToken, end_if};
+ghost use Rattle.sat_base.specs.script.Language.{PartialCommand, NoCommand, allows_sign};
+ghost use Rattle.certify.specs.script.Commands.{LetterBeginsKind, EndsCommands, HoldsPartialCommand, ReceivesToken};
+ghost use Rattle.certify.specs.script.Commands.{end_reading_if};
 ghost use Rattle.certify.specs.script.Commands.{is_ask_kind};
 ghost use Rattle.certify.specs.script.Commands.{kind_of, remaining_reading};
 
@@ -24,7 +25,7 @@ pub(crate) struct Commands {
 
 /// Returns the kind of command that `letter` begins, or `None`.
 fn kind_of_letter(letter: u8) -> Option<CommandKind>
-    ensures { BeginsKind result letter }
+    ensures { LetterBeginsKind result letter }
 {
     match letter {
         b'a' => Some(CommandKind::Ask),
@@ -60,7 +61,7 @@ fn is_ask(kind: CommandKind) -> bool
 impl Commands {
     /// Returns the state before the first token.
     pub fn new(alloc: Global) -> Commands
-        ensures draft { HoldsPartialCommand result.draft Nothing }
+        ensures draft { HoldsPartialCommand result.draft NoCommand }
         ensures headed { result.headed ≡ false }
         ensures asked { result.asked ≡ false }
     {
@@ -81,7 +82,7 @@ impl Commands {
     /// Completes the command, after the `0` that ends it.
     #[inline(always)]
     fn end_command(&mut self)
-        ensures { (negative : Bool) → TakesToken Reached.Command self.old (Number negative 0) self.new }
+        ensures { (negative : Bool) → ReceivesToken Reached.Command self.old (Number negative 0) self.new }
     {
         self.draft.end();
         self.asked = self.has_asked();
@@ -93,7 +94,7 @@ impl Commands {
     fn add_literal(&mut self, name: u64, negative: bool) -> Result<Reached, AllocError>
         requires { 0 < name }
         ensures { IfOk result (λ reached. (value : ℕ) → name ≡ capped value
-            → TakesToken reached self.old (Number negative value) self.new) }
+            → ReceivesToken reached self.old (Number negative value) self.new) }
     {
         self.draft.open();
         if !allows_sign(self.draft.kind, !negative) {
@@ -106,7 +107,7 @@ impl Commands {
     /// Begins the command that `letter` stands for, and returns `More`. Returns `Malformed` if there is no such
     /// command, or if a command is being read.
     fn begin(&mut self, letter: u8) -> Reached
-        ensures { TakesToken result self.old (Letter letter) self.new }
+        ensures { ReceivesToken result self.old (Letter letter) self.new }
     {
         if self.draft.is_open {
             return Reached::Malformed;
@@ -122,7 +123,7 @@ impl Commands {
     #[inline(always)]
     pub fn take(&mut self, token: Token) -> Result<Reached, AllocError>
         ensures { IfOk result (λ reached. (t : Spelled) → token ≡ capped_token t
-            → TakesToken reached self.old t self.new) }
+            → ReceivesToken reached self.old t self.new) }
     {
         match token {
             Token::Number { negative, value } => {
@@ -151,7 +152,7 @@ impl Commands {
     /// Returns how the script ends if its text ends here, after a complete command or within one.
     pub fn ending(&self) -> ScriptEnd
         ensures { (asks : Bool) (hand : PartialCommand) → HoldsPartialCommand self.now.draft hand
-            → end_if asks result ≡ remaining_reading asks self.now hand [] }
+            → end_reading_if asks result ≡ remaining_reading asks self.now hand [] }
     {
         if self.draft.is_open {
             return ScriptEnd::Malformed;
@@ -167,7 +168,7 @@ impl Commands {
     pub fn finish_with(&mut self, token: Token) -> (bool, ScriptEnd)
         ensures { (t : Spelled) → token ≡ capped_token t → (asks : Bool) (hand : PartialCommand)
             → HoldsPartialCommand self.old.draft hand
-            → EndsSo asks result.0 result.1 self.new (remaining_reading asks self.old hand (t ∷ [])) }
+            → EndsCommands asks result.0 result.1 self.new (remaining_reading asks self.old hand (t ∷ [])) }
     {
         match token {
             Token::Number { value, .. } => {

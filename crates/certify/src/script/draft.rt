@@ -1,8 +1,9 @@
 //! The command that is being read.
 ghost use Rattle.std.specs.Prelude.{◌<◌, ◌++◌, ◌∷◌, [], List, true, false, OnOk};
 ghost use Rattle.sat_base.specs.script.Script.{Literal};
-ghost use Rattle.sat_base.specs.script.Language.{PartialCommand, Kind, Nothing, Within, command_in};
-ghost use Rattle.certify.specs.script.Commands.{HoldsPartialCommand, IsNumbered, IsWholeCommand, kind_of, opened};
+ghost use Rattle.sat_base.specs.script.Language.{PartialCommand, Kind, NoCommand, InCommand, command_in};
+ghost use Rattle.certify.specs.script.Commands.{HoldsPartialCommand, IsNumbered, IsWholeCommand, kind_of};
+ghost use Rattle.certify.specs.script.Commands.{or_empty_clause};
 
 use super::CommandKind;
 use sat_base::{Lit, Var};
@@ -22,7 +23,7 @@ pub(crate) struct Draft {
 impl Draft {
     /// Returns a draft without a command. Never allocates.
     pub fn new(alloc: Global) -> Draft
-        ensures { HoldsPartialCommand result Nothing }
+        ensures { HoldsPartialCommand result NoCommand }
     {
         Draft {
             kind: CommandKind::Clause,
@@ -35,7 +36,7 @@ impl Draft {
     /// Begins a command.
     #[inline(always)]
     pub fn begin(&mut self, kind: CommandKind)
-        ensures { HoldsPartialCommand self.new (Within (kind_of kind) []) }
+        ensures { HoldsPartialCommand self.new (InCommand (kind_of kind) []) }
     {
         self.kind = kind;
         self.literals.clear();
@@ -48,7 +49,7 @@ impl Draft {
     pub fn add(&mut self, name: u64, positive: bool) -> Result<(), AllocError>
         requires { 0 < name }
         ensures { OnOk result ((kind : Kind) (ls : List Literal) (l : Literal) → IsNumbered l name positive
-            → HoldsPartialCommand self.old (Within kind ls) → HoldsPartialCommand self.new (Within kind (ls ++ l ∷ []))) }
+            → HoldsPartialCommand self.old (InCommand kind ls) → HoldsPartialCommand self.new (InCommand kind (ls ++ l ∷ []))) }
     {
         if self.past_limit {
             return Ok(());
@@ -65,7 +66,7 @@ impl Draft {
     /// Begins a clause if no command is being read.
     #[inline(always)]
     pub fn open(&mut self)
-        ensures { (hand : PartialCommand) → HoldsPartialCommand self.old hand → HoldsPartialCommand self.new (opened hand) }
+        ensures { (hand : PartialCommand) → HoldsPartialCommand self.old hand → HoldsPartialCommand self.new (or_empty_clause hand) }
     {
         if !self.is_open {
             self.begin(CommandKind::Clause);
@@ -76,7 +77,7 @@ impl Draft {
     /// command is the clause without literals.
     #[inline(always)]
     pub fn end(&mut self)
-        ensures none { HoldsPartialCommand self.new Nothing }
+        ensures none { HoldsPartialCommand self.new NoCommand }
         ensures whole { (hand : PartialCommand) → HoldsPartialCommand self.old hand → IsWholeCommand self.new (command_in hand) }
     {
         self.open();

@@ -2,12 +2,12 @@
 ghost use Rattle.std.specs.Prelude.{◌≡◌, ◌<◌, ◌≤◌, ℕ, Bool, false, List, [], None, length, take, IfOk, MatchOption};
 ghost use Rattle.sat_base.specs.script.Script.{Command as SpelledCommand};
 ghost use Rattle.sat_base.specs.script.Language.{Reading, reading, plain_reading};
-ghost use Rattle.sat_base.specs.text.Text.{Scan};
-ghost use Rattle.sat_base.specs.text.Tokenizing.{IsPositionedBefore, ReceivesPrefix};
+ghost use Rattle.sat_base.specs.text.Text.{Scan, scan};
+ghost use Rattle.sat_base.specs.text.Tokenizing.{capped, HasRemainingScan, ReceivesPrefix};
 ghost use Rattle.sat_base.specs.text.WrongWords.{HasValidContinuation};
-ghost use Rattle.certify.specs.script.Commands.{EndsLast, EndsWhateverFollows, HasWhole, RepresentsCommand};
+ghost use Rattle.certify.specs.script.Commands.{EndsScript, EndsWhateverFollows, HasWholeCommand, RepresentsCommand};
 ghost use Rattle.certify.specs.script.Commands.{RestMatters, CanContinue};
-ghost use Rattle.certify.specs.script.Commands.{MeansIf, ReaderMeans, TakesBytes};
+ghost use Rattle.certify.specs.script.Commands.{ReaderMeansIf, ReaderMeans, ReceivesBytes};
 ghost use Rattle.certify.specs.script.LastChunk.{ConsumesText, HasConsumed};
 
 use super::commands::Commands;
@@ -32,7 +32,7 @@ fn take_token(tokenizer: &mut Tokenizer, bytes: &[u8]) -> (usize, Option<Token>)
     ensures some { 0 < result.0 }
     ensures within { result.0 ≤ length bytes.now }
     ensures takes { ReceivesPrefix tokenizer.old (take result.0 bytes.now) result.1 tokenizer.new }
-    ensures right { (result.1 ≡ None → ⊥) → (after : List ℕ → Scan) → IsPositionedBefore tokenizer.new after
+    ensures right { (result.1 ≡ None → ⊥) → (after : List ℕ → Scan) → HasRemainingScan tokenizer.new after
         → HasValidContinuation after }
 {
     match tokenizer.push_whole(bytes) {
@@ -45,7 +45,7 @@ impl ScriptReader {
     /// Returns a reader for a new script.
     pub fn new(alloc: Global) -> ScriptReader
         ensures means { ReaderMeans result reading }
-        ensures counts { MeansIf false result plain_reading }
+        ensures counts { ReaderMeansIf false result plain_reading }
         ensures text { HasConsumed result [] }
     {
         ScriptReader {
@@ -56,7 +56,7 @@ impl ScriptReader {
 
     /// Returns the command that was completed last.
     pub fn command(&self) -> Command<'_>
-        ensures { (c : SpelledCommand) → HasWhole self.now c → RepresentsCommand result c }
+        ensures { (c : SpelledCommand) → HasWholeCommand self.now c → RepresentsCommand result c }
     {
         Command {
             kind: self.commands.draft.kind,
@@ -74,7 +74,7 @@ impl ScriptReader {
         ensures all { IfOk result (λ r. r.1 ≡ Reached.More → r.0 ≡ length bytes.now) }
         // A malformed word is reported at the first byte after which it can no longer become a valid one.
         ensures right { IfOk result (λ r. 0 < length bytes.now → r.1 ≡ Reached.More → CanContinue self.new) }
-        ensures takes { IfOk result (λ r. TakesBytes r.1 self.old (take r.0 bytes.now) self.new) }
+        ensures takes { IfOk result (λ r. ReceivesBytes r.1 self.old (take r.0 bytes.now) self.new) }
         ensures text { IfOk result (λ r. ConsumesText self.old (take r.0 bytes.now) self.new) }
     {
         let mut at = 0;
@@ -107,10 +107,19 @@ impl ScriptReader {
         None
     }
 
+    /// Returns the line number of the last byte that was consumed, or 0 if none was. Lines are numbered from 1, and the
+    /// number is capped at 2^64-1.
+    pub fn line(&self) -> u64
+        ensures { (text : List ℕ) → HasConsumed self.now text → result ≡ capped (scan text).last }
+    {
+        self.tokenizer.line()
+    }
+
     /// Handles the end of the text. Returns whether the end completes a command, and how the script ends.
     pub fn finish(&mut self) -> (bool, ScriptEnd)
-        ensures { (asks : Bool) (before : List ℕ → Reading) → MeansIf asks self.old before
-            → EndsLast asks result.0 result.1 self.new (before []) }
+        ensures tokenizer { self.new.tokenizer ≡ self.old.tokenizer }
+        ensures ends { (asks : Bool) (before : List ℕ → Reading) → ReaderMeansIf asks self.old before
+            → EndsScript asks result.0 result.1 self.new (before []) }
     {
         match self.tokenizer.finish() {
             None => (false, self.commands.ending()),

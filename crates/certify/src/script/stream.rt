@@ -1,12 +1,15 @@
 //! Reads scripts command by command.
-ghost use Rattle.std.specs.Prelude.{◌≡◌, [], false};
+ghost use Rattle.std.specs.Prelude.{◌≡◌, ℕ, List, [], false};
 ghost use Rattle.sat_base.specs.script.Script.{Command as SpelledCommand};
 ghost use Rattle.certify.specs.script.LastPiece.{IsNotAtEnd, source_in, waiting_bytes};
-ghost use Rattle.certify.specs.script.Commands.{HasWhole, RepresentsCommand, RestMatters, MeansIf, ReaderMeans};
-ghost use Rattle.certify.specs.script.LastChunk.{HasConsumed, KeepsReadingOn, ReadsOnUpTo};
+ghost use Rattle.certify.specs.script.Commands.{HasWholeCommand, RepresentsCommand, RestMatters, ReaderMeansIf};
+ghost use Rattle.certify.specs.script.Commands.{ReaderMeans};
+ghost use Rattle.certify.specs.script.LastChunk.{HasConsumed, KeepsAccount};
 ghost use Rattle.sat_base.specs.script.Language.{reading, plain_reading};
-ghost use Rattle.certify.specs.script.Streaming.{Brings, NextCommandResult, LeavesFewerTurns, FinishesText};
-ghost use Rattle.certify.specs.script.Streaming.{TakesWaiting};
+ghost use Rattle.certify.specs.script.Streaming.{ReadsTowardsNext, NextCommandResult, LeavesFewerCalls, FinishesText};
+ghost use Rattle.certify.specs.script.Streaming.{ConsumesWaiting};
+ghost use Rattle.sat_base.specs.text.Text.{scan};
+ghost use Rattle.sat_base.specs.text.Tokenizing.{capped};
 
 use super::reader::ScriptReader;
 use super::{Command, Reached, ScriptEnd};
@@ -36,7 +39,7 @@ impl CommandStream {
     /// Returns a stream of the commands of a new script.
     pub fn new(alloc: Global) -> CommandStream
         ensures means { ReaderMeans result.reader reading }
-        ensures counts { MeansIf false result.reader plain_reading }
+        ensures counts { ReaderMeansIf false result.reader plain_reading }
         ensures text { HasConsumed result.reader [] }
         ensures waiting { waiting_bytes result.ahead ≡ [] }
         ensures reads { result.ahead.reads ≡ 0 }
@@ -49,22 +52,31 @@ impl CommandStream {
 
     /// Returns the command that was completed last.
     pub fn command(&self) -> Command<'_>
-        ensures { (c : SpelledCommand) → HasWhole self.now.reader c → RepresentsCommand result c }
+        ensures { (c : SpelledCommand) → HasWholeCommand self.now.reader c → RepresentsCommand result c }
     {
         self.reader.command()
     }
 
     /// Consumes bytes that have already been read, up to the end of a command. Returns how far the reader got.
     fn take(&mut self) -> Result<Reached, AllocError>
-        ensures { TakesWaiting result self.old self.new }
+        ensures { ConsumesWaiting result self.old self.new }
     {
         let (count, reached) = self.reader.push(self.ahead.waiting())?;
         self.ahead.consume(count);
         Ok(reached)
     }
 
+    /// Returns the line number of the last byte that was consumed, or 0 if none was. Lines are numbered from 1, and the
+    /// number is capped at 2^64-1.
+    pub fn line(&self) -> u64
+        ensures { (text : List ℕ) → HasConsumed self.now.reader text → result ≡ capped (scan text).last }
+    {
+        self.reader.line()
+    }
+
     /// Handles the end of the text. Returns that end, with the command that it completes, if any.
     fn finish(&mut self) -> Next
+        ensures tokenizer { self.new.reader.tokenizer ≡ self.old.reader.tokenizer }
         ensures finishes { FinishesText result self.old.reader self.new.reader }
         ensures ahead { self.new.ahead ≡ self.old.ahead }
     {
@@ -80,10 +92,10 @@ impl CommandStream {
     fn refill<S: CountedRead>(&mut self, script: &mut S) -> Result<Option<Next>, ReadError>
         requires waiting { waiting_bytes self.old.ahead ≡ [] }
         requires looks_on { RestMatters self.old.reader }
-        ensures brings { Brings result (source_in S.seen script.old self.old.ahead)
+        ensures brings { ReadsTowardsNext result (source_in S.seen script.old self.old.ahead)
             (source_in S.seen script.new self.new.ahead) self.old.reader self.new.reader }
-        ensures falls { LeavesFewerTurns result self.old.ahead self.new.ahead }
-        ensures stops { KeepsReadingOn result (source_in S.seen script.old self.old.ahead)
+        ensures falls { LeavesFewerCalls result self.old.ahead self.new.ahead }
+        ensures stops { KeepsAccount result (source_in S.seen script.old self.old.ahead)
             (source_in S.seen script.new self.new.ahead) self.old.reader self.new.reader }
     {
         if self.ahead.refill(script)? == 0 {
@@ -97,10 +109,10 @@ impl CommandStream {
     fn read_on<S: CountedRead>(&mut self, script: &mut S) -> Result<Option<Next>, ReadError>
         requires open_yet { IsNotAtEnd (source_in S.seen script.old self.old.ahead) }
         requires waiting { waiting_bytes self.old.ahead ≡ [] }
-        ensures brings { Brings result (source_in S.seen script.old self.old.ahead)
+        ensures brings { ReadsTowardsNext result (source_in S.seen script.old self.old.ahead)
             (source_in S.seen script.new self.new.ahead) self.old.reader self.new.reader }
-        ensures falls { LeavesFewerTurns result self.old.ahead self.new.ahead }
-        ensures stops { KeepsReadingOn result (source_in S.seen script.old self.old.ahead)
+        ensures falls { LeavesFewerCalls result self.old.ahead self.new.ahead }
+        ensures stops { KeepsAccount result (source_in S.seen script.old self.old.ahead)
             (source_in S.seen script.new self.new.ahead) self.old.reader self.new.reader }
     {
         match self.reader.end_if_over() {
@@ -113,10 +125,10 @@ impl CommandStream {
     /// reaches the end of the text.
     fn advance<S: CountedRead>(&mut self, script: &mut S) -> Result<Option<Next>, ReadError>
         requires { IsNotAtEnd (source_in S.seen script.old self.old.ahead) }
-        ensures brings { Brings result (source_in S.seen script.old self.old.ahead)
+        ensures brings { ReadsTowardsNext result (source_in S.seen script.old self.old.ahead)
             (source_in S.seen script.new self.new.ahead) self.old.reader self.new.reader }
-        ensures falls { LeavesFewerTurns result self.old.ahead self.new.ahead }
-        ensures stops { KeepsReadingOn result (source_in S.seen script.old self.old.ahead)
+        ensures falls { LeavesFewerCalls result self.old.ahead self.new.ahead }
+        ensures stops { KeepsAccount result (source_in S.seen script.old self.old.ahead)
             (source_in S.seen script.new self.new.ahead) self.old.reader self.new.reader }
     {
         if self.ahead.waiting().is_empty() {
@@ -134,7 +146,7 @@ impl CommandStream {
         requires { IsNotAtEnd (source_in S.seen script.old self.old.ahead) }
         ensures arrives { NextCommandResult result (source_in S.seen script.old self.old.ahead)
             (source_in S.seen script.new self.new.ahead) self.old.reader self.new.reader }
-        ensures stops { ReadsOnUpTo result (source_in S.seen script.old self.old.ahead)
+        ensures stops { KeepsAccount result (source_in S.seen script.old self.old.ahead)
             (source_in S.seen script.new self.new.ahead) self.old.reader self.new.reader }
     {
         loop {

@@ -5,41 +5,41 @@ use Rattle.sat_base.specs.declared.device.tally.Tally.{Tally}
 use Rattle.sat_base.specs.device.Device.{Reader, Writer}
 
 -- WHAT A CALL ADDS TO A TALLY
--- the tally before the first call
+-- the tally of a device's calls before the first one
 abbrev pub no_calls : Tally
 no_calls = record { calls = 0; failures = 0; given = []; taken = []; ended = false; flushed = false; failed = false; flushes = 0 }
 
--- the tally after a call that did not fail, did not flush and did not find the end
+-- the tally of a device's calls after one more, which did not fail, did not flush and did not find the end
 abbrev pub after_call : Tally → Tally
 after_call t = record t { calls = t.calls + 1; ended = false; flushed = false; failed = false }
 
--- the tally after a read that gave `bytes`
+-- the tally of a device's calls after one more, a read that gave `bytes`
 abbrev pub after_read : List ℕ → Tally → Tally
 after_read bytes t = record (after_call t) { given = t.given ++ bytes }
 
--- the tally after a read that found the end
+-- the tally of a device's calls after one more, a read that found the end
 abbrev pub after_end : Tally → Tally
 after_end t = record (after_call t) { ended = true }
 
--- the tally after a write that accepted `bytes`
+-- the tally of a device's calls after one more, a write that accepted `bytes`
 abbrev pub after_write : List ℕ → Tally → Tally
 after_write bytes t = record (after_call t) { taken = t.taken ++ bytes }
 
--- the tally after a flush that did not fail
+-- the tally of a device's calls after one more, a flush that did not fail
 abbrev pub after_flush : Tally → Tally
 after_flush t = record (after_call t) { flushed = true; flushes = t.flushes + 1 }
 
--- the tally after a call that failed
+-- the tally of a device's calls after one more, which failed
 abbrev pub after_failure : Tally → Tally
 after_failure t = record (after_call t) { failures = t.failures + 1; failed = true }
 
 -- WHAT CONTRACTS SEE
 
--- the device whose calls are counted
+-- the device itself, without the tally of its calls
 abbrev pub device_of : {D : Type 0} → Counted D → D
 device_of c = c.device
 
--- the device as a reader; its remaining bytes may be known
+-- what contracts see of a counted device as a reader; `remaining` gives its bytes still to come, if they are known
 abbrev pub reader_of : {D : Type 0} → (D → Option (List ℕ)) → Counted D → Reader
 reader_of remaining c = record {
   to_come = remaining c.device;
@@ -51,7 +51,7 @@ reader_of remaining c = record {
   loans = [];
 }
 
--- the device as a writer
+-- what contracts see of a counted device as a writer; `contents` gives what it holds, if that is known
 abbrev pub writer_of : {D : Type 0} → (D → Option (List ℕ)) → Counted D → Writer
 writer_of contents c = record {
   contents = contents c.device;
@@ -64,11 +64,11 @@ writer_of contents c = record {
   loans = [];
 }
 
--- a reader that was never called
+-- a reader that was never called, with the bytes `bytes` still to come, if they are known
 abbrev pub new_reader : Option (List ℕ) → Reader
 new_reader bytes = record { to_come = bytes; given = []; ended = false; failed = false; failures = 0; calls = 0; loans = [] }
 
--- a writer that was never called
+-- a writer that was never called and holds `bytes`, if that is known
 abbrev pub new_writer : Option (List ℕ) → Writer
 new_writer bytes = record {
   contents = bytes;

@@ -19,20 +19,21 @@ pub record HasReadRoom {R : Type 0} (i : Input R) : Type 0 where
   pub some : 0 < i.room
   pub fits : unread_in i ≤ i.room
 
--- `ReadsWithinRoom old new` holds if the bytes left are fewer than the input may read at once, and this limit is the
--- same.
+-- `ReadsWithinRoom old new` holds if, in `new`, fewer bytes are not yet consumed than the limit `room` of `old` on one
+-- read allows, and this limit is unchanged.
 pub record ReadsWithinRoom {R : Type 0} (old new : Input R) : Type 0 where
   pub left : unread_in new < old.room
   pub room : new.room ≡ old.room
 
--- `HasCapacityFor l count` holds if each of the lists has capacity for this many items.
+-- `HasCapacityFor l count` holds if each of the lists of literals, hashes and units has capacity for `count` items in
+-- all.
 pub record HasCapacityFor (l : Lists) (count : ℕ) : Type 0 where
   pub literals : count ≤ vec_capacity l.literals
   pub hashes : count ≤ vec_capacity l.hashes
   pub units : count ≤ vec_capacity l.units
 
--- `HasItemRoom l room` holds if each of the lists has capacity for the items that all but one of `room` bytes can
--- spell.
+-- `HasItemRoom l room` holds if each of the lists of literals, hashes and units has capacity for at least `room` - 1
+-- items: as many as all but one of `room` bytes can spell.
 pub record HasItemRoom (l : Lists) (room : ℕ) : Type 0 where
   pub literals : room ≤ vec_capacity l.literals + 1
   pub hashes : room ≤ vec_capacity l.hashes + 1

@@ -30,21 +30,23 @@ pub record SinkFails (old new : Sink) (text : List ℕ) : Type 0 where
   pub breaks : WriterFails old.writer new.writer (old.waiting ++ text)
   pub none : new.waiting ≡ []
 
--- `SendsText text r old new` holds if `text` was sent, or one call failed; `r` says which.
+-- `SendsText text r old new` holds if the result `r` is `Ok` and `text` was put after the pending bytes (`AddsToSink`),
+-- or it is an error and a call of the writer failed (`SinkFails`).
 abbrev pub SendsText : {E : Type 0} → List ℕ → Result (Unit {0}) E → Sink → Sink → Type 0
 SendsText text r old new = MatchResult r (λ _. AddsToSink old new text) (λ _. SinkFails old new text)
 
--- `Writes F x text r old new` holds if `text`, which spells the value `x`, was sent, or one call failed; `r` says
--- which.
-abbrev pub Writes : {A E : Type 0} → Format A → A → List ℕ → Result (Unit {0}) E → Sink → Sink → Type 0
-Writes F x text r old new = MatchResult r (λ _. AddsToSink old new text × F x text) (λ _. SinkFails old new text)
+-- `SendsValue F x text r old new` holds if the result `r` is `Ok` and `text`, which spells the value `x` in the format
+-- `F`, was put after the pending bytes, or it is an error and a call of the writer failed.
+abbrev pub SendsValue : {A E : Type 0} → Format A → A → List ℕ → Result (Unit {0}) E → Sink → Sink → Type 0
+SendsValue F x text r old new = MatchResult r (λ _. AddsToSink old new text × F x text) (λ _. SinkFails old new text)
 
--- `SinkIsFlushed old new` holds if the pending bytes were written, nothing is pending, and the last call was a flush.
+-- `SinkIsFlushed old new` holds if all pending bytes of `old` were written, nothing is pending in `new`, and the last
+-- call was a flush that did not fail.
 pub record SinkIsFlushed (old new : Sink) : Type 0 where
   pub sent : AddsToSink old new []
   pub none : new.waiting ≡ []
   pub flushed : new.writer.flushed ≡ true
 
--- `Flushes r old new` holds if the pending bytes were written and flushed, or one call failed; `r` says which.
-abbrev pub Flushes : {E : Type 0} → Result (Unit {0}) E → Sink → Sink → Type 0
-Flushes r old new = MatchResult r (λ _. SinkIsFlushed old new) (λ _. SinkFails old new [])
+-- `FlushesSink r old new` holds if the pending bytes were written and flushed, or one call failed; `r` says which.
+abbrev pub FlushesSink : {E : Type 0} → Result (Unit {0}) E → Sink → Sink → Type 0
+FlushesSink r old new = MatchResult r (λ _. SinkIsFlushed old new) (λ _. SinkFails old new [])

@@ -8,10 +8,10 @@ use Rattle.sat_base.specs.declared.text.Token.TheVariants as code
 use Rattle.sat_base.specs.text.Text.{Token, Number, Letter, Header, Wrong}
 use Rattle.sat_base.specs.text.Tokenizing.{capped}
 use Rattle.sat_base.specs.values.Formulas.{with_formula_clause}
-use Rattle.sat_base.specs.dimacs.Dimacs.{Malformed, Limit, PartialClause, TokenEffect, GoesOn, Ends, Fails, literals_in, token_effect}
+use Rattle.sat_base.specs.dimacs.Dimacs.{Malformed, Limit, PartialClause, TokenEffect, Continues, EndsClause, Fails, literals_in, token_effect}
 use Rattle.sat_base.specs.values.Literals.{var_limit}
 
--- the token with the numbers of a token of the code, which are capped at 2^64 - 1
+-- the token that a token of the code stands for; its numbers are those of the code, which are capped at 2^64 - 1
 abbrev pub token_of : CodeToken → Token
 token_of (code.Number negative value) = Number negative value
 token_of (code.Letter b) = Letter b
@@ -25,7 +25,7 @@ partial_clause_of (l ∷ ls) = Some (l ∷ ls)
 
 -- the unfinished clause of `clauses`, or `None` if it has no literals
 abbrev pub partial_clause_in : Clauses → PartialClause
-partial_clause_in clauses = partial_clause_of clauses.hand.items
+partial_clause_in clauses = partial_clause_of clauses.unfinished.items
 
 -- the header after a token: the token's numbers if it is a header, otherwise the header so far
 abbrev pub header_after : Token → Option (ℕ × ℕ) → Option (ℕ × ℕ)
@@ -42,11 +42,11 @@ SameClausesAndCount old new = (new.formula ≡ old.formula) × (new.count ≡ ol
 abbrev pub SameClausesAndHeader : Clauses → Clauses → Type 0
 SameClausesAndHeader old new = SameClausesAndCount old new × (new.header ≡ old.header)
 
--- `AppliesTokenEffect effect old new` holds if the clauses changed from `old` to `new` by `effect`, which is not a
--- fault.
+-- `AppliesTokenEffect effect old new` holds if the clauses collected so far changed from `old` to `new` as `effect`
+-- says: only the unfinished clause changed, or it ended and was added to the formula. It never holds for a fault.
 abbrev pub AppliesTokenEffect : TokenEffect → Clauses → Clauses → Type 0
-AppliesTokenEffect (GoesOn hand) old new = SameClausesAndCount old new × (partial_clause_in new ≡ hand)
-AppliesTokenEffect (Ends clause) old new = (new.formula ≡ with_formula_clause clause old.formula) × (new.count ≡ capped (old.count + 1)) × (partial_clause_in new ≡ None)
+AppliesTokenEffect (Continues unfinished) old new = SameClausesAndCount old new × (partial_clause_in new ≡ unfinished)
+AppliesTokenEffect (EndsClause clause) old new = (new.formula ≡ with_formula_clause clause old.formula) × (new.count ≡ capped (old.count + 1)) × (partial_clause_in new ≡ None)
 AppliesTokenEffect (Fails ending) old new = ⊥
 
 -- `is_literal token` is true if `token` is a literal: a number from 1 up to the limit, of either sign.
@@ -56,19 +56,20 @@ is_literal (Letter b) = false
 is_literal (Header v c) = false
 is_literal Wrong = false
 
--- `NeedsRoom t` holds if the token `t` may need memory: it is a literal, or it ends a clause.
-abbrev pub NeedsRoom : Token → Type 0
-NeedsRoom t = (is_literal t ≡ true) ⊎ ((hand : PartialClause) (n : ℕ) → token_effect hand n t ≡ Ends (literals_in hand))
+-- `IsLiteralOrEndsClause t` holds if the token `t` may need memory: it is a literal, or it ends a clause.
+abbrev pub IsLiteralOrEndsClause : Token → Type 0
+IsLiteralOrEndsClause t = (is_literal t ≡ true) ⊎ ((unfinished : PartialClause) (n : ℕ) → token_effect unfinished n t ≡ EndsClause (literals_in unfinished))
 
--- `CollectsToken result old t new` holds if collecting the token `t`, on whatever line, with `result` has led from
--- `old` to `new`. With an error, nothing has changed: `t` is a fault, or it may need memory.
+-- `CollectsToken result old t new` holds if collecting the token `t` with `result` has led from `old` to `new`: with
+-- `Ok`, its effect is applied; with an error, nothing changed, and `t` is the reported fault, or memory ran out and `t`
+-- is a literal or ends a clause.
 abbrev pub CollectsToken : Result (Unit {0}) Refusal → Clauses → Token → Clauses → Type 0
 CollectsToken (Ok u) old t new = ((n : ℕ) → AppliesTokenEffect (token_effect (partial_clause_in old) n t) old new) × (new.header ≡ header_after t old.header)
 CollectsToken (Err refusal.Malformed) old t new = SameClausesAndHeader old new × ((n : ℕ) → token_effect (partial_clause_in old) n t ≡ Fails (Malformed n))
 CollectsToken (Err refusal.Limit) old t new = SameClausesAndHeader old new × ((n : ℕ) → token_effect (partial_clause_in old) n t ≡ Fails (Limit n))
-CollectsToken (Err refusal.OutOfMemory) old t new = SameClausesAndHeader old new × NeedsRoom t
+CollectsToken (Err refusal.OutOfMemory) old t new = SameClausesAndHeader old new × IsLiteralOrEndsClause t
 
--- `IsInside flag hand` holds if `flag` says whether a clause is unfinished.
-abbrev pub IsInside : Bool → PartialClause → Type 0
-IsInside false hand = hand ≡ None
-IsInside true hand = (ls : List ℕ) × (hand ≡ Some ls)
+-- `IsUnfinishedFlag flag unfinished` holds if `flag` says whether a clause is unfinished.
+abbrev pub IsUnfinishedFlag : Bool → PartialClause → Type 0
+IsUnfinishedFlag false unfinished = unfinished ≡ None
+IsUnfinishedFlag true unfinished = (ls : List ℕ) × (unfinished ≡ Some ls)

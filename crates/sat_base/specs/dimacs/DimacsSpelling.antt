@@ -5,7 +5,7 @@ use Rattle.sat_base.specs.values.Literals.{var_limit, variable, is_positive}
 use Rattle.sat_base.specs.text.Text.{Token, Number, Header, tokens}
 use Rattle.sat_base.specs.dimacs.Dimacs.{Ending, Clean, IsDimacs}
 use Rattle.sat_base.specs.script.Language.{without_lines}
-use Rattle.sat_base.specs.script.ScriptSpelling.{IsZero}
+use Rattle.sat_base.specs.script.ScriptSpelling.{IsZeroToken}
 
 -- the token of a literal: the number of its variable, counted from 1, negative if the literal is
 abbrev pub signed_number : ℕ → Token
@@ -17,7 +17,7 @@ AreWithinLimit ls = AllByRecursion (λ l. variable l < var_limit) ls
 
 -- `SpellsClause ls ts` holds if the tokens spell the clause `ls`: the numbers of its literals, then a zero.
 abbrev pub SpellsClause : List ℕ → List Token → Type 0
-SpellsClause ls ts = (last : Token) × IsZero last × AreWithinLimit ls × (ts ≡ map signed_number ls ++ last ∷ [])
+SpellsClause ls ts = (last : Token) × IsZeroToken last × AreWithinLimit ls × (ts ≡ map signed_number ls ++ last ∷ [])
 
 -- `SpellsClauses cs ts` holds if the tokens spell the clauses, one after another.
 abbrev pub SpellsClauses : List (List ℕ) → List Token → Type 0
@@ -36,7 +36,7 @@ pub record OneFormula : Type 0 where
   pub one : (text : List ℕ) (cs ds : List (List ℕ)) (d e : Ending)
       → IsDimacs text cs d → IsDimacs text ds e → (cs ≡ ds) × (d ≡ e)
 
--- `CleanIfSpelled` holds if every text has a list of clauses and ends cleanly exactly when its tokens spell a formula
--- of these clauses.
+-- `CleanIfSpelled` holds if, for every text and list of clauses, the text ends cleanly with these clauses exactly if
+-- its tokens are the clauses' literals, each clause followed by a zero, possibly after a header.
 abbrev pub CleanIfSpelled : Type 0
 CleanIfSpelled = (text : List ℕ) (cs : List (List ℕ)) → IsDimacs text cs Clean ↔ SpellsFormula cs (without_lines (tokens text))

@@ -1,6 +1,6 @@
 -- The language of scripts: what a text means, token by token.
 use Rattle.std.specs.Prelude.{ℕ, ◌≡◌, Bool, true, not, ◌&&◌, Option, Some, None, List, [], ◌∷◌, ◌++◌, map, nat_eq, is_some, if◌then◌else◌}
-use Rattle.sat_base.specs.text.Text.{Token, Number, Letter, Header, Wrong, tokens, dimacs_header}
+use Rattle.sat_base.specs.text.Text.{Token, Number, Letter, Header, Wrong, tokens, dimacs_header, letter_a, letter_h, letter_s, letter_w}
 use Rattle.sat_base.specs.script.Script.{Literal, Command, Clause, Ask, Hide, Witness, Sample, ScriptEnding, Clean, Malformed, names_of, has_ask, is_clean}
 
 -- the kinds of command: a clause, which no letter begins, and the commands that `a`, `h`, `w` and `s` begin
@@ -11,7 +11,7 @@ pub data Kind : Type 0 where
   OfWitness : Kind
   OfSample : Kind
 
--- the command of a kind with these literals, or with their names
+-- the command of a kind with these literals; for `h`, `w` and `s` only with their names
 abbrev pub command_of : Kind → List Literal → Command
 command_of OfClause ls = Clause ls
 command_of OfAsk ls = Ask ls
@@ -21,19 +21,19 @@ command_of OfSample ls = Sample (names_of ls)
 
 -- the unfinished command between two tokens: none, or one with its literals or names so far
 pub data PartialCommand : Type 0 where
-  Nothing : PartialCommand
-  Within : Kind → List Literal → PartialCommand
+  NoCommand : PartialCommand
+  InCommand : Kind → List Literal → PartialCommand
 
 -- the effect of a token: the unfinished command is now this one or none, a command ends, or the text is malformed
 pub data CommandTokenEffect : Type 0 where
-  GoesOn : PartialCommand → CommandTokenEffect
-  Ends : Command → CommandTokenEffect
+  Continues : PartialCommand → CommandTokenEffect
+  EndsCommand : Command → CommandTokenEffect
   Fails : CommandTokenEffect
 
 -- the command that a zero ends; without an unfinished command, the empty clause
 abbrev pub command_in : PartialCommand → Command
-command_in Nothing = Clause []
-command_in (Within kind ls) = command_of kind ls
+command_in NoCommand = Clause []
+command_in (InCommand kind ls) = command_of kind ls
 
 -- `allows_sign kind positive` is true if a literal of this sign is allowed in a command of this kind: a name has no
 -- minus sign.
@@ -44,36 +44,39 @@ allows_sign OfHide positive = positive
 allows_sign OfWitness positive = positive
 allows_sign OfSample positive = positive
 
--- the effect of a literal, which begins a clause or is added to the unfinished command
+-- the effect of a literal: it begins a clause or is added to the unfinished command, or the text is malformed if the
+-- literal is negative and the command takes names (`h`, `w`, `s`)
 abbrev pub literal_effect : PartialCommand → Literal → CommandTokenEffect
-literal_effect Nothing l = GoesOn (Within OfClause (l ∷ []))
-literal_effect (Within kind ls) l = if allows_sign kind l.positive then GoesOn (Within kind (ls ++ l ∷ [])) else Fails
+literal_effect NoCommand l = Continues (InCommand OfClause (l ∷ []))
+literal_effect (InCommand kind ls) l = if allows_sign kind l.positive then Continues (InCommand kind (ls ++ l ∷ [])) else Fails
 
 -- the kind of command that a letter begins, or `None` if the letter is not `a`, `h`, `w` or `s`
 abbrev pub kind_of_letter : ℕ → Option Kind
 kind_of_letter b =
-    if nat_eq b 97 then Some OfAsk
-    else (if nat_eq b 104 then Some OfHide
-    else (if nat_eq b 119 then Some OfWitness
-    else (if nat_eq b 115 then Some OfSample else None)))
+    if nat_eq b letter_a then Some OfAsk
+    else (if nat_eq b letter_h then Some OfHide
+    else (if nat_eq b letter_w then Some OfWitness
+    else (if nat_eq b letter_s then Some OfSample else None)))
 
 -- the effect of a letter that begins a command of this kind; without a kind, the text is malformed
-abbrev pub beginning : Option Kind → CommandTokenEffect
-beginning None = Fails
-beginning (Some kind) = GoesOn (Within kind [])
+abbrev pub kind_effect : Option Kind → CommandTokenEffect
+kind_effect None = Fails
+kind_effect (Some kind) = Continues (InCommand kind [])
 
--- the effect of a letter: it begins a command, and within a command it is malformed
-abbrev pub with_letter : PartialCommand → ℕ → CommandTokenEffect
-with_letter Nothing b = beginning (kind_of_letter b)
-with_letter (Within kind ls) b = Fails
+-- the effect of the letter `b` after this unfinished command: between commands it begins one, if it is `a`, `h`, `w` or
+-- `s`; otherwise the text is malformed
+abbrev pub letter_effect : PartialCommand → ℕ → CommandTokenEffect
+letter_effect NoCommand b = kind_effect (kind_of_letter b)
+letter_effect (InCommand kind ls) b = Fails
 
--- the effect of a token, regardless of its line, if `hand` is the unfinished command
+-- the effect of a token after the unfinished command `unfinished`: a number adds a literal, 0 ends the command, a
+-- letter begins one, and a header changes nothing
 abbrev pub command_token_effect : PartialCommand → Token → CommandTokenEffect
-command_token_effect hand (Number negative value) =
-    if nat_eq value 0 then Ends (command_in hand) else literal_effect hand (record { name = value; positive = not negative })
-command_token_effect hand (Letter b) = with_letter hand b
-command_token_effect hand (Header v c) = GoesOn hand
-command_token_effect hand Wrong = Fails
+command_token_effect unfinished (Number negative value) =
+    if nat_eq value 0 then EndsCommand (command_in unfinished) else literal_effect unfinished (record { name = value; positive = not negative })
+command_token_effect unfinished (Letter b) = letter_effect unfinished b
+command_token_effect unfinished (Header v c) = Continues unfinished
+command_token_effect unfinished Wrong = Fails
 
 -- the commands of a text, and how the text ends
 abbrev pub Reading : Type 0
@@ -84,35 +87,37 @@ abbrev pub prepend_commands : List Command → Reading → Reading
 prepend_commands commands reading = (commands ++ reading.0, reading.1)
 
 -- the ending if the text ends here: malformed within a command, otherwise clean
-abbrev pub command_at_end : PartialCommand → ScriptEnding
-command_at_end Nothing = Clean
-command_at_end (Within kind ls) = Malformed
+abbrev pub script_ending_here : PartialCommand → ScriptEnding
+script_ending_here NoCommand = Clean
+script_ending_here (InCommand kind ls) = Malformed
 
 -- the reading after the effect of a token; `more` gives the reading of the later tokens, and malformed text ends it
 abbrev pub after_command_token_effect : CommandTokenEffect → (PartialCommand → Reading) → Reading
-after_command_token_effect (GoesOn hand) more = more hand
-after_command_token_effect (Ends command) more = prepend_commands (command ∷ []) (more Nothing)
+after_command_token_effect (Continues unfinished) more = more unfinished
+after_command_token_effect (EndsCommand command) more = prepend_commands (command ∷ []) (more NoCommand)
 after_command_token_effect Fails more = ([], Malformed)
 
--- the commands that the tokens spell, starting from an unfinished command or none
+-- the commands that the tokens spell, up to the first that is malformed, and the ending, if `unfinished` is the command
+-- begun before them
 unfoldable pub commands_of : PartialCommand → List Token → Reading
-commands_of hand [] = ([], command_at_end hand)
-commands_of hand (t ∷ ts) = after_command_token_effect (command_token_effect hand t) (λ h. commands_of h ts)
+commands_of unfinished [] = ([], script_ending_here unfinished)
+commands_of unfinished (t ∷ ts) = after_command_token_effect (command_token_effect unfinished t) (λ h. commands_of h ts)
 
 -- the tokens without their lines
 abbrev pub without_lines : List (ℕ × Token) → List Token
 without_lines ts = map (λ t. t.1) ts
 
--- the commands written in a text, and how the text ends
+-- the commands written in a text, up to where it is malformed, and its ending; without the ask that a header adds
 unfoldable pub plain_reading : List ℕ → Reading
-plain_reading text = commands_of Nothing (without_lines (tokens text))
+plain_reading text = commands_of NoCommand (without_lines (tokens text))
 
--- The reading with an ask without literals appended, if `due` is true, the text ended cleanly, and no command is an ask. An ask that will be
--- refused counts as an ask here.
+-- The reading with an ask without literals appended, if `due` is true, the text ended cleanly, and no command is an
+-- ask. An ask that will be refused counts as an ask here.
 abbrev pub with_ask : Bool → Reading → Reading
 with_ask due r = if due && (is_clean r.1 && not (has_ask r.0)) then (r.0 ++ Ask [] ∷ [], Clean) else r
 
--- the commands of a text and how it ends; after a header, `with_ask` may append an ask
+-- the commands of a text, up to where it is malformed, and its ending; after a header, an ask without literals is added
+-- if the text ends cleanly without one
 unfoldable pub reading : List ℕ → Reading
 reading text = with_ask (is_some (dimacs_header text)) (plain_reading text)
 

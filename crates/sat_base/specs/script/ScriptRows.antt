@@ -11,7 +11,9 @@ positive_literal name = record { name = name; positive = true }
 abbrev pub negative_literal : ℕ → Literal
 negative_literal name = record { name = name; positive = false }
 
--- `ReadRows` holds if the texts of its fields end cleanly, with the commands stated there.
+-- `ReadRows` holds if 26 example texts end cleanly with the commands given: among them several commands on a line,
+-- commands over lines and comments, names above 2^28, a line `%` and text after it, and headers, which add the ask `a
+-- 0` if the text has none.
 pub record ReadRows : Type 0 where
   pub empty : IsScript [] [] Clean
   pub clause_and_ask : IsScript (codes "1 2 0\na 0\n") (Clause (positive_literal 1 ∷ positive_literal 2 ∷ []) ∷ Ask [] ∷ []) Clean
@@ -40,7 +42,8 @@ pub record ReadRows : Type 0 where
   pub hidden_past_the_limit : IsScript (codes "h 99999999999999999999 0") (Hide (99999999999999999999 ∷ []) ∷ []) Clean
   pub header_asks : IsScript (codes "p cnf 2 1\nw 1 0\n%\n0\n") (Witness (1 ∷ []) ∷ Ask [] ∷ []) Clean
 
--- `MalformedRows` holds if the texts of its fields are malformed, after the commands stated there.
+-- `MalformedRows` holds if 36 example texts are malformed after the commands given: among them `-0`, `+1`, a letter in
+-- a clause, negative names after `h`, `w` or `s`, wrong, late or repeated headers, and texts that end inside a command.
 pub record MalformedRows : Type 0 where
   pub comment_after_word : IsScript (codes "c x\n1 c\n") [] Malformed
   pub minus_zero : IsScript (codes "-0 0") [] Malformed

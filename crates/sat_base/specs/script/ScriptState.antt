@@ -1,12 +1,13 @@
--- The state after the commands of a script: names, their variables, modes and clauses. No result of a search is part of it.
+-- The state after the commands of a script: names, their variables, modes and clauses. No result of a search is part of
+-- it.
 use Rattle.std.specs.Prelude.{ℕ, zero, suc, ◌+◌, ◌-◌, ◌==◌, ◌≡◌, max, Bool, true, false, not, Option, Some, None, List, [], ◌∷◌, ◌++◌, map, set, get_or, nat_lt, is_some, unwrap_or, ◌&&◌, if◌then◌else◌}
 use Rattle.std.specs.List.{filter, AllByRecursion}
 use Rattle.sat_base.specs.values.Literals.{mk_lit, var_limit}
-use Rattle.sat_base.specs.values.Clauses.{Valuation, EachTrue, EachHolds}
-use Rattle.sat_base.specs.script.Script.{Literal, Command, Clause, Ask, Hide, Witness, Sample, names_of, Among, InOrder}
+use Rattle.sat_base.specs.values.Clauses.{Valuation, AllLitsTrue, AllClausesTrue}
+use Rattle.sat_base.specs.script.Script.{Literal, Command, Clause, Ask, Hide, Witness, Sample, names_of, Among, AreSortedLiterals}
 
--- The mode of a variable. A new variable has mode sample; `w` and `s` change its mode. A clause or an ask that contains a variable of mode
--- witness is refused. Nothing else depends on modes, in particular no model and no core.
+-- The mode of a variable. A new variable has mode sample; `w` and `s` change its mode. A clause or an ask that contains
+-- a variable of mode witness is refused. Nothing else depends on modes, in particular no model and no core.
 pub data NameMode : Type 0 where
   Sampled : NameMode
   Witnessed : NameMode
@@ -16,8 +17,8 @@ pub record Named : Type 0 where
   pub name : ℕ
   pub identity : ℕ
 
--- The state of a script between two commands. Every name in use refers to one variable, given by its identity. Hiding a name frees it; when the
--- name is next used, it gets a new variable with a new identity. Clauses keep the old identity.
+-- The state of a script between two commands. Every name in use refers to one variable, given by its identity. Hiding a
+-- name frees it; when the name is next used, it gets a new variable with a new identity. Clauses keep the old identity.
 pub record ScriptState : Type 0 where
   pub first_unused : ℕ  -- the lowest name never used
   pub in_use : List Named  -- in increasing order of name
@@ -58,8 +59,9 @@ abbrev pub names_from : ℕ → ℕ → List ℕ
 names_from zero name = []
 names_from (suc count) name = name ∷ names_from count (name + 1)
 
--- The names that get a new variable when `name` is used: none if `name` is in use, and only `name` if it is hidden. If `name` was never used,
--- it and all smaller names that were never used get one. So a first clause `5 0` introduces 1 to 5.
+-- The names that get a new variable when `name` is used: none if `name` is in use, and only `name` if it is hidden. If
+-- `name` was never used, it and all smaller names that were never used get one. So a first clause `5 0` introduces 1 to
+-- 5.
 abbrev pub new_names : ℕ → ScriptState → List ℕ
 new_names name j =
     if nat_lt name j.first_unused
@@ -71,7 +73,8 @@ abbrev pub for_each : (ℕ → ScriptState → ScriptState) → List ℕ → Scr
 for_each f [] j = j
 for_each f (name ∷ names) j = for_each f names (f name j)
 
--- the state after `name` is introduced: all of its `new_names` are then in use
+-- the state after `name` was introduced: if it was not in use, it has a new variable; so have smaller names that were
+-- never used, if it was never used itself
 abbrev pub introduce : ℕ → ScriptState → ScriptState
 introduce name j = for_each with_name (new_names name j) j
 
@@ -79,9 +82,9 @@ introduce name j = for_each with_name (new_names name j) j
 abbrev pub without_name : ℕ → ScriptState → ScriptState
 without_name name j = record j { in_use = filter (λ n. not (n.name == name)) j.in_use }
 
--- The literal with its variable's identity instead of its name. The default 0 is never needed, because the name is always in use. An ask and a
--- clause introduce their names first. A model lists the names in use, and a core consists of literals of the ask. Law `judge_laws` states this
--- (`NamesAreInUse`).
+-- The literal with its variable's identity instead of its name. The default 0 is never needed, because the name is
+-- always in use. An ask and a clause introduce their names first. A model lists the names in use, and a core consists
+-- of literals of the ask. Law `judge_laws` states this (`NamesAreInUse`).
 abbrev pub identity_lit : ScriptState → Literal → ℕ
 identity_lit j l = mk_lit (unwrap_or (identity_of j l.name) 0) l.positive
 
@@ -89,12 +92,13 @@ identity_lit j l = mk_lit (unwrap_or (identity_of j l.name) 0) l.positive
 abbrev pub with_mode : NameMode → ℕ → ScriptState → ScriptState
 with_mode mode name j = record j { modes = set j.modes (unwrap_or (identity_of j name) 0) mode }
 
--- the state with one more clause, all of whose names are in use
+-- the state with the clause `ls`, all of whose names must be in use, added as the newest
 abbrev pub with_clause : List Literal → ScriptState → ScriptState
 with_clause ls j = record j { clauses = map (identity_lit j) ls ∷ j.clauses }
 
--- The state after an accepted command. `Clause` and `Ask` introduce their names from left to right; `Clause` then adds the clause. `Hide`,
--- `Witness` and `Sample` process one name at a time: they introduce it, then hide it or set its variable's mode.
+-- The state after an accepted command. `Clause` and `Ask` introduce their names from left to right; `Clause` then adds
+-- the clause. `Hide`, `Witness` and `Sample` process one name at a time: they introduce it, then hide it or set its
+-- variable's mode.
 abbrev pub state_after_accepted : Command → ScriptState → ScriptState
 state_after_accepted (Clause ls) j = with_clause ls (for_each introduce (names_of ls) j)
 state_after_accepted (Ask ls) j = for_each introduce (names_of ls) j
@@ -117,15 +121,16 @@ abbrev pub has_witness : ScriptState → Option ℕ → Bool
 has_witness j None = false
 has_witness j (Some identity) = is_witness (get_or j.modes identity Sampled)
 
--- Why a command with these names is refused, or `None`. The leftmost name that is past the limit, or whose mode is witness, determines the
--- reason. If `may_witness` is true, modes are ignored. A name that is not in use has no mode.
+-- Why a command with these names is refused, or `None`. The leftmost name that is past the limit, or whose mode is
+-- witness, determines the reason. If `may_witness` is true, modes are ignored. A name that is not in use has no mode.
 abbrev pub first_refusal : Bool → ScriptState → List ℕ → Option Refusal
 first_refusal may_witness j [] = None
 first_refusal may_witness j (name ∷ names) =
     if nat_lt var_limit name then Some PastLimit
     else (if not may_witness && has_witness j (identity_of j name) then Some (WitnessName name) else first_refusal may_witness j names)
 
--- Why a command is refused, or `None` if it is accepted. Only a clause or an ask is refused because the mode of a name is witness.
+-- Why a command is refused, or `None` if it is accepted. Only a clause or an ask is refused because the mode of a name
+-- is witness.
 abbrev pub refusal_of : ScriptState → Command → Option Refusal
 refusal_of j (Clause ls) = first_refusal false j (names_of ls)
 refusal_of j (Ask ls) = first_refusal false j (names_of ls)
@@ -148,25 +153,26 @@ accepted_commands j [] = []
 accepted_commands j (command ∷ commands) =
     if is_some (refusal_of j command) then accepted_commands j commands else command ∷ accepted_commands (state_after_accepted command j) commands
 
--- `IsRightModel j ask line` holds if `line` is a correct model of `ask`. `j` is the state after the names of `ask` were
--- introduced.
+-- `IsRightModel j ask line` holds if `line` is a correct model of `ask`: it has one literal for each name in use, by
+-- increasing name, and some valuation that agrees with it satisfies the accepted clauses and the literals of `ask`. `j`
+-- is the state after the names of `ask` were introduced.
 pub record IsRightModel (j : ScriptState) (ask line : List Literal) : Type 0 where
   -- `line` has one literal for every name in use, in increasing order
   pub names : names_of line ≡ map (λ n. n.name) j.in_use
   -- some valuation that agrees with `line` satisfies the accepted clauses and the literals of `ask`
   pub valuation : Valuation
-  pub agrees : EachTrue valuation (map (identity_lit j) line)
-  pub clauses : EachHolds valuation j.clauses
-  pub asked : EachTrue valuation (map (identity_lit j) ask)
+  pub agrees : AllLitsTrue valuation (map (identity_lit j) line)
+  pub clauses : AllClausesTrue valuation j.clauses
+  pub asked : AllLitsTrue valuation (map (identity_lit j) ask)
 
--- `IsRightCore j ask core` holds if `core` is a correct core of `ask`. It contains some of the literals of `ask`,
--- sorted and without repeats, that cannot all be true if the accepted clauses hold. It need not be minimal. `j` is the
--- state after the names of `ask` were introduced.
+-- `IsRightCore j ask core` holds if `core` is a correct core of `ask`: some of its literals, sorted and without
+-- repeats, that cannot all be true if the accepted clauses hold; not necessarily minimal. `j` is the state after the
+-- names of `ask` were introduced.
 pub record IsRightCore (j : ScriptState) (ask core : List Literal) : Type 0 where
-  pub order : InOrder core
+  pub order : AreSortedLiterals core
   pub among : AllByRecursion (λ l. Among l ask) core
   -- no valuation satisfies both the core and the accepted clauses
-  pub none : (a : Valuation) → EachTrue a (map (identity_lit j) core) → EachHolds a j.clauses → ⊥
+  pub none : (a : Valuation) → AllLitsTrue a (map (identity_lit j) core) → AllClausesTrue a j.clauses → ⊥
 
 -- Further definitions that laws and dependent crates use:
 
@@ -183,9 +189,9 @@ abbrev pub hide_all : List ℕ → ScriptState → ScriptState
 hide_all names j = for_each (λ name i. without_name name (introduce name i)) names j
 
 -- the state after these names are introduced and the modes of their variables are set, one by one
-abbrev pub set_all : NameMode → List ℕ → ScriptState → ScriptState
-set_all mode names j = for_each (λ name i. with_mode mode name (introduce name i)) names j
+abbrev pub set_mode_all : NameMode → List ℕ → ScriptState → ScriptState
+set_mode_all mode names j = for_each (λ name i. with_mode mode name (introduce name i)) names j
 
 -- why a clause or an ask with these names is refused, or `None`
-abbrev pub refused_literal : ScriptState → List ℕ → Option Refusal
-refused_literal j names = first_refusal false j names
+abbrev pub refusal_of_names : ScriptState → List ℕ → Option Refusal
+refusal_of_names j names = first_refusal false j names

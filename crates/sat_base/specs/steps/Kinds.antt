@@ -23,17 +23,17 @@ step_with code.FailedAssumptions literals hashes units = FailedAssumptions liter
 step_with code.End literals hashes units = End
 
 -- the step of a kind with the literals, hashes and units of these lists
-abbrev pub step_held : Lists → StepKind → Step
-step_held l k = step_with k l.literals.items l.hashes.items l.units.items
+abbrev pub step_of_lists : Lists → StepKind → Step
+step_of_lists l k = step_with k l.literals.items l.hashes.items l.units.items
 
 -- the literals and the hashes of these lists
-abbrev pub both_held : Lists → List ℕ × List ℕ
-both_held l = (l.literals.items, l.hashes.items)
+abbrev pub literals_and_hashes : Lists → List ℕ × List ℕ
+literals_and_hashes l = (l.literals.items, l.hashes.items)
 
 -- `is_tag tag` is true if the number is a tag of a step, from 1 to 13.
 abbrev pub is_tag : ℕ → Bool
 is_tag tag = nat_lt 0 tag && nat_lt tag 14
 
--- `has_lists tag` is true if steps with this tag have lists.
+-- `has_lists tag` is true if steps with this tag have lists: of literals, hashes or units.
 abbrev pub has_lists : ℕ → Bool
 has_lists tag = tag == 5 || tag == 6 || tag == 7 || tag == 8 || tag == 10 || tag == 11 || tag == 12

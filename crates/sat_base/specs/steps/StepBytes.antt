@@ -4,13 +4,13 @@ use Rattle.sat_base.specs.steps.Steps.{Deletion, Redundant, Simplified, Satisfie
 use Rattle.sat_base.specs.steps.StepText.{tag_of}
 
 -- a number in groups of seven bits (LEB128), low group first; at most `k` groups are followed by another
-unfoldable pub groups : ℕ → ℕ → List ℕ
-groups zero n = n ∷ []
-groups (suc k) n = if nat_lt n 128 then n ∷ [] else (n % 128 + 128) ∷ groups k (n / 128)
+unfoldable pub groups_of_seven_bits : ℕ → ℕ → List ℕ
+groups_of_seven_bits zero n = n ∷ []
+groups_of_seven_bits (suc k) n = if nat_lt n 128 then n ∷ [] else (n % 128 + 128) ∷ groups_of_seven_bits k (n / 128)
 
 -- the bytes of a number of at most 64 bits: at most ten groups
 abbrev pub number_bytes : ℕ → List ℕ
-number_bytes n = groups 9 n
+number_bytes n = groups_of_seven_bits 9 n
 
 -- the bytes of an optional index: 0 for `None`, otherwise the index plus 1
 abbrev pub optional_bytes : Option ℕ → List ℕ
@@ -22,13 +22,13 @@ abbrev pub flag_bytes : Bool → List ℕ
 flag_bytes false = number_bytes 0
 flag_bytes true = number_bytes 1
 
--- the bytes of the number of the reason for which a clause is deleted
+-- the byte of the reason for which a clause is deleted: 0 redundant, 1 simplified, 2 satisfied
 abbrev pub deletion_bytes : Deletion → List ℕ
 deletion_bytes Redundant = number_bytes 0
 deletion_bytes Simplified = number_bytes 1
 deletion_bytes Satisfied = number_bytes 2
 
--- the bytes of literals or hashes, one after another
+-- the bytes of literal codes or hashes, one after another, without a count
 abbrev pub numbers_bytes : List ℕ → List ℕ
 numbers_bytes [] = []
 numbers_bytes (n ∷ ns) = number_bytes n ++ numbers_bytes ns

@@ -4,7 +4,7 @@ use Rattle.sat_base.specs.declared.steps.reader.StepReader.{StepReader}
 use Rattle.sat_base.specs.declared.steps.reader.Buffers.{Buffers}
 use Rattle.sat_base.specs.declared.steps.error.StepError.{StepError}
 use Rattle.sat_base.specs.declared.steps.error.StepError.TheVariants as errors
-use Rattle.sat_base.specs.device.Device.{Reader, most_reads}
+use Rattle.sat_base.specs.device.Device.{Reader, max_reads}
 use Rattle.sat_base.specs.device.Reading.{Source, AnswersStepRead, source}
 use Rattle.sat_base.specs.steps.Steps.{Step}
 use Rattle.sat_base.specs.steps.Kinds.{step_with}
@@ -18,12 +18,12 @@ abbrev pub has_reader_failed : {R : Type 0} → StepReader R Buffers → Bool
 has_reader_failed s = s.buffers.failed
 
 -- the borrow through which the reader of steps holds the reader of its bytes
-abbrev pub reader_name : {R : Type 0} → StepReader R Buffers → ℕ
-reader_name s = s.reader.ghost_name
+abbrev pub reader_borrow : {R : Type 0} → StepReader R Buffers → ℕ
+reader_borrow s = s.reader.ghost_name
 
--- the last step that was read
-abbrev pub step_in : {R : Type 0} → StepReader R Buffers → Step
-step_in s = step_with s.buffers.kind s.buffers.state.lists.literals.items s.buffers.state.lists.hashes.items s.buffers.state.lists.units.items
+-- the last step that was read, put together from its kind and the lists in the buffers of the reader of steps
+abbrev pub last_step_in : {R : Type 0} → StepReader R Buffers → Step
+last_step_in s = step_with s.buffers.kind s.buffers.state.lists.literals.items s.buffers.state.lists.hashes.items s.buffers.state.lists.units.items
 
 -- `is_stop e` is true if the error stops a reader of steps; every error except `Ends` does.
 abbrev pub is_stop : StepError → Bool
@@ -34,7 +34,7 @@ is_stop errors.Read = true
 is_stop errors.OutOfMemory = true
 is_stop errors.HasFailed = true
 
--- `is_repeat e` is true if the error says that an earlier error stopped the reader.
+-- `is_repeat e` is true if the error is `HasFailed`: an earlier error has stopped the reader of steps.
 abbrev pub is_repeat : StepError → Bool
 is_repeat errors.HasFailed = true
 is_repeat errors.Ends = false
@@ -43,15 +43,15 @@ is_repeat errors.BadByte = false
 is_repeat errors.Read = false
 is_repeat errors.OutOfMemory = false
 
--- `stopped result` is true if the result is an error that stops the reader.
-abbrev pub stopped : Result Step StepError → Bool
-stopped (Ok step) = false
-stopped (Err e) = is_stop e
+-- `is_stop_result result` is true if the result is an error, other than `Ends`, so that the reader of steps is stopped.
+abbrev pub is_stop_result : Result Step StepError → Bool
+is_stop_result (Ok step) = false
+is_stop_result (Err e) = is_stop e
 
--- `repeated result` is true if the result is the error that says that the reader was stopped before.
-abbrev pub repeated : Result Step StepError → Bool
-repeated (Ok step) = false
-repeated (Err e) = is_repeat e
+-- `is_repeat_result result` is true if the result is the error `HasFailed`: the reader of steps was stopped before.
+abbrev pub is_repeat_result : Result Step StepError → Bool
+is_repeat_result (Ok step) = false
+is_repeat_result (Err e) = is_repeat e
 
 -- `AnswersUnlessFailed result old new` holds if `result` is that of reading a step (`AnswersStepRead`), or it is
 -- `HasFailed` and nothing has changed.
@@ -64,11 +64,12 @@ AnswersUnlessFailed (Err errors.Read) old new = AnswersStepRead (Err errors.Read
 AnswersUnlessFailed (Err errors.OutOfMemory) old new = AnswersStepRead (Err errors.OutOfMemory) old new
 AnswersUnlessFailed (Err errors.HasFailed) old new = new ≡ old
 
--- `AdvanceEffect seen old new result` holds if a call of `advance` with `result` has led from `old` to `new`. It
--- returns `HasFailed` exactly when an earlier error stopped the reader.
+-- `AdvanceEffect seen old new result` holds if reading the next step with `result` has led the reader of steps from
+-- `old` to `new`. It is `HasFailed` exactly if an earlier error stopped the reader, and any error except `Ends` stops
+-- it. At most 2^48 reads were made in all.
 pub record AdvanceEffect {R : Type 0} (seen : R → Reader) (old new : StepReader R Buffers) (result : Result Step StepError) : Type 0 where
-  pub same : reader_name new ≡ reader_name old
+  pub same : reader_borrow new ≡ reader_borrow old
   pub answer : AnswersUnlessFailed result (reader_source seen old) (reader_source seen new)
-  pub was : has_reader_failed old ≡ repeated result
-  pub is : has_reader_failed new ≡ stopped result
-  pub bound : (reader_source seen new).reads ≤ most_reads
+  pub was : has_reader_failed old ≡ is_repeat_result result
+  pub is : has_reader_failed new ≡ is_stop_result result
+  pub bound : (reader_source seen new).reads ≤ max_reads

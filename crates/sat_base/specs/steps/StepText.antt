@@ -2,54 +2,55 @@
 use Rattle.std.specs.Prelude.{◌≡◌, ℕ, ◌+◌, ◌*◌, ◌^◌, Bool, true, false, Option, Some, None, List, [], ◌∷◌}
 use Rattle.sat_base.specs.steps.Formats.{Format, Both, Items, ListOf}
 use Rattle.sat_base.specs.values.Literals.{var_limit}
-use Rattle.sat_base.specs.steps.Numbers.{IsBelow}
+use Rattle.sat_base.specs.steps.Numbers.{SpellsNumberBelow}
 use Rattle.sat_base.specs.steps.Steps.{Deletion, Redundant, Simplified, Satisfied, Step, SolverVarName, UserVarName, DeleteVar, ChangeSamplingMode, AddClause, AtClause, UnitClauses, DeleteClause, ChangeHashBits, Model, Assumptions, FailedAssumptions, End}
 
--- `IsVariable v bytes` holds if the bytes spell the index of a variable within the limit.
-abbrev pub IsVariable : Format ℕ
-IsVariable = IsBelow var_limit
+-- `SpellsVariable v bytes` holds if the bytes spell the variable index `v`, below 2^28, in LEB128.
+abbrev pub SpellsVariable : Format ℕ
+SpellsVariable = SpellsNumberBelow var_limit
 
--- `IsOptionalVariable v bytes` holds if the bytes spell the index of a variable or of a name, within the limit, plus 1,
--- or 0 for `None`.
-abbrev pub IsOptionalVariable : Format (Option ℕ)
-IsOptionalVariable None bytes = IsBelow (var_limit + 1) 0 bytes
-IsOptionalVariable (Some v) bytes = IsBelow (var_limit + 1) (v + 1) bytes
+-- `SpellsOptionalVariable v bytes` holds if the bytes spell 0 and `v` is `None`, or spell one more than the index in
+-- `v`, of a variable or a name, below 2^28.
+abbrev pub SpellsOptionalVariable : Format (Option ℕ)
+SpellsOptionalVariable None bytes = SpellsNumberBelow (var_limit + 1) 0 bytes
+SpellsOptionalVariable (Some v) bytes = SpellsNumberBelow (var_limit + 1) (v + 1) bytes
 
--- `IsLiteral l bytes` holds if the bytes spell the code of a literal whose variable is within the limit.
-abbrev pub IsLiteral : Format ℕ
-IsLiteral = IsBelow (2 * var_limit)
+-- `SpellsLiteral l bytes` holds if the bytes spell the literal code `l`, whose variable has an index below 2^28.
+abbrev pub SpellsLiteral : Format ℕ
+SpellsLiteral = SpellsNumberBelow (2 * var_limit)
 
--- `IsHash hash bytes` holds if the bytes spell a hash, of at most 64 bits.
-abbrev pub IsHash : Format ℕ
-IsHash = IsBelow (2 ^ 64)
+-- `SpellsHash hash bytes` holds if the bytes spell a hash, of at most 64 bits.
+abbrev pub SpellsHash : Format ℕ
+SpellsHash = SpellsNumberBelow (2 ^ 64)
 
--- `IsFlag flag bytes` holds if the bytes spell 0 for false, or 1 for true.
-abbrev pub IsFlag : Format Bool
-IsFlag false bytes = IsBelow 2 0 bytes
-IsFlag true bytes = IsBelow 2 1 bytes
+-- `SpellsFlag flag bytes` holds if the bytes spell 0 for false, or 1 for true.
+abbrev pub SpellsFlag : Format Bool
+SpellsFlag false bytes = SpellsNumberBelow 2 0 bytes
+SpellsFlag true bytes = SpellsNumberBelow 2 1 bytes
 
--- `IsWidth width bytes` holds if the bytes spell a width, from 0 to 64.
-abbrev pub IsWidth : Format ℕ
-IsWidth = IsBelow 65
+-- `SpellsWidth width bytes` holds if the bytes spell a width, from 0 to 64.
+abbrev pub SpellsWidth : Format ℕ
+SpellsWidth = SpellsNumberBelow 65
 
--- `IsDeletion reason bytes` holds if the bytes spell the number of the reason for which a clause is deleted.
-abbrev pub IsDeletion : Format Deletion
-IsDeletion Redundant bytes = IsBelow 3 0 bytes
-IsDeletion Simplified bytes = IsBelow 3 1 bytes
-IsDeletion Satisfied bytes = IsBelow 3 2 bytes
+-- `SpellsDeletion reason bytes` holds if the bytes spell the reason for which a clause is deleted: 0 for redundant, 1
+-- for simplified, 2 for satisfied.
+abbrev pub SpellsDeletion : Format Deletion
+SpellsDeletion Redundant bytes = SpellsNumberBelow 3 0 bytes
+SpellsDeletion Simplified bytes = SpellsNumberBelow 3 1 bytes
+SpellsDeletion Satisfied bytes = SpellsNumberBelow 3 2 bytes
 
--- `AreLiterals ls bytes` holds if the bytes spell a list of literals, whose count is below 2^64.
-abbrev pub AreLiterals : Format (List ℕ)
-AreLiterals = ListOf (IsBelow (2 ^ 64)) IsLiteral
+-- `SpellsLiterals ls bytes` holds if the bytes spell a list of literals, whose count is below 2^64.
+abbrev pub SpellsLiterals : Format (List ℕ)
+SpellsLiterals = ListOf (SpellsNumberBelow (2 ^ 64)) SpellsLiteral
 
--- `AreHashes hashes bytes` holds if the bytes spell a list of hashes, whose count is below 2^64.
-abbrev pub AreHashes : Format (List ℕ)
-AreHashes = ListOf (IsBelow (2 ^ 64)) IsHash
+-- `SpellsHashes hashes bytes` holds if the bytes spell a list of hashes, whose count is below 2^64.
+abbrev pub SpellsHashes : Format (List ℕ)
+SpellsHashes = ListOf (SpellsNumberBelow (2 ^ 64)) SpellsHash
 
--- `AreHashedLiterals units bytes` holds if the bytes spell a list of literals, each with a hash, whose count is below
--- 2^64.
-abbrev pub AreHashedLiterals : Format (List (ℕ × ℕ))
-AreHashedLiterals = ListOf (IsBelow (2 ^ 64)) (Both IsLiteral IsHash)
+-- `SpellsHashedLiterals units bytes` holds if the bytes spell a list of literals, each with a hash, whose count is
+-- below 2^64.
+abbrev pub SpellsHashedLiterals : Format (List (ℕ × ℕ))
+SpellsHashedLiterals = ListOf (SpellsNumberBelow (2 ^ 64)) (Both SpellsLiteral SpellsHash)
 
 -- the first byte of a step, which determines its kind
 abbrev pub tag_of : Step → ℕ
@@ -69,18 +70,18 @@ tag_of End = 13
 
 -- `SpellsFields step bytes` holds if the bytes spell the fields of a step, which come after its tag.
 abbrev pub SpellsFields : Format Step
-SpellsFields (SolverVarName global solver) bytes = Both IsVariable IsOptionalVariable (global, solver) bytes
-SpellsFields (UserVarName global user) bytes = Both IsVariable IsOptionalVariable (global, user) bytes
-SpellsFields (DeleteVar v) bytes = IsVariable v bytes
-SpellsFields (ChangeSamplingMode v sample) bytes = Both IsVariable IsFlag (v, sample) bytes
-SpellsFields (AddClause clause) bytes = AreLiterals clause bytes
-SpellsFields (AtClause redundant clause hashes) bytes = Both IsFlag (Both AreLiterals AreHashes) (redundant, (clause, hashes)) bytes
-SpellsFields (UnitClauses units) bytes = AreHashedLiterals units bytes
-SpellsFields (DeleteClause clause proof) bytes = Both AreLiterals IsDeletion (clause, proof) bytes
-SpellsFields (ChangeHashBits bits) bytes = IsWidth bits bytes
-SpellsFields (Model assignment) bytes = AreLiterals assignment bytes
-SpellsFields (Assumptions assumptions) bytes = AreLiterals assumptions bytes
-SpellsFields (FailedAssumptions core hashes) bytes = Both AreLiterals AreHashes (core, hashes) bytes
+SpellsFields (SolverVarName global solver) bytes = Both SpellsVariable SpellsOptionalVariable (global, solver) bytes
+SpellsFields (UserVarName global user) bytes = Both SpellsVariable SpellsOptionalVariable (global, user) bytes
+SpellsFields (DeleteVar v) bytes = SpellsVariable v bytes
+SpellsFields (ChangeSamplingMode v sample) bytes = Both SpellsVariable SpellsFlag (v, sample) bytes
+SpellsFields (AddClause clause) bytes = SpellsLiterals clause bytes
+SpellsFields (AtClause redundant clause hashes) bytes = Both SpellsFlag (Both SpellsLiterals SpellsHashes) (redundant, (clause, hashes)) bytes
+SpellsFields (UnitClauses units) bytes = SpellsHashedLiterals units bytes
+SpellsFields (DeleteClause clause proof) bytes = Both SpellsLiterals SpellsDeletion (clause, proof) bytes
+SpellsFields (ChangeHashBits bits) bytes = SpellsWidth bits bytes
+SpellsFields (Model assignment) bytes = SpellsLiterals assignment bytes
+SpellsFields (Assumptions assumptions) bytes = SpellsLiterals assumptions bytes
+SpellsFields (FailedAssumptions core hashes) bytes = Both SpellsLiterals SpellsHashes (core, hashes) bytes
 SpellsFields End bytes = bytes ≡ []
 
 -- `SpellsStep step bytes` holds if the bytes are the tag of a step, and then spell its fields.

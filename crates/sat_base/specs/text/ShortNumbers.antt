@@ -4,16 +4,16 @@ use Rattle.std.specs.List.{AllByRecursion}
 use Rattle.sat_base.specs.text.Text.{is_digit, digits}
 
 -- the number whose bytes are those of a list, the lowest first
-abbrev pub from_bytes : List ℕ → ℕ
-from_bytes [] = 0
-from_bytes (b ∷ bs) = b + 256 * from_bytes bs
+abbrev pub little_endian_value : List ℕ → ℕ
+little_endian_value [] = 0
+little_endian_value (b ∷ bs) = b + 256 * little_endian_value bs
 
--- the number with these decimal digits, which are numbers, after those of `n`
-abbrev pub value_after : ℕ → List ℕ → ℕ
-value_after n [] = n
-value_after n (d ∷ ds) = value_after (10 * n + d) ds
+-- the number `n` with decimal digits appended, given as values from 0 to 9
+abbrev pub value_with_digits : ℕ → List ℕ → ℕ
+value_with_digits n [] = n
+value_with_digits n (d ∷ ds) = value_with_digits (10 * n + d) ds
 
--- `AreEightDigits ds` holds if the list consists of eight decimal digits, which are numbers.
+-- `AreEightDigits ds` holds if the list has exactly eight numbers, each from 0 to 9.
 pub record AreEightDigits (ds : List ℕ) : Type 0 where
   pub eight : length ds ≡ 8
   pub each : AllByRecursion (λ d. d ≤ 9) ds

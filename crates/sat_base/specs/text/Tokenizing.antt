@@ -9,144 +9,153 @@ use Rattle.sat_base.specs.declared.text.header.Stage.TheVariants as stage
 use Rattle.sat_base.specs.declared.text.Token.{Token as CodeToken}
 use Rattle.sat_base.specs.declared.text.Token.TheVariants as code
 use Rattle.sat_base.specs.declared.text.Tokenizer.{Tokenizer}
-use Rattle.sat_base.specs.text.Text.{digits, Token, Number, Letter, Header, Wrong, token, Scan, is_letter}
-use Rattle.sat_base.specs.text.Position.{Stage, Begun, Named, Format, Vars, Both, stage_after, Position, Fresh, Leading, Comment, Between, Within, HeaderBetween, HeaderWithin, Spoilt, Over, HasNoBlank, remaining_scan, unfinished_token, ended_by_blank, following_blank, after_LF, prepend_tokens}
+use Rattle.sat_base.specs.text.Text.{digits, Token, Number, Letter, Header, Wrong, token, Scan, is_letter, minus_sign, digit_zero, letter_c, letter_f, letter_n, letter_p}
+use Rattle.sat_base.specs.text.Position.{HeaderStage, Begun, Named, Format, Vars, Both, stage_after, Position, Fresh, Leading, Comment, Between, Within, HeaderBetween, HeaderWithin, WrongHeader, Over, HasNoBlank, remaining_scan, unfinished_token, token_ended_by_blank, position_after_blank, position_after_LF, prepend_tokens}
 
 -- a count or a value, capped at 2^64 - 1
 abbrev pub capped : ℕ → ℕ
 capped n = min n (2 ^ 64 - 1)
 
--- a token as the code represents it, with its values capped
+-- the token as the code represents it: its numbers are capped at 2^64 - 1
 abbrev pub capped_token : Token → CodeToken
 capped_token (Number negative value) = code.Number negative (capped value)
 capped_token (Letter b) = code.Letter b
 capped_token (Header v c) = code.Header (capped v) (capped c)
 capped_token Wrong = code.Wrong
 
--- the value with the digit of a byte appended, capped
+-- the number with an ASCII digit appended, capped at 2^64 - 1
 abbrev pub with_digit : ℕ → ℕ → ℕ
-with_digit value digit = capped (10 * value + (digit - 48))
+with_digit value digit = capped (10 * value + (digit - digit_zero))
 
--- `SpellsCapped ds value` holds if the bytes are digits, and `value` is the number that they spell, capped.
+-- `SpellsCapped ds value` holds if all bytes of `ds` are digits, and `value` is the number they spell, capped at 2^64 -
+-- 1.
 abbrev pub SpellsCapped : List ℕ → ℕ → Type 0
 SpellsCapped ds value = (m : ℕ) × (digits 0 ds ≡ Some m) × (value ≡ capped m)
 
--- `BeginsWrong w` holds if every word that begins with the bytes `w` is wrong.
-abbrev pub BeginsWrong : List ℕ → Type 0
-BeginsWrong w = (more : List ℕ) → token (w ++ more) ≡ Wrong
+-- `BeginsWrongWord w` holds if every word that begins with the bytes `w` is wrong.
+abbrev pub BeginsWrongWord : List ℕ → Type 0
+BeginsWrongWord w = (more : List ℕ) → token (w ++ more) ≡ Wrong
 
--- `BeginsSpoilt s w` holds if no word that begins with the bytes `w` is allowed at the stage `s` of a header line.
-abbrev pub BeginsSpoilt : Stage → List ℕ → Type 0
-BeginsSpoilt s w = (more : List ℕ) → stage_after s (w ++ more) ≡ None
+-- `BeginsWrongHeaderWord s w` holds if no word that begins with the bytes `w` is allowed at the stage `s` of a header
+-- line.
+abbrev pub BeginsWrongHeaderWord : HeaderStage → List ℕ → Type 0
+BeginsWrongHeaderWord s w = (more : List ℕ) → stage_after s (w ++ more) ≡ None
 
--- `IsStage ended s` holds if the stage `ended` of the code represents the stage `s`, with its numbers capped.
-abbrev pub IsStage : CodeStage → Stage → Type 0
-IsStage stage.Named s = s ≡ Named
-IsStage stage.Format s = s ≡ Format
-IsStage (stage.Vars vars) s = (v : ℕ) × (vars ≡ capped v) × (s ≡ Vars v)
-IsStage (stage.Both vars clauses) s = (v : ℕ) × (c : ℕ) × (vars ≡ capped v) × (clauses ≡ capped c) × (s ≡ Both v c)
+-- `RepresentsStage ended s` holds if `ended`, a stage of a header line in the code, is the stage `s` with its numbers
+-- capped at 2^64 - 1.
+abbrev pub RepresentsStage : CodeStage → HeaderStage → Type 0
+RepresentsStage stage.Named s = s ≡ Named
+RepresentsStage stage.Format s = s ≡ Format
+RepresentsStage (stage.Vars vars) s = (v : ℕ) × (vars ≡ capped v) × (s ≡ Vars v)
+RepresentsStage (stage.Both vars clauses) s = (v : ℕ) × (c : ℕ) × (vars ≡ capped v) × (clauses ≡ capped c) × (s ≡ Both v c)
 
--- `IsAtHeader place spot` holds if the place in a header line can represent the position `spot`, which has the bytes of
--- the unfinished word.
-abbrev pub IsAtHeader : HeaderPlace → Position → Type 0
-IsAtHeader (header.Between ended) spot = (s : Stage) × IsStage ended s × (spot ≡ HeaderBetween s)
-IsAtHeader header.P spot = spot ≡ HeaderWithin Begun 112 []
-IsAtHeader header.C spot = spot ≡ HeaderWithin Named 99 []
-IsAtHeader header.Cn spot = spot ≡ HeaderWithin Named 99 (110 ∷ [])
-IsAtHeader header.Cnf spot = spot ≡ HeaderWithin Named 99 (110 ∷ 102 ∷ [])
-IsAtHeader (header.Vars value) spot =
+-- `RepresentsHeaderPosition place spot` holds if `place`, the code's state in a header line, may stand for the position
+-- `spot`, which also has the bytes of the unfinished word and the numbers, uncapped.
+abbrev pub RepresentsHeaderPosition : HeaderPlace → Position → Type 0
+RepresentsHeaderPosition (header.Between ended) spot = (s : HeaderStage) × RepresentsStage ended s × (spot ≡ HeaderBetween s)
+RepresentsHeaderPosition header.P spot = spot ≡ HeaderWithin Begun letter_p []
+RepresentsHeaderPosition header.C spot = spot ≡ HeaderWithin Named letter_c []
+RepresentsHeaderPosition header.Cn spot = spot ≡ HeaderWithin Named letter_c (letter_n ∷ [])
+RepresentsHeaderPosition header.Cnf spot = spot ≡ HeaderWithin Named letter_c (letter_n ∷ letter_f ∷ [])
+RepresentsHeaderPosition (header.Vars value) spot =
     (x : ℕ) × (w : List ℕ) × HasNoBlank (x ∷ w) × SpellsCapped (x ∷ w) value × (spot ≡ HeaderWithin Format x w)
-IsAtHeader (header.Clauses vars value) spot =
+RepresentsHeaderPosition (header.Clauses vars value) spot =
     (v : ℕ) × (x : ℕ) × (w : List ℕ) × (vars ≡ capped v)
     × HasNoBlank (x ∷ w) × SpellsCapped (x ∷ w) value × (spot ≡ HeaderWithin (Vars v) x w)
 
--- `IsAt place spot` holds if the place can represent the position `spot`, which has the bytes of the unfinished word
--- and the numbers of the header, not capped.
-abbrev pub IsAt : Place → Position → Type 0
-IsAt (at.Fresh may) spot = spot ≡ Fresh may
-IsAt (at.Leading may) spot = spot ≡ Leading may
-IsAt (at.Comment may) spot = spot ≡ Comment may
-IsAt at.Between spot = spot ≡ Between
-IsAt at.Minus spot = spot ≡ Within 45 []
-IsAt (at.Digits false value) spot =
+-- `RepresentsPosition place spot` holds if `place`, the tokenizer's state in the code, may stand for the position
+-- `spot`, which also has the bytes of the unfinished word and the numbers of the header, uncapped.
+abbrev pub RepresentsPosition : Place → Position → Type 0
+RepresentsPosition (at.Fresh may) spot = spot ≡ Fresh may
+RepresentsPosition (at.Leading may) spot = spot ≡ Leading may
+RepresentsPosition (at.Comment may) spot = spot ≡ Comment may
+RepresentsPosition at.Between spot = spot ≡ Between
+RepresentsPosition at.Minus spot = spot ≡ Within minus_sign []
+RepresentsPosition (at.Digits false value) spot =
     (x : ℕ) × (w : List ℕ) × HasNoBlank (x ∷ w) × SpellsCapped (x ∷ w) value
-    × (x ≡ 45 → ⊥) × (is_letter x ≡ false) × (spot ≡ Within x w)
-IsAt (at.Digits true value) spot = (w : List ℕ) × HasNoBlank w × (w ≡ [] → ⊥) × SpellsCapped w value × (spot ≡ Within 45 w)
-IsAt (at.Letter b) spot = (HasNoBlank (b ∷ []) × (is_letter b ≡ true)) × (spot ≡ Within b [])
-IsAt at.Bad spot = (x : ℕ) × (w : List ℕ) × HasNoBlank (x ∷ w) × BeginsWrong (x ∷ w) × (spot ≡ Within x w)
-IsAt (at.Header place) spot = IsAtHeader place spot
-IsAt at.Spoilt spot = spot ≡ Spoilt
-IsAt at.Over spot = spot ≡ Over
+    × (x ≡ minus_sign → ⊥) × (is_letter x ≡ false) × (spot ≡ Within x w)
+RepresentsPosition (at.Digits true value) spot = (w : List ℕ) × HasNoBlank w × (w ≡ [] → ⊥) × SpellsCapped w value × (spot ≡ Within minus_sign w)
+RepresentsPosition (at.Letter b) spot = (HasNoBlank (b ∷ []) × (is_letter b ≡ true)) × (spot ≡ Within b [])
+RepresentsPosition at.Bad spot = (x : ℕ) × (w : List ℕ) × HasNoBlank (x ∷ w) × BeginsWrongWord (x ∷ w) × (spot ≡ Within x w)
+RepresentsPosition (at.Header place) spot = RepresentsHeaderPosition place spot
+RepresentsPosition at.WrongHeader spot = spot ≡ WrongHeader
+RepresentsPosition at.Over spot = spot ≡ Over
 
--- `MovesPosition old byte new` holds if the byte leads from one position to another, and completes no token and no
--- line.
-abbrev pub MovesPosition : Position → ℕ → Position → Type 0
-MovesPosition old byte new = (n : ℕ) (rest : List ℕ) → remaining_scan old n (byte ∷ rest) ≡ remaining_scan new n rest
+-- `MovesPositionByByte old byte new` holds if, at position `old`, `byte` completes no token or line, and what remains
+-- to be read after it is what remains from the position `new`, whatever follows.
+abbrev pub MovesPositionByByte : Position → ℕ → Position → Type 0
+MovesPositionByByte old byte new = (n : ℕ) (rest : List ℕ) → remaining_scan old n (byte ∷ rest) ≡ remaining_scan new n rest
 
--- `MovesPlace old byte new` holds if the byte leads from one place to another, and completes no token and no line.
-abbrev pub MovesPlace : Place → ℕ → Place → Type 0
-MovesPlace old byte new = (spot : Position) → IsAt old spot → (next : Position) × IsAt new next × MovesPosition spot byte next
+-- `MovesPlaceByByte old byte new` holds if, in the tokenizer state `old`, `byte` leads to the state `new` and completes
+-- no token or line.
+abbrev pub MovesPlaceByByte : Place → ℕ → Place → Type 0
+MovesPlaceByByte old byte new = (spot : Position) → RepresentsPosition old spot → (next : Position) × RepresentsPosition new next × MovesPositionByByte spot byte next
 
--- `MovesBy old bytes new` holds if the bytes lead from one place to another, and complete no token and no line.
-abbrev pub MovesBy : Place → List ℕ → Place → Type 0
-MovesBy old bytes new = (spot : Position) → IsAt old spot
-    → (next : Position) × IsAt new next × ((n : ℕ) (rest : List ℕ) → remaining_scan spot n (bytes ++ rest) ≡ remaining_scan next n rest)
+-- `MovesPlaceByBytes old bytes new` holds if, in the tokenizer state `old`, `bytes` lead to the state `new` and
+-- complete no token or line.
+abbrev pub MovesPlaceByBytes : Place → List ℕ → Place → Type 0
+MovesPlaceByBytes old bytes new = (spot : Position) → RepresentsPosition old spot
+    → (next : Position) × RepresentsPosition new next × ((n : ℕ) (rest : List ℕ) → remaining_scan spot n (bytes ++ rest) ≡ remaining_scan next n rest)
 
--- `BeginsWord place` holds if a word may begin at this place, which is not in a header line.
-abbrev pub BeginsWord : Place → Type 0
-BeginsWord (at.Fresh may) = Unit {0}
-BeginsWord (at.Leading may) = Unit {0}
-BeginsWord at.Between = Unit {0}
-BeginsWord place = ⊥
+-- `CanBeginWord place` holds if a word may begin in the tokenizer state `place`: at the start of a line, after blanks
+-- there, or between words, but not in a header line.
+abbrev pub CanBeginWord : Place → Type 0
+CanBeginWord (at.Fresh may) = Unit {0}
+CanBeginWord (at.Leading may) = Unit {0}
+CanBeginWord at.Between = Unit {0}
+CanBeginWord place = ⊥
 
--- `MovesHeader old byte new` holds if the byte leads from a place in a header line to another; `new` is `None` if the
--- unfinished word is then not allowed.
-abbrev pub MovesHeader : HeaderPlace → ℕ → Option HeaderPlace → Type 0
-MovesHeader old byte None = (spot : Position) → IsAtHeader old spot → MovesPosition spot byte Spoilt
-MovesHeader old byte (Some new) = (spot : Position) → IsAtHeader old spot → (next : Position) × IsAtHeader new next × MovesPosition spot byte next
+-- `MovesHeaderByByte old byte new` holds if, in the tokenizer state `old` of a header line, `byte` leads to the state
+-- `new` and completes no token or line; `new` is `None` if the unfinished word is then not allowed.
+abbrev pub MovesHeaderByByte : HeaderPlace → ℕ → Option HeaderPlace → Type 0
+MovesHeaderByByte old byte None = (spot : Position) → RepresentsHeaderPosition old spot → MovesPositionByByte spot byte WrongHeader
+MovesHeaderByByte old byte (Some new) = (spot : Position) → RepresentsHeaderPosition old spot → (next : Position) × RepresentsHeaderPosition new next × MovesPositionByByte spot byte next
 
--- `Began byte place` holds if the place is in a word that has only this byte so far.
-abbrev pub Began : ℕ → Place → Type 0
-Began byte place = IsAt place (Within byte [])
+-- `IsInWordOfByte byte place` holds if `place` is the tokenizer state inside a word that has only this byte so far
+-- (outside header lines).
+abbrev pub IsInWordOfByte : ℕ → Place → Type 0
+IsInWordOfByte byte place = RepresentsPosition place (Within byte [])
 
--- `BeganHeader ended byte place` holds if the place is in a word that has only this byte so far, in a header line after
--- the words of the stage `ended`; it is `None` if no such word is allowed.
-abbrev pub BeganHeader : CodeStage → ℕ → Option HeaderPlace → Type 0
-BeganHeader ended byte None = (s : Stage) → IsStage ended s → BeginsSpoilt s (byte ∷ [])
-BeganHeader ended byte (Some place) = (s : Stage) → IsStage ended s → IsAtHeader place (HeaderWithin s byte [])
+-- `IsInHeaderWordOfByte ended byte place` holds if `place` is the state in a header line at stage `ended`, inside a
+-- word that has only this byte so far, or is `None` and no word that begins with it is allowed there.
+abbrev pub IsInHeaderWordOfByte : CodeStage → ℕ → Option HeaderPlace → Type 0
+IsInHeaderWordOfByte ended byte None = (s : HeaderStage) → RepresentsStage ended s → BeginsWrongHeaderWord s (byte ∷ [])
+IsInHeaderWordOfByte ended byte (Some place) = (s : HeaderStage) → RepresentsStage ended s → RepresentsHeaderPosition place (HeaderWithin s byte [])
 
--- `IsCappedToken given tokens` holds if, after any number of ended lines, `tokens` gives one token, that which `given`
--- represents, on the next line, or none if `given` is `None`.
-abbrev pub IsCappedToken : Option CodeToken → (ℕ → List (ℕ × Token)) → Type 0
-IsCappedToken None tokens = (n : ℕ) → tokens n ≡ []
-IsCappedToken (Some t) tokens = (given : Token) × (t ≡ capped_token given) × ((n : ℕ) → tokens n ≡ (n + 1, given) ∷ [])
+-- `GivesCappedToken given tokens` holds if, for any number n of ended lines, `tokens n` is exactly one token, `given`
+-- (up to capped numbers) on line n + 1, or no token if `given` is `None`.
+abbrev pub GivesCappedToken : Option CodeToken → (ℕ → List (ℕ × Token)) → Type 0
+GivesCappedToken None tokens = (n : ℕ) → tokens n ≡ []
+GivesCappedToken (Some t) tokens = (given : Token) × (t ≡ capped_token given) × ((n : ℕ) → tokens n ≡ (n + 1, given) ∷ [])
 
--- `SaysInHand given place` holds if the end of the line at this place completes the token `given`, or none if it is
--- `None`.
-abbrev pub SaysInHand : Option CodeToken → Place → Type 0
-SaysInHand given place = (spot : Position) → IsAt place spot → IsCappedToken given (unfinished_token spot)
+-- `CompletesAtLineEnd given place` holds if the end of the line at this place completes the token `given`, or none if
+-- it is `None`.
+abbrev pub CompletesAtLineEnd : Option CodeToken → Place → Type 0
+CompletesAtLineEnd given place = (spot : Position) → RepresentsPosition place spot → GivesCappedToken given (unfinished_token spot)
 
--- `SaysAtBlank given place` holds if a blank within a line at this place completes the token `given`, or none if it is
--- `None`.
-abbrev pub SaysAtBlank : Option CodeToken → Place → Type 0
-SaysAtBlank given place = (spot : Position) → IsAt place spot → IsCappedToken given (ended_by_blank spot)
+-- `CompletesAtBlank given place` holds if a blank within a line at this place completes the token `given`, or none if
+-- it is `None`.
+abbrev pub CompletesAtBlank : Option CodeToken → Place → Type 0
+CompletesAtBlank given place = (spot : Position) → RepresentsPosition place spot → GivesCappedToken given (token_ended_by_blank spot)
 
 -- the stage of a header line once its unfinished word ends; `None` elsewhere, or if the word is not allowed there
-abbrev pub ended_stage : Position → Option Stage
-ended_stage (HeaderBetween s) = Some s
-ended_stage (HeaderWithin s x w) = stage_after s (x ∷ w)
-ended_stage spot = None
+abbrev pub stage_at_word_end : Position → Option HeaderStage
+stage_at_word_end (HeaderBetween s) = Some s
+stage_at_word_end (HeaderWithin s x w) = stage_after s (x ∷ w)
+stage_at_word_end spot = None
 
--- `IsStageIf ended given` holds if the stage `ended` of the code represents the stage `given`, or both are `None`.
-abbrev pub IsStageIf : Option CodeStage → Option Stage → Type 0
-IsStageIf None given = given ≡ None
-IsStageIf (Some ended) given = (s : Stage) × IsStage ended s × (given ≡ Some s)
+-- `RepresentsStageOrNone ended given` holds if the stage `ended` of the code represents the stage `given`, or both are
+-- `None`.
+abbrev pub RepresentsStageOrNone : Option CodeStage → Option HeaderStage → Type 0
+RepresentsStageOrNone None given = given ≡ None
+RepresentsStageOrNone (Some ended) given = (s : HeaderStage) × RepresentsStage ended s × (given ≡ Some s)
 
--- `LeadsAfter old new` holds if a blank other than LF leads from one place to another.
-abbrev pub LeadsAfter : Place → Place → Type 0
-LeadsAfter old new = (spot : Position) → IsAt old spot → IsAt new (following_blank spot)
+-- `MovesPlaceByBlank old new` holds if a blank other than LF leads from the tokenizer state `old` to the state `new`.
+abbrev pub MovesPlaceByBlank : Place → Place → Type 0
+MovesPlaceByBlank old new = (spot : Position) → RepresentsPosition old spot → RepresentsPosition new (position_after_blank spot)
 
--- `IsBetweenWords place` holds if no word is unfinished, and the place is not at the start of a line.
+-- `IsBetweenWords place` holds if the tokenizer state `place` has no unfinished word and is not at the start of a line:
+-- it is after blanks, between words, in a comment, or after `%`.
 abbrev pub IsBetweenWords : Place → Type 0
 IsBetweenWords (at.Leading may) = Unit {0}
 IsBetweenWords (at.Comment may) = Unit {0}
@@ -155,63 +164,63 @@ IsBetweenWords (at.Header (header.Between ended)) = Unit {0}
 IsBetweenWords at.Over = Unit {0}
 IsBetweenWords place = ⊥
 
--- `may_come place` is true if a header is still allowed on the lines after this place.
-abbrev pub may_come : Place → Bool
-may_come (at.Fresh may) = may
-may_come (at.Leading may) = may
-may_come (at.Comment may) = may
-may_come place = false
+-- `place_allows_header place` is true if a header is still allowed on the lines after this place.
+abbrev pub place_allows_header : Place → Bool
+place_allows_header (at.Fresh may) = may
+place_allows_header (at.Leading may) = may
+place_allows_header (at.Comment may) = may
+place_allows_header place = false
 
--- `LeadsBelow old new` holds if LF leads from one place to another.
-abbrev pub LeadsBelow : Place → Place → Type 0
-LeadsBelow old new = (spot : Position) → IsAt old spot → IsAt new (after_LF spot)
+-- `MovesPlaceByLF old new` holds if LF leads from the tokenizer state `old` to the state `new`.
+abbrev pub MovesPlaceByLF : Place → Place → Type 0
+MovesPlaceByLF old new = (spot : Position) → RepresentsPosition old spot → RepresentsPosition new (position_after_LF spot)
 
--- `IsPositionedBefore machine left_of` holds if the tokenizer is at a position from which `left_of` gives what is still
--- to be read, for any bytes to come.
-unfoldable pub IsPositionedBefore : Tokenizer → (List ℕ → Scan) → Type 0
-IsPositionedBefore machine left_of = (spot : Position) × (n : ℕ) × IsAt machine.place spot × (machine.lines ≡ capped n)
+-- `HasRemainingScan machine left_of` holds if, from the tokenizer's state, any bytes r to come have the remaining scan
+-- `left_of r`; the tokenizer's line count is capped at 2^64 - 1.
+unfoldable pub HasRemainingScan : Tokenizer → (List ℕ → Scan) → Type 0
+HasRemainingScan machine left_of = (spot : Position) × (n : ℕ) × RepresentsPosition machine.place spot × (machine.lines ≡ capped n)
     × ((rest : List ℕ) → left_of rest ≡ remaining_scan spot n rest)
 
--- `GivesToken given byte old new` holds if the byte completes the token `given`, on the line of the byte, or none if it
--- is `None`; `old` and `new` give what is still to be read.
-abbrev pub GivesToken : Option CodeToken → ℕ → (List ℕ → Scan) → (List ℕ → Scan) → Type 0
-GivesToken None byte old new = (rest : List ℕ) → old (byte ∷ rest) ≡ new rest
-GivesToken (Some t) byte old new = (given : Token) × (t ≡ capped_token given)
+-- `GivesTokenAtByte given byte old new` holds if the byte completes the token `given`, on the line of the byte, or none
+-- if it is `None`; `old` and `new` give what is still to be read.
+abbrev pub GivesTokenAtByte : Option CodeToken → ℕ → (List ℕ → Scan) → (List ℕ → Scan) → Type 0
+GivesTokenAtByte None byte old new = (rest : List ℕ) → old (byte ∷ rest) ≡ new rest
+GivesTokenAtByte (Some t) byte old new = (given : Token) × (t ≡ capped_token given)
     × ((rest : List ℕ) → old (byte ∷ rest) ≡ prepend_tokens (((new []).last, given) ∷ []) (new rest))
 
 -- `ReceivesByte old byte given new` holds if the tokenizer receives the byte, which completes the token `given`, or
 -- none if it is `None`. What was still to be read is this token, and then what is still to be read after the byte.
 abbrev pub ReceivesByte : Tokenizer → ℕ → Option CodeToken → Tokenizer → Type 0
-ReceivesByte old byte given new = (before : List ℕ → Scan) → IsPositionedBefore old before
-    → (after : List ℕ → Scan) × IsPositionedBefore new after × GivesToken given byte before after
+ReceivesByte old byte given new = (before : List ℕ → Scan) → HasRemainingScan old before
+    → (after : List ℕ → Scan) × HasRemainingScan new after × GivesTokenAtByte given byte before after
 
--- `GivesAfter given bytes old new` holds if the bytes complete the token `given`, on the line of the last byte, or none
--- if it is `None`; `old` and `new` give what is still to be read.
-abbrev pub GivesAfter : Option CodeToken → List ℕ → (List ℕ → Scan) → (List ℕ → Scan) → Type 0
-GivesAfter None bytes old new = (rest : List ℕ) → old (bytes ++ rest) ≡ new rest
-GivesAfter (Some t) bytes old new = (given : Token) × (t ≡ capped_token given)
+-- `GivesTokenAfterBytes given bytes old new` holds if the bytes complete the token `given`, on the line of the last
+-- byte, or none if it is `None`; `old` and `new` give what is still to be read.
+abbrev pub GivesTokenAfterBytes : Option CodeToken → List ℕ → (List ℕ → Scan) → (List ℕ → Scan) → Type 0
+GivesTokenAfterBytes None bytes old new = (rest : List ℕ) → old (bytes ++ rest) ≡ new rest
+GivesTokenAfterBytes (Some t) bytes old new = (given : Token) × (t ≡ capped_token given)
     × ((rest : List ℕ) → old (bytes ++ rest) ≡ prepend_tokens (((new []).last, given) ∷ []) (new rest))
 
--- `ReceivesPrefix old bytes given new` holds if the tokenizer receives these bytes, which complete the token `given`,
--- or none if it is `None`.
+-- `ReceivesPrefix old bytes given new` holds if the tokenizer `old` becomes `new` by receiving `bytes`, which complete
+-- exactly the token `given`, on the line of the last byte, or none if it is `None`.
 abbrev pub ReceivesPrefix : Tokenizer → List ℕ → Option CodeToken → Tokenizer → Type 0
-ReceivesPrefix old bytes given new = (before : List ℕ → Scan) → IsPositionedBefore old before
-    → (after : List ℕ → Scan) × IsPositionedBefore new after × GivesAfter given bytes before after
+ReceivesPrefix old bytes given new = (before : List ℕ → Scan) → HasRemainingScan old before
+    → (after : List ℕ → Scan) × HasRemainingScan new after × GivesTokenAfterBytes given bytes before after
 
--- `IsOfHeader token` holds if the token can be that of a header line: a header or `Wrong`.
-abbrev pub IsOfHeader : Token → Type 0
-IsOfHeader (Number negative value) = ⊥
-IsOfHeader (Letter b) = ⊥
-IsOfHeader (Header v c) = Unit {0}
-IsOfHeader Wrong = Unit {0}
+-- `IsHeaderOrWrong token` holds if the token can be that of a header line: a header or `Wrong`.
+abbrev pub IsHeaderOrWrong : Token → Type 0
+IsHeaderOrWrong (Number negative value) = ⊥
+IsHeaderOrWrong (Letter b) = ⊥
+IsHeaderOrWrong (Header v c) = Unit {0}
+IsHeaderOrWrong Wrong = Unit {0}
 
 -- `HasNoNumberOrLetter s` holds if the scan has no token, or only a header or `Wrong`, so neither a number nor a
 -- letter.
 abbrev pub HasNoNumberOrLetter : Scan → Type 0
-HasNoNumberOrLetter s = (s.tokens ≡ []) ⊎ ((line : ℕ) × (t : Token) × IsOfHeader t × (s.tokens ≡ (line, t) ∷ []))
+HasNoNumberOrLetter s = (s.tokens ≡ []) ⊎ ((line : ℕ) × (t : Token) × IsHeaderOrWrong t × (s.tokens ≡ (line, t) ∷ []))
 
--- `GivesLast given rest` holds if the end of the text completes the token `given`, on the last line, or none if it is
--- `None`, and nothing else is left.
-abbrev pub GivesLast : Option CodeToken → Scan → Type 0
-GivesLast None rest = rest.tokens ≡ []
-GivesLast (Some t) rest = (given : Token) × (t ≡ capped_token given) × (rest.tokens ≡ (rest.last, given) ∷ [])
+-- `GivesTokenAtEnd given rest` holds if the end of the text completes the token `given`, on the last line, or none if
+-- it is `None`, and nothing else is left.
+abbrev pub GivesTokenAtEnd : Option CodeToken → Scan → Type 0
+GivesTokenAtEnd None rest = rest.tokens ≡ []
+GivesTokenAtEnd (Some t) rest = (given : Token) × (t ≡ capped_token given) × (rest.tokens ≡ (rest.last, given) ∷ [])

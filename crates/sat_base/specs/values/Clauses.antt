@@ -20,10 +20,10 @@ clause_true a (l ∷ ls) = literal_true a l || clause_true a ls
 abbrev pub flipped : ℕ → Valuation → Valuation
 flipped v a = λ x. if x == v then not (a x) else a x
 
--- `EachTrue a ls` holds if all literals of `ls` are true in the valuation `a`.
-abbrev pub EachTrue : Valuation → List ℕ → Type 0
-EachTrue a = AllByRecursion (λ l. literal_true a l ≡ true)
+-- `AllLitsTrue a ls` holds if all literals of `ls` are true in the valuation `a`.
+abbrev pub AllLitsTrue : Valuation → List ℕ → Type 0
+AllLitsTrue a = AllByRecursion (λ l. literal_true a l ≡ true)
 
--- `EachHolds a cs` holds if the valuation `a` satisfies all clauses of `cs`.
-abbrev pub EachHolds : Valuation → List (List ℕ) → Type 0
-EachHolds a = AllByRecursion (λ c. clause_true a c ≡ true)
+-- `AllClausesTrue a cs` holds if the valuation `a` satisfies all clauses of `cs`.
+abbrev pub AllClausesTrue : Valuation → List (List ℕ) → Type 0
+AllClausesTrue a = AllByRecursion (λ c. clause_true a c ≡ true)

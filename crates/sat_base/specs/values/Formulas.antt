@@ -12,20 +12,20 @@ abbrev pub no_formula : Formula
 no_formula = record { var_count = 0; clauses = [] }
 
 -- one more than the index of the highest variable of a clause, or 0 for the empty clause
-abbrev pub vars_in : List ℕ → ℕ
-vars_in [] = 0
-vars_in (l ∷ ls) = max (variable l + 1) (vars_in ls)
+abbrev pub clause_var_count : List ℕ → ℕ
+clause_var_count [] = 0
+clause_var_count (l ∷ ls) = max (variable l + 1) (clause_var_count ls)
 
 -- one more than the index of the highest variable of these clauses, or 0 if there is none
-abbrev pub vars_of : List (List ℕ) → ℕ
-vars_of [] = 0
-vars_of (c ∷ cs) = max (vars_in c) (vars_of cs)
+abbrev pub clauses_var_count : List (List ℕ) → ℕ
+clauses_var_count [] = 0
+clauses_var_count (c ∷ cs) = max (clause_var_count c) (clauses_var_count cs)
 
 -- the formula with one more clause, and at least as many variables as this clause needs
 abbrev pub with_formula_clause : List ℕ → Formula → Formula
-with_formula_clause clause f = record { var_count = max f.var_count (vars_in clause); clauses = f.clauses ++ clause ∷ [] }
+with_formula_clause clause f = record { var_count = max f.var_count (clause_var_count clause); clauses = f.clauses ++ clause ∷ [] }
 
--- the formula with at least `count` variables
+-- the formula with its number of variables raised to `count` if it is lower
 abbrev pub with_at_least_vars : ℕ → Formula → Formula
 with_at_least_vars count f = record f { var_count = max f.var_count count }
 

@@ -6,7 +6,7 @@ abbrev pub packed : Option ℕ → ℕ
 packed None = 0
 packed (Some v) = suc v
 
--- the optional variable that a number represents
+-- the optional variable that a number stores: `None` for 0, otherwise the index one lower
 abbrev pub unpacked : ℕ → Option ℕ
 unpacked zero = None
 unpacked (suc v) = Some v

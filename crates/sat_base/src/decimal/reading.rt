@@ -1,6 +1,7 @@
 //! Reads fixed texts and numbers, which have no leading zeros and a space after them, at the start of byte slices.
 ghost use Rattle.std.specs.Prelude.{◌≡◌, ◌++◌, ◌∷◌, [], ◌<◌, ◌≤◌, decimal, List, ℕ, MatchBool, MatchOption};
-ghost use Rattle.sat_base.specs.text.NumberWords.{BeginsWithWord, EndsNone, IsNumberUpTo, NoDigit, NoWord, digits_so_far};
+ghost use Rattle.sat_base.specs.text.NumberWords.{BeginsWithWord, EndsNoNumber, IsNumberUpTo, NoNumberContinues};
+ghost use Rattle.sat_base.specs.text.NumberWords.{BeginsWithNoWord, digits_so_far};
 
 use crate::decimal::short::short_decimal;
 
@@ -21,7 +22,7 @@ pub fn take_text<'a>(bytes: &'a [u8], text: &[u8]) -> Option<&'a [u8]>
 #[inline(always)]
 pub fn append_digit(number: u64, byte: u8, limit: u64) -> Option<u64>
     requires { 9 ≤ limit }
-    ensures { MatchOption result (NoDigit limit number byte)
+    ensures { MatchOption result (NoNumberContinues limit number byte)
         (λ more. IsNumberUpTo limit more × (decimal more ≡ digits_so_far number ++ byte ∷ [])) }
 {
     if byte < b'0' || byte > b'9' {
@@ -41,7 +42,7 @@ pub fn append_digit(number: u64, byte: u8, limit: u64) -> Option<u64>
 /// Returns `true` if `byte` is a space, and `number` is from 1 to `limit`.
 #[inline(always)]
 fn ends_number(number: u64, byte: u8, limit: u64) -> bool
-    ensures { MatchBool result ((byte ≡ 32) × (0 < number) × (number ≤ limit)) (EndsNone number byte limit) }
+    ensures { MatchBool result ((byte ≡ 32) × (0 < number) × (number ≤ limit)) (EndsNoNumber number byte limit) }
 {
     if byte != b' ' || number == 0 {
         return false;
@@ -49,11 +50,12 @@ fn ends_number(number: u64, byte: u8, limit: u64) -> bool
     number <= limit
 }
 
-/// Reads a number from 1 to `limit`, and the space after it. Returns the number and the remaining bytes.
+/// Reads a number from 1 to `limit`, without leading zeros, and the space after it. Returns the number and the
+/// remaining bytes, or `None` if `bytes` does not begin with such a number and a space.
 #[inline(always)]
 pub fn read_number(bytes: &[u8], limit: u64) -> Option<(u64, &[u8])>
     requires { 9 ≤ limit }
-    ensures { MatchOption result (NoWord decimal (IsNumberUpTo limit) bytes.now)
+    ensures { MatchOption result (BeginsWithNoWord decimal (IsNumberUpTo limit) bytes.now)
         (λ x. BeginsWithWord decimal (IsNumberUpTo limit) bytes.now x.0 x.1.now) }
 {
     let Some((number, count)) = short_decimal(bytes) else {
@@ -73,7 +75,7 @@ pub fn read_number(bytes: &[u8], limit: u64) -> Option<(u64, &[u8])>
 #[inline(never)]
 fn read_by_bytes(bytes: &[u8], limit: u64) -> Option<(u64, &[u8])>
     requires { 9 ≤ limit }
-    ensures { MatchOption result (NoWord decimal (IsNumberUpTo limit) bytes.now)
+    ensures { MatchOption result (BeginsWithNoWord decimal (IsNumberUpTo limit) bytes.now)
         (λ x. BeginsWithWord decimal (IsNumberUpTo limit) bytes.now x.0 x.1.now) }
 {
     if bytes.is_empty() {
@@ -103,7 +105,7 @@ fn read_by_bytes(bytes: &[u8], limit: u64) -> Option<(u64, &[u8])>
 #[inline(never)]
 fn read_long(bytes: &[u8], limit: u64) -> Option<(u64, &[u8])>
     requires { 9 ≤ limit }
-    ensures { MatchOption result (NoWord decimal (IsNumberUpTo limit) bytes.now)
+    ensures { MatchOption result (BeginsWithNoWord decimal (IsNumberUpTo limit) bytes.now)
         (λ x. BeginsWithWord decimal (IsNumberUpTo limit) bytes.now x.0 x.1.now) }
 {
     let mut number = 0;

@@ -2,14 +2,15 @@
 ghost use Rattle.std.specs.Prelude.{ℕ, ◌≡◌, ◌+◌, ◌<◌, ◌≤◌, List, length, slice_index, true, false, IfSome};
 ghost use Rattle.std.specs.Int.{w64, trailing_zeros};
 ghost use Rattle.sat_base.specs.text.Text.{is_digit};
-ghost use Rattle.sat_base.specs.text.ShortNumbers.{AreEightDigits, BeginsWithDigits, from_bytes, value_after};
+ghost use Rattle.sat_base.specs.text.ShortNumbers.{AreEightDigits, BeginsWithDigits, little_endian_value};
+ghost use Rattle.sat_base.specs.text.ShortNumbers.{value_with_digits};
 
 use std::simd::prelude::*;
 
 /// Returns the value of eight digits, the first of which is in the lowest byte.
 #[inline(always)]
 fn eight_digits(digits: u64) -> u64
-    ensures { (ds : List ℕ) → AreEightDigits ds → digits ≡ from_bytes ds → result ≡ value_after 0 ds }
+    ensures { (ds : List ℕ) → AreEightDigits ds → digits ≡ little_endian_value ds → result ≡ value_with_digits 0 ds }
 {
     let pairs = digits.wrapping_mul(2561) >> 8 & 0x00ff_00ff_00ff_00ff;
     let fours = pairs.wrapping_mul(6_553_601) >> 16 & 0x0000_ffff_0000_ffff;

@@ -1,6 +1,6 @@
 //! A buffer of bytes that are read before they are needed.
 ghost use Rattle.std.specs.Prelude.{◌≤◌};
-ghost use Rattle.sat_base.specs.device.Device.{most_reads};
+ghost use Rattle.sat_base.specs.device.Device.{max_reads};
 
 /// The size of buffers: the largest number of bytes in one read, and the largest number of pending bytes.
 pub(crate) const PIECE: usize = 4096;
@@ -14,5 +14,5 @@ pub(crate) struct Ahead {
     /// The number of reads so far.
     pub(crate) reads: u64,
     pub(crate) ghost within: { end ≤ 4096 },
-    pub(crate) ghost bounded: { reads ≤ most_reads },
+    pub(crate) ghost bounded: { reads ≤ max_reads },
 }

@@ -1,7 +1,7 @@
 //! A buffered reader.
 ghost use Rattle.std.specs.Prelude.{◌≡◌, ◌<◌, ◌≤◌};
 ghost use Rattle.sat_base.specs.device.ReadRoom.{HasReadRoom, ReadsWithinRoom};
-ghost use Rattle.sat_base.specs.device.Reading.{source_of, NextByte, ByteWithin};
+ghost use Rattle.sat_base.specs.device.Reading.{source_of, ConsumesNextByte, ConsumesByteWithinText};
 
 use crate::device::ahead::Ahead;
 use crate::{CountedRead, StepError};
@@ -51,7 +51,7 @@ impl<'r, R: CountedRead> Input<'r, R> {
     #[inline(always)]
     pub(crate) fn next_byte(&mut self) -> Result<Option<u8>, StepError>
         requires { HasReadRoom self.old }
-        ensures reads { NextByte result (source_of R.seen self.old) (source_of R.seen self.new) }
+        ensures reads { ConsumesNextByte result (source_of R.seen self.old) (source_of R.seen self.new) }
         ensures within { ReadsWithinRoom self.old self.new }
     {
         if self.ahead.at < self.ahead.end {
@@ -64,7 +64,7 @@ impl<'r, R: CountedRead> Input<'r, R> {
     fn first_byte(&mut self) -> Result<Option<u8>, StepError>
         requires over { self.old.ahead.now.end ≤ self.old.ahead.now.at }
         requires some { 0 < self.old.room }
-        ensures reads { NextByte result (source_of R.seen self.old) (source_of R.seen self.new) }
+        ensures reads { ConsumesNextByte result (source_of R.seen self.old) (source_of R.seen self.new) }
         ensures within { ReadsWithinRoom self.old self.new }
     {
         self.ahead.refill(self.reader, self.room)?;
@@ -78,7 +78,7 @@ impl<'r, R: CountedRead> Input<'r, R> {
     #[inline(always)]
     pub(crate) fn byte_within(&mut self) -> Result<u8, StepError>
         requires { HasReadRoom self.old }
-        ensures reads { ByteWithin result (source_of R.seen self.old) (source_of R.seen self.new) }
+        ensures reads { ConsumesByteWithinText result (source_of R.seen self.old) (source_of R.seen self.new) }
         ensures within { ReadsWithinRoom self.old self.new }
     {
         match self.next_byte()? {

@@ -1,6 +1,6 @@
 //! A buffered writer.
 ghost use Rattle.std.specs.Prelude.{◌≡◌, ◌<◌, ◌∷◌, [], is_ok};
-ghost use Rattle.sat_base.specs.device.Sink.{SendsText, Flushes, sink_of, empty_sink};
+ghost use Rattle.sat_base.specs.device.Sink.{SendsText, FlushesSink, sink_of, empty_sink};
 
 use crate::CountedWrite;
 use crate::device::kept_error::{WriteFailed, keep_error};
@@ -104,7 +104,7 @@ impl<W: CountedWrite, P: Room> Output<W, P> {
 
     /// Writes out the pending bytes, and flushes the writer.
     pub(crate) fn flush(&mut self) -> Result<(), WriteFailed>
-        ensures { Flushes result (sink_of W.seen P.waiting self.old) (sink_of W.seen P.waiting self.new) }
+        ensures { FlushesSink result (sink_of W.seen P.waiting self.old) (sink_of W.seen P.waiting self.new) }
     {
         self.write_rest()?;
         let result = self.writer.flush_counted();

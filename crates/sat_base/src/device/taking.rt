@@ -1,8 +1,8 @@
 //! Reads bytes ahead, and consumes them. This is kept apart from `Ahead` itself, since the contracts are about readers.
 ghost use Rattle.std.specs.Prelude.{◌≡◌, ◌+◌, ◌<◌, ◌≤◌, ◌∷◌, take, drop, OnOk, OnErr};
-ghost use Rattle.sat_base.specs.device.Device.{most_reads, piece_size};
+ghost use Rattle.sat_base.specs.device.Device.{max_reads, max_read_size};
 ghost use Rattle.sat_base.specs.device.ReadRoom.{unread};
-ghost use Rattle.sat_base.specs.device.Reading.{RefillsAlone};
+ghost use Rattle.sat_base.specs.device.Reading.{ReadsAheadUnderAnyBorrows};
 ghost use Rattle.sat_base.specs.device.Waiting.{waiting};
 
 use crate::device::ahead::{Ahead, PIECE};
@@ -57,10 +57,10 @@ impl Ahead {
     /// Reads the next chunk, of at most 4,096 bytes. The last chunk must have been consumed completely.
     fn refill_whole<R: CountedRead>(&mut self, reader: &mut R) -> Result<(), StepError>
         requires over { self.old.end ≤ self.old.at }
-        requires reads { self.old.reads < most_reads }
-        ensures bytes { RefillsAlone R.seen result reader.old self.old reader.new self.new }
+        requires reads { self.old.reads < max_reads }
+        ensures bytes { ReadsAheadUnderAnyBorrows R.seen result reader.old self.old reader.new self.new }
         ensures at { OnOk result (self.new.at ≡ 0) }
-        ensures left { unread self.new ≤ piece_size }
+        ensures left { unread self.new ≤ max_read_size }
         ensures none { OnErr result (unread self.new ≡ 0) }
     {
         self.reads += 1;
@@ -78,8 +78,8 @@ impl Ahead {
     /// Reads a single byte. The last chunk must have been consumed completely.
     fn refill_one<R: CountedRead>(&mut self, reader: &mut R) -> Result<(), StepError>
         requires over { self.old.end ≤ self.old.at }
-        requires reads { self.old.reads < most_reads }
-        ensures bytes { RefillsAlone R.seen result reader.old self.old reader.new self.new }
+        requires reads { self.old.reads < max_reads }
+        ensures bytes { ReadsAheadUnderAnyBorrows R.seen result reader.old self.old reader.new self.new }
         ensures at { OnOk result (self.new.at ≡ 0) }
         ensures left { unread self.new ≤ 1 }
         ensures none { OnErr result (unread self.new ≡ 0) }
@@ -107,7 +107,7 @@ impl Ahead {
     ) -> Result<(), StepError>
         requires over { self.old.end ≤ self.old.at }
         requires some { 0 < room }
-        ensures bytes { RefillsAlone R.seen result reader.old self.old reader.new self.new }
+        ensures bytes { ReadsAheadUnderAnyBorrows R.seen result reader.old self.old reader.new self.new }
         ensures at { OnOk result (self.new.at ≡ 0) }
         ensures left { unread self.new ≤ room }
         ensures none { OnErr result (unread self.new ≡ 0) }

@@ -1,7 +1,7 @@
 //! Reads a reader to its end.
 ghost use Rattle.std.specs.Prelude.{◌≡◌, ◌+◌, ◌<◌, ◌≤◌, ◌++◌, ℕ, List, [], length, IfOk, IfErr, OnOk, IsErrOf};
 ghost use Rattle.std.specs.Io.{ReadsAtMost};
-ghost use Rattle.sat_base.specs.device.Device.{most_reads, ReadFails, ReadsOnce, GaveAll, GaveMore};
+ghost use Rattle.sat_base.specs.device.Device.{max_reads, ReadFails, ReadsOnce, GaveAll, GaveMore};
 
 use crate::CountedRead;
 use crate::device::ahead::PIECE;
@@ -79,7 +79,7 @@ pub fn read_into<R: CountedRead, F: Feed>(reader: &mut R, taker: &mut F) -> Resu
     // Memory runs out only after a byte has been read.
     ensures some { IsErrOf result ReadError.OutOfMemory
         → length (R.seen reader.old).given < length (R.seen reader.new).given }
-    ensures reads { (R.seen reader.new).calls ≤ (R.seen reader.old).calls + most_reads }
+    ensures reads { (R.seen reader.new).calls ≤ (R.seen reader.old).calls + max_reads }
 {
     let mut piece = [0; PIECE];
     for _ in 0..MAX_READS {
@@ -105,7 +105,7 @@ pub fn read_whole<R: CountedRead>(alloc: Global, reader: &mut R) -> Result<Vec<u
     // Memory runs out only after a byte has been read.
     ensures some { IsErrOf result ReadError.OutOfMemory
         → length (R.seen reader.old).given < length (R.seen reader.new).given }
-    ensures reads { (R.seen reader.new).calls ≤ (R.seen reader.old).calls + most_reads }
+    ensures reads { (R.seen reader.new).calls ≤ (R.seen reader.old).calls + max_reads }
 {
     let mut whole = Vec::new(alloc);
     match read_into(reader, &mut whole) {

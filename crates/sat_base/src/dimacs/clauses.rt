@@ -1,11 +1,11 @@
 //! Builds clauses from tokens.
 ghost use Rattle.std.specs.Prelude.{◌≡◌, None, MatchResult};
 ghost use Rattle.sat_base.specs.values.Formulas.{no_formula, with_at_least_vars};
-ghost use Rattle.sat_base.specs.dimacs.Dimacs.{Ends, literals_in};
+ghost use Rattle.sat_base.specs.dimacs.Dimacs.{EndsClause, literals_in};
 ghost use Rattle.sat_base.specs.declared.dimacs.clauses.Refusal.TheVariants.{OutOfMemory};
 ghost use Rattle.sat_base.specs.dimacs.Collecting.{token_of, partial_clause_in, is_literal, SameClausesAndHeader};
 ghost use Rattle.sat_base.specs.dimacs.Collecting.{AppliesTokenEffect};
-ghost use Rattle.sat_base.specs.dimacs.Collecting.{CollectsToken, IsInside};
+ghost use Rattle.sat_base.specs.dimacs.Collecting.{CollectsToken, IsUnfinishedFlag};
 
 use crate::var::MAX_COUNT;
 use crate::{CnfFormula, ExtendFormula, FormulaError, Lit, Token};
@@ -55,7 +55,7 @@ pub(crate) struct Clauses {
     /// The clauses that have not been taken yet. The number of variables of this formula covers all clauses that
     /// were read.
     pub(crate) formula: CnfFormula,
-    pub(crate) hand: Vec<Lit>,
+    pub(crate) unfinished: Vec<Lit>,
     /// The number of clauses read, capped at 2^64-1.
     pub(crate) count: u64,
     /// The numbers of variables and clauses in the header, capped at 2^64-1.
@@ -76,13 +76,13 @@ impl Clauses {
     /// Returns empty `Clauses`. Never allocates.
     pub(crate) fn new(alloc: Global) -> Clauses
         ensures formula { result.formula ≡ no_formula }
-        ensures hand { partial_clause_in result ≡ None }
+        ensures unfinished { partial_clause_in result ≡ None }
         ensures count { result.count ≡ 0 }
         ensures header { result.header ≡ None }
     {
         Clauses {
             formula: CnfFormula::new(alloc),
-            hand: Vec::new(alloc),
+            unfinished: Vec::new(alloc),
             count: 0,
             header: None,
         }
@@ -90,11 +90,11 @@ impl Clauses {
 
     /// Ends the unfinished clause, after the `0` that ends it.
     fn end_clause(&mut self) -> Result<(), Refusal>
-        ensures { MatchResult result (λ _. AppliesTokenEffect (Ends (literals_in (partial_clause_in self.old))) self.old self.new
+        ensures { MatchResult result (λ _. AppliesTokenEffect (EndsClause (literals_in (partial_clause_in self.old))) self.old self.new
             × (self.new.header ≡ self.old.header)) (λ e. (e ≡ OutOfMemory) × SameClausesAndHeader self.old self.new) }
     {
-        self.formula.add_clause(&self.hand)?;
-        self.hand.clear();
+        self.formula.add_clause(&self.unfinished)?;
+        self.unfinished.clear();
         self.count = self.count.saturating_add(1);
         Ok(())
     }
@@ -113,7 +113,7 @@ impl Clauses {
                 if value > LARGEST {
                     return Err(Refusal::Limit);
                 }
-                self.hand
+                self.unfinished
                     .push(Lit::from_index((value - 1) as usize, !negative))?;
                 Ok(())
             }
@@ -128,9 +128,9 @@ impl Clauses {
 
     /// Returns `true` if a clause has begun.
     pub(crate) fn is_inside(&self) -> bool
-        ensures { IsInside result (partial_clause_in self.now) }
+        ensures { IsUnfinishedFlag result (partial_clause_in self.now) }
     {
-        !self.hand.is_empty()
+        !self.unfinished.is_empty()
     }
 
     /// Returns the clauses that have been read, and removes them. Later clauses are collected in a formula that starts

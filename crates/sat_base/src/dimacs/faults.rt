@@ -1,7 +1,8 @@
 //! Finds faults in the text of a formula without allocating.
 ghost use Rattle.std.specs.Prelude.{◌≡◌, ◌++◌, ◌∷◌, [], ℕ, List};
 ghost use Rattle.sat_base.specs.dimacs.Collecting.{token_of};
-ghost use Rattle.sat_base.specs.dimacs.Faults.{FindsFault, HasTakenSoundly, JudgesToken, OutOfMemoryOrFault};
+ghost use Rattle.sat_base.specs.dimacs.Faults.{FindsFault, HasReceivedWithoutFault, ReportsTokenFault};
+ghost use Rattle.sat_base.specs.dimacs.Faults.{OutOfMemoryOrFault};
 
 use super::clauses::LARGEST;
 use super::error::DimacsError;
@@ -9,7 +10,7 @@ use crate::{Token, Tokenizer};
 
 /// Returns an error if the token is a fault in any clause. `line` is the line of the token.
 fn judge_token(token: Token, line: u64) -> Result<(), DimacsError>
-    ensures { JudgesToken result line (token_of token) }
+    ensures { ReportsTokenFault result line (token_of token) }
 {
     match token {
         Token::Number { value, .. } => {
@@ -27,7 +28,7 @@ fn judge_token(token: Token, line: u64) -> Result<(), DimacsError>
 /// Passes the next byte of a text to the tokenizer. Returns an error if the byte ends a faulty word, or makes a
 /// word malformed.
 fn take_byte(tokenizer: &mut Tokenizer, byte: u8) -> Result<(), DimacsError>
-    ensures { (text : List ℕ) → HasTakenSoundly text tokenizer.old
+    ensures { (text : List ℕ) → HasReceivedWithoutFault text tokenizer.old
         → FindsFault result (text ++ byte ∷ []) tokenizer.new }
 {
     let Some(token) = tokenizer.push(byte) else {
@@ -43,7 +44,7 @@ fn take_byte(tokenizer: &mut Tokenizer, byte: u8) -> Result<(), DimacsError>
 
 /// Passes the next bytes of a text to the tokenizer. Returns the first fault as an error.
 fn take_bytes(tokenizer: &mut Tokenizer, bytes: &[u8]) -> Result<(), DimacsError>
-    ensures { (text : List ℕ) → HasTakenSoundly text tokenizer.old
+    ensures { (text : List ℕ) → HasReceivedWithoutFault text tokenizer.old
         → FindsFault result (text ++ bytes.now) tokenizer.new }
 {
     for byte in bytes {
@@ -56,7 +57,7 @@ fn take_bytes(tokenizer: &mut Tokenizer, bytes: &[u8]) -> Result<(), DimacsError
 /// `error` is `OutOfMemory` and there is a fault, and otherwise `error`.
 pub(crate) fn error_within(tokenizer: Tokenizer, bytes: &[u8], error: DimacsError) -> DimacsError
     ensures same { (error ≡ DimacsError.OutOfMemory → ⊥) → result ≡ error }
-    ensures found { error ≡ DimacsError.OutOfMemory → (text : List ℕ) → HasTakenSoundly text tokenizer
+    ensures found { error ≡ DimacsError.OutOfMemory → (text : List ℕ) → HasReceivedWithoutFault text tokenizer
         → OutOfMemoryOrFault result (text ++ bytes.now) }
 {
     let mut tokenizer = tokenizer;

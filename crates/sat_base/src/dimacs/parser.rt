@@ -1,11 +1,11 @@
 //! The implementation of `DimacsParser`.
 ghost use Rattle.std.specs.Prelude.{◌≡◌, ◌++◌, ◌∷◌, [], ℕ, List, true, false, Ok, OnOk, IfErr};
 ghost use Rattle.sat_base.specs.text.Text.{Scan};
-ghost use Rattle.sat_base.specs.text.Tokenizing.{capped, IsPositionedBefore};
-ghost use Rattle.sat_base.specs.values.Formulas.{vars_of};
-ghost use Rattle.sat_base.specs.dimacs.Parsing.{FeedsPiece, Finishes, IsSoundSoFar, no_progress, all_taken};
+ghost use Rattle.sat_base.specs.text.Tokenizing.{capped, HasRemainingScan};
+ghost use Rattle.sat_base.specs.values.Formulas.{clauses_var_count};
+ghost use Rattle.sat_base.specs.dimacs.Parsing.{FeedsPiece, FinishEffect, HasNoFaultSoFar, no_progress, with_all_taken};
 ghost use Rattle.sat_base.specs.dimacs.Parsing.{clauses_read, RefusesPiece, ReportsEnded};
-ghost use Rattle.sat_base.specs.dimacs.ParserPlaces.{IsParser, progress_of, EndsClean};
+ghost use Rattle.sat_base.specs.dimacs.ParserPlaces.{ParserInvariant, progress_of, IsResultOfEnd};
 
 use super::clauses::{Clauses, Refusal, is_literal};
 use super::error::DimacsError;
@@ -30,7 +30,7 @@ pub(crate) struct Parser {
 impl Parser {
     /// Returns a parser for a new text. Never allocates.
     pub(crate) fn new(alloc: Global) -> Parser
-        ensures parser { IsParser result }
+        ensures parser { ParserInvariant result }
         ensures progress { progress_of result ≡ no_progress }
     {
         Parser {
@@ -45,16 +45,16 @@ impl Parser {
 
     /// Returns the line of the last byte.
     fn line(&self) -> u64
-        ensures { (before : List ℕ → Scan) → IsPositionedBefore self.now.tokenizer before → result ≡ capped (before []).last }
+        ensures { (before : List ℕ → Scan) → HasRemainingScan self.now.tokenizer before → result ≡ capped (before []).last }
     {
         self.tokenizer.line()
     }
 
     /// Receives the next byte.
     fn push(&mut self, byte: u8) -> Result<(), DimacsError>
-        requires parser { IsParser self.old }
+        requires parser { ParserInvariant self.old }
         requires open { self.old.stopped ≡ false }
-        ensures parser { IsParser self.new }
+        ensures parser { ParserInvariant self.new }
         ensures answer { FeedsPiece result (byte ∷ []) (progress_of self.old) (progress_of self.new) }
     {
         let Some(token) = self.tokenizer.push(byte) else {
@@ -92,10 +92,10 @@ impl Parser {
 
     /// Receives the next bytes.
     pub(crate) fn feed(&mut self, piece: &[u8]) -> Result<(), DimacsError>
-        requires { IsParser self.old }
-        ensures parser { IsParser self.new }
+        requires { ParserInvariant self.old }
+        ensures parser { ParserInvariant self.new }
         ensures answer { FeedsPiece result piece.now (progress_of self.old) (progress_of self.new) }
-        ensures sound { OnOk result (IsSoundSoFar (progress_of self.new)) }
+        ensures sound { OnOk result (HasNoFaultSoFar (progress_of self.new)) }
     {
         if self.stopped {
             return Err(DimacsError::HasFailed);
@@ -109,10 +109,10 @@ impl Parser {
     /// Receives the next bytes. If memory runs out, returns the first fault in these bytes instead, if there is one,
     /// even if the fault is later in the text.
     pub(crate) fn feed_or_find_fault(&mut self, piece: &[u8]) -> Result<(), DimacsError>
-        requires { IsParser self.old }
-        ensures parser { IsParser self.new }
+        requires { ParserInvariant self.old }
+        ensures parser { ParserInvariant self.new }
         ensures fed { OnOk result (FeedsPiece (Ok tt) piece.now (progress_of self.old) (progress_of self.new)) }
-        ensures sound { OnOk result (IsSoundSoFar (progress_of self.new)) }
+        ensures sound { OnOk result (HasNoFaultSoFar (progress_of self.new)) }
         ensures refused { IfErr result (λ e. RefusesPiece e piece.now (progress_of self.old)) }
     {
         let tokenizer = self.tokenizer.copied();
@@ -124,7 +124,7 @@ impl Parser {
 
     /// Returns `true` if a line that begins with `%` has ended the text, so that only `finish` needs to be called.
     pub(crate) fn has_ended(&self) -> bool
-        requires { IsParser self.now }
+        requires { ParserInvariant self.now }
         ensures { ReportsEnded result (progress_of self.now) }
     {
         if self.stopped {
@@ -136,7 +136,7 @@ impl Parser {
     /// Handles the end of the text. No word may be unfinished.
     fn end(&mut self) -> Result<(), DimacsError>
         ensures parser { self.new ≡ record self.old { stopped = true; ended = true } }
-        ensures answer { EndsClean result self.old }
+        ensures answer { IsResultOfEnd result self.old }
     {
         self.stopped = true;
         self.ended = true;
@@ -148,9 +148,9 @@ impl Parser {
 
     /// Handles the end of the text, including an unfinished word.
     pub(crate) fn finish(&mut self) -> Result<(), DimacsError>
-        requires { IsParser self.old }
-        ensures parser { IsParser self.new }
-        ensures answer { Finishes result (progress_of self.old) (progress_of self.new) }
+        requires { ParserInvariant self.old }
+        ensures parser { ParserInvariant self.new }
+        ensures answer { FinishEffect result (progress_of self.old) (progress_of self.new) }
     {
         if self.stopped {
             return Err(DimacsError::HasFailed);
@@ -185,11 +185,11 @@ impl Parser {
 
     /// Returns the clauses that have been read since the last call.
     pub(crate) fn take_formula(&mut self) -> CnfFormula
-        requires { IsParser self.old }
-        ensures parser { IsParser self.new }
-        ensures progress { progress_of self.new ≡ all_taken (progress_of self.old) }
+        requires { ParserInvariant self.old }
+        ensures parser { ParserInvariant self.new }
+        ensures progress { progress_of self.new ≡ with_all_taken (progress_of self.old) }
         ensures clauses { clauses_read (progress_of self.old) ≡ self.old.history.taken ++ result.clauses }
-        ensures count { result.var_count ≡ vars_of (clauses_read (progress_of self.old)) }
+        ensures count { result.var_count ≡ clauses_var_count (clauses_read (progress_of self.old)) }
     {
         self.history = self.history.and_clauses(&self.clauses.formula);
         self.clauses.take_formula(self.alloc)

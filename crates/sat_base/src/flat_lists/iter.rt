@@ -4,7 +4,7 @@
 ghost use Rattle.std.specs.Prelude.{◌≡◌, length};
 ghost use Rattle.std.specs.Iterator.{at_most};
 ghost use Rattle.std.specs.Map.Iter.{TakesFirst, deref};
-ghost use Rattle.sat_base.specs.values.Flat.{pieces, AreEnds};
+ghost use Rattle.sat_base.specs.values.Flat.{pieces, AreEndsOfPieces};
 
 use std::iter::FusedIterator;
 use std::marker::Model;
@@ -19,19 +19,19 @@ pub struct FlatListsIter<'a, T> {
 
 impl<'a, T> Model for FlatListsIter<'a, T> {
     ghost use Rattle.std.specs.Prelude.{List};
-    ghost use Rattle.sat_base.specs.values.Flat.{pieces, AreEnds};
+    ghost use Rattle.sat_base.specs.values.Flat.{pieces, AreEndsOfPieces};
 
     ghost Value = { List (List T) };
 
     ghost view = { λ a. pieces a.start a.ends.now a.items.now };
 
-    ghost invariant = { λ a. AreEnds a.start a.ends.now a.items.now };
+    ghost invariant = { λ a. AreEndsOfPieces a.start a.ends.now a.items.now };
 }
 
 impl<'a, T> FlatListsIter<'a, T> {
     /// Returns an iterator over the lists that `items` and `ends` describe.
     pub(crate) fn new(items: &'a [T], ends: &'a [usize]) -> FlatListsIter<'a, T>
-        requires { AreEnds 0 ends.now items.now }
+        requires { AreEndsOfPieces 0 ends.now items.now }
         ensures { result ≡ pieces 0 ends.now items.now }
     {
         FlatListsIter {

@@ -3,8 +3,9 @@
 
 ghost use Rattle.std.specs.Prelude.{◌≡◌, ◌<◌, OnOk, [], ℕ, List, IsTrue, false};
 ghost use Rattle.sat_base.specs.device.ReadRoom.{unread_in, HasReadRoom, ReadsWithinRoom, HasItemRoom};
-ghost use Rattle.sat_base.specs.device.Reading.{ReadsFromInput, source_of, valued, AnswersStepRead, FieldsAfter};
-ghost use Rattle.sat_base.specs.steps.Kinds.{step_with, step_held, is_tag, has_lists};
+ghost use Rattle.sat_base.specs.device.Reading.{ReadsFromInput, source_of, map_result, AnswersStepRead};
+ghost use Rattle.sat_base.specs.device.Reading.{SpellsFieldsOfTag};
+ghost use Rattle.sat_base.specs.steps.Kinds.{step_with, step_of_lists, is_tag, has_lists};
 ghost use Rattle.sat_base.specs.steps.Spellings.{SendsSpelling, fields, a_step};
 ghost use Rattle.sat_base.specs.steps.StepText.{tag_of};
 ghost use Rattle.sat_base.specs.steps.StepViews.{step_of};
@@ -60,7 +61,7 @@ impl<R: CountedRead> Input<'_, R> {
         requires plain { has_lists tag ≡ false }
         requires room { unread_in self.old < self.old.room }
         ensures reads { (literals hashes : List ℕ) (units : List (ℕ × ℕ))
-            → ReadsFromInput (FieldsAfter tag) (valued (λ k. step_with k literals hashes units) result) R.seen self.old
+            → ReadsFromInput (SpellsFieldsOfTag tag) (map_result (λ k. step_with k literals hashes units) result) R.seen self.old
             self.new }
         ensures within { ReadsWithinRoom self.old self.new }
     {
@@ -99,7 +100,7 @@ impl<R: CountedRead> Input<'_, R> {
         requires tag { IsTrue (has_lists tag) }
         requires room { HasReadRoom self.old }
         requires lists { HasItemRoom lists.old self.old.room }
-        ensures reads { ReadsFromInput (FieldsAfter tag) (valued (step_held lists.new) result) R.seen self.old
+        ensures reads { ReadsFromInput (SpellsFieldsOfTag tag) (map_result (step_of_lists lists.new) result) R.seen self.old
             self.new }
         ensures within { ReadsWithinRoom self.old self.new }
         ensures lists { HasItemRoom lists.new self.old.room }
@@ -133,7 +134,7 @@ impl<R: CountedRead> Input<'_, R> {
         requires tag { IsTrue (is_tag tag) }
         requires room { unread_in self.old < self.old.room }
         requires lists { HasItemRoom lists.old self.old.room }
-        ensures reads { ReadsFromInput (FieldsAfter tag) (valued (step_held lists.new) result) R.seen self.old
+        ensures reads { ReadsFromInput (SpellsFieldsOfTag tag) (map_result (step_of_lists lists.new) result) R.seen self.old
             self.new }
         ensures within { ReadsWithinRoom self.old self.new }
         ensures lists { HasItemRoom lists.new self.old.room }
@@ -149,7 +150,7 @@ impl<R: CountedRead> Input<'_, R> {
     pub(super) fn read_step(&mut self, lists: &mut Lists) -> Result<StepKind, StepError>
         requires room { HasReadRoom self.old }
         requires lists { HasItemRoom lists.old self.old.room }
-        ensures reads { AnswersStepRead (valued (step_held lists.new) result) (source_of R.seen self.old)
+        ensures reads { AnswersStepRead (map_result (step_of_lists lists.new) result) (source_of R.seen self.old)
             (source_of R.seen self.new) }
         ensures within { ReadsWithinRoom self.old self.new }
         ensures lists { HasItemRoom lists.new self.old.room }

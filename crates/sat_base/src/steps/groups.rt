@@ -2,10 +2,10 @@
 #![tactic(auto, using(crate::proofs::lemmas::device::Sending::sending))]
 
 ghost use Rattle.sat_base.specs.device.ReadRoom.{HasReadRoom, ReadsWithinRoom, HasItemRoom};
-ghost use Rattle.sat_base.specs.device.Reading.{ReadsFromInput, valued};
-ghost use Rattle.sat_base.specs.steps.Kinds.{both_held};
+ghost use Rattle.sat_base.specs.device.Reading.{ReadsFromInput, map_result};
+ghost use Rattle.sat_base.specs.steps.Kinds.{literals_and_hashes};
 ghost use Rattle.sat_base.specs.steps.Formats.{Both};
-ghost use Rattle.sat_base.specs.steps.StepText.{IsFlag, IsDeletion, AreLiterals, AreHashes};
+ghost use Rattle.sat_base.specs.steps.StepText.{SpellsFlag, SpellsDeletion, SpellsLiterals, SpellsHashes};
 ghost use Rattle.sat_base.specs.steps.Spellings as spelling;
 ghost use Rattle.sat_base.specs.steps.StepViews.{deletion_of};
 
@@ -21,8 +21,8 @@ impl<R: CountedRead> Input<'_, R> {
     pub(super) fn flag_and_lists(&mut self, lists: &mut Lists) -> Result<bool, StepError>
         requires room { HasReadRoom self.old }
         requires lists { HasItemRoom lists.old self.old.room }
-        ensures reads { ReadsFromInput (Both IsFlag (Both AreLiterals AreHashes))
-            (valued (λ f. (f, both_held lists.new)) result) R.seen self.old self.new }
+        ensures reads { ReadsFromInput (Both SpellsFlag (Both SpellsLiterals SpellsHashes))
+            (map_result (λ f. (f, literals_and_hashes lists.new)) result) R.seen self.old self.new }
         ensures within { ReadsWithinRoom self.old self.new }
         ensures lists { HasItemRoom lists.new self.old.room }
     {
@@ -38,8 +38,8 @@ impl<R: CountedRead> Input<'_, R> {
     ) -> Result<DeleteClauseProof, StepError>
         requires room { HasReadRoom self.old }
         requires lists { HasItemRoom lists.old self.old.room }
-        ensures reads { ReadsFromInput (Both AreLiterals IsDeletion)
-            (valued (λ p. (lists.new.literals.items, deletion_of p)) result) R.seen self.old self.new }
+        ensures reads { ReadsFromInput (Both SpellsLiterals SpellsDeletion)
+            (map_result (λ p. (lists.new.literals.items, deletion_of p)) result) R.seen self.old self.new }
         ensures within { ReadsWithinRoom self.old self.new }
         ensures lists { HasItemRoom lists.new self.old.room }
     {

@@ -4,11 +4,12 @@
 ghost use Rattle.std.specs.Prelude.{[], ◌≡◌, ◌+◌, ◌<◌, ◌≤◌, vec_len, vec_capacity};
 ghost use Rattle.sat_base.specs.device.ReadRoom.{unread, unread_in, HasReadRoom, ReadsWithinRoom, HasItemRoom};
 ghost use Rattle.sat_base.specs.device.ReadRoom.{ReservesItem};
-ghost use Rattle.sat_base.specs.device.Reading.{ReadsFromInput, giving};
-ghost use Rattle.sat_base.specs.device.TakenAhead.{TakesItems};
-ghost use Rattle.sat_base.specs.steps.Kinds.{both_held};
+ghost use Rattle.sat_base.specs.device.Reading.{ReadsFromInput, with_result_value};
+ghost use Rattle.sat_base.specs.device.ConsumedAhead.{ConsumesItems};
+ghost use Rattle.sat_base.specs.steps.Kinds.{literals_and_hashes};
 ghost use Rattle.sat_base.specs.steps.Formats.{Both, Times};
-ghost use Rattle.sat_base.specs.steps.StepText.{IsLiteral, IsHash, AreLiterals, AreHashes, AreHashedLiterals};
+ghost use Rattle.sat_base.specs.steps.StepText.{SpellsLiteral, SpellsHash, SpellsLiterals, SpellsHashes};
+ghost use Rattle.sat_base.specs.steps.StepText.{SpellsHashedLiterals};
 ghost use Rattle.sat_base.specs.steps.Spellings as spelling;
 
 use crate::device::ahead::{Ahead, PIECE};
@@ -50,7 +51,7 @@ impl Ahead {
     /// as many literals as there are bytes. Returns how many were appended.
     fn take_literals(&mut self, most: u64, lits: &mut Vec<Lit>) -> u64
         requires { vec_len lits.old + unread self.old ≤ vec_capacity lits.old }
-        ensures takes { TakesItems IsLiteral most result lits.old.items lits.new.items self.old self.new }
+        ensures takes { ConsumesItems SpellsLiteral most result lits.old.items lits.new.items self.old self.new }
         ensures room { vec_len lits.new + unread self.new ≤ vec_capacity lits.new }
         ensures capacity { vec_capacity lits.new ≡ vec_capacity lits.old }
         ensures left { unread self.new ≤ unread self.old }
@@ -75,7 +76,7 @@ impl Ahead {
     /// as many hashes as there are bytes. Returns how many were appended.
     fn take_hashes(&mut self, most: u64, hashes: &mut Vec<ClauseHash>) -> u64
         requires { vec_len hashes.old + unread self.old ≤ vec_capacity hashes.old }
-        ensures takes { TakesItems IsHash most result hashes.old.items hashes.new.items self.old self.new }
+        ensures takes { ConsumesItems SpellsHash most result hashes.old.items hashes.new.items self.old self.new }
         ensures room { vec_len hashes.new + unread self.new ≤ vec_capacity hashes.new }
         ensures capacity { vec_capacity hashes.new ≡ vec_capacity hashes.old }
         ensures left { unread self.new ≤ unread self.old }
@@ -102,7 +103,7 @@ impl<R: CountedRead> Input<'_, R> {
     #[inline(always)] // called for each literal of a list
     fn literal(&mut self) -> Result<Lit, StepError>
         requires { HasReadRoom self.old }
-        ensures reads { ReadsFromInput IsLiteral result R.seen self.old self.new }
+        ensures reads { ReadsFromInput SpellsLiteral result R.seen self.old self.new }
         ensures within { ReadsWithinRoom self.old self.new }
     {
         let code = self.number(LARGEST_CODE)?;
@@ -112,7 +113,7 @@ impl<R: CountedRead> Input<'_, R> {
     /// Reads and returns a literal and its hash.
     fn unit(&mut self) -> Result<(Lit, ClauseHash), StepError>
         requires { HasReadRoom self.old }
-        ensures reads { ReadsFromInput (Both IsLiteral IsHash) result R.seen self.old self.new }
+        ensures reads { ReadsFromInput (Both SpellsLiteral SpellsHash) result R.seen self.old self.new }
         ensures within { ReadsWithinRoom self.old self.new }
     {
         let lit = self.literal()?;
@@ -125,7 +126,7 @@ impl<R: CountedRead> Input<'_, R> {
     fn literal_for(&mut self, lits: &mut Vec<Lit>) -> Result<Lit, StepError>
         requires room { HasReadRoom self.old }
         requires list { vec_len lits.old + unread_in self.old ≤ vec_capacity lits.old }
-        ensures reads { ReadsFromInput IsLiteral result R.seen self.old self.new }
+        ensures reads { ReadsFromInput SpellsLiteral result R.seen self.old self.new }
         ensures within { ReadsWithinRoom self.old self.new }
         ensures items { ReservesItem result lits.old lits.new (unread_in self.new) }
     {
@@ -145,7 +146,7 @@ impl<R: CountedRead> Input<'_, R> {
     fn hash_for(&mut self, hashes: &mut Vec<ClauseHash>) -> Result<ClauseHash, StepError>
         requires room { HasReadRoom self.old }
         requires list { vec_len hashes.old + unread_in self.old ≤ vec_capacity hashes.old }
-        ensures reads { ReadsFromInput IsHash result R.seen self.old self.new }
+        ensures reads { ReadsFromInput SpellsHash result R.seen self.old self.new }
         ensures within { ReadsWithinRoom self.old self.new }
         ensures items { ReservesItem result hashes.old hashes.new (unread_in self.new) }
     {
@@ -168,7 +169,7 @@ impl<R: CountedRead> Input<'_, R> {
     ) -> Result<(Lit, ClauseHash), StepError>
         requires room { HasReadRoom self.old }
         requires list { vec_len units.old + unread_in self.old ≤ vec_capacity units.old }
-        ensures reads { ReadsFromInput (Both IsLiteral IsHash) result R.seen self.old self.new }
+        ensures reads { ReadsFromInput (Both SpellsLiteral SpellsHash) result R.seen self.old self.new }
         ensures within { ReadsWithinRoom self.old self.new }
         ensures items { ReservesItem result units.old units.new (unread_in self.new) }
     {
@@ -188,7 +189,7 @@ impl<R: CountedRead> Input<'_, R> {
         requires empty { lits.old.items ≡ [] }
         requires list { vec_len lits.old + unread_in self.old ≤ vec_capacity lits.old }
         requires room { unread_in self.old < self.old.room }
-        ensures reads { ReadsFromInput (Times IsLiteral count) (giving lits.new.items result) R.seen self.old self.new }
+        ensures reads { ReadsFromInput (Times SpellsLiteral count) (with_result_value lits.new.items result) R.seen self.old self.new }
         ensures within { ReadsWithinRoom self.old self.new }
         ensures capacity { vec_capacity lits.old ≤ vec_capacity lits.new }
     {
@@ -211,7 +212,7 @@ impl<R: CountedRead> Input<'_, R> {
         requires empty { hashes.old.items ≡ [] }
         requires list { vec_len hashes.old + unread_in self.old ≤ vec_capacity hashes.old }
         requires room { unread_in self.old < self.old.room }
-        ensures reads { ReadsFromInput (Times IsHash count) (giving hashes.new.items result) R.seen self.old self.new }
+        ensures reads { ReadsFromInput (Times SpellsHash count) (with_result_value hashes.new.items result) R.seen self.old self.new }
         ensures within { ReadsWithinRoom self.old self.new }
         ensures capacity { vec_capacity hashes.old ≤ vec_capacity hashes.new }
     {
@@ -238,7 +239,7 @@ impl<R: CountedRead> Input<'_, R> {
         requires empty { units.old.items ≡ [] }
         requires list { vec_len units.old + unread_in self.old ≤ vec_capacity units.old }
         requires room { unread_in self.old < self.old.room }
-        ensures reads { ReadsFromInput (Times (Both IsLiteral IsHash) count) (giving units.new.items result) R.seen
+        ensures reads { ReadsFromInput (Times (Both SpellsLiteral SpellsHash) count) (with_result_value units.new.items result) R.seen
             self.old self.new }
         ensures within { ReadsWithinRoom self.old self.new }
         ensures capacity { vec_capacity units.old ≤ vec_capacity units.new }
@@ -254,7 +255,7 @@ impl<R: CountedRead> Input<'_, R> {
     pub(super) fn literals(&mut self, lits: &mut Vec<Lit>) -> Result<(), StepError>
         requires room { HasReadRoom self.old }
         requires list { self.old.room ≤ vec_capacity lits.old + 1 }
-        ensures reads { ReadsFromInput AreLiterals (giving lits.new.items result) R.seen self.old self.new }
+        ensures reads { ReadsFromInput SpellsLiterals (with_result_value lits.new.items result) R.seen self.old self.new }
         ensures within { ReadsWithinRoom self.old self.new }
         ensures capacity { vec_capacity lits.old ≤ vec_capacity lits.new }
     {
@@ -267,7 +268,7 @@ impl<R: CountedRead> Input<'_, R> {
     pub(super) fn hashes(&mut self, hashes: &mut Vec<ClauseHash>) -> Result<(), StepError>
         requires room { HasReadRoom self.old }
         requires list { self.old.room ≤ vec_capacity hashes.old + 1 }
-        ensures reads { ReadsFromInput AreHashes (giving hashes.new.items result) R.seen self.old self.new }
+        ensures reads { ReadsFromInput SpellsHashes (with_result_value hashes.new.items result) R.seen self.old self.new }
         ensures within { ReadsWithinRoom self.old self.new }
         ensures capacity { vec_capacity hashes.old ≤ vec_capacity hashes.new }
     {
@@ -280,7 +281,7 @@ impl<R: CountedRead> Input<'_, R> {
     pub(super) fn units(&mut self, units: &mut Vec<(Lit, ClauseHash)>) -> Result<(), StepError>
         requires room { HasReadRoom self.old }
         requires list { self.old.room ≤ vec_capacity units.old + 1 }
-        ensures reads { ReadsFromInput AreHashedLiterals (giving units.new.items result) R.seen self.old self.new }
+        ensures reads { ReadsFromInput SpellsHashedLiterals (with_result_value units.new.items result) R.seen self.old self.new }
         ensures within { ReadsWithinRoom self.old self.new }
         ensures capacity { vec_capacity units.old ≤ vec_capacity units.new }
     {
@@ -293,7 +294,7 @@ impl<R: CountedRead> Input<'_, R> {
     pub(super) fn both_lists(&mut self, lists: &mut Lists) -> Result<(), StepError>
         requires room { HasReadRoom self.old }
         requires lists { HasItemRoom lists.old self.old.room }
-        ensures reads { ReadsFromInput (Both AreLiterals AreHashes) (giving (both_held lists.new) result) R.seen
+        ensures reads { ReadsFromInput (Both SpellsLiterals SpellsHashes) (with_result_value (literals_and_hashes lists.new) result) R.seen
             self.old self.new }
         ensures within { ReadsWithinRoom self.old self.new }
         ensures lists { HasItemRoom lists.new self.old.room }

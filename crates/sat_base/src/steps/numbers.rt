@@ -2,10 +2,10 @@
 ghost use Rattle.std.specs.Prelude.{◌≡◌, ◌+◌, ◌++◌, ◌-◌, ◌*◌, ◌^◌, ◌<◌, ◌≤◌, ℕ, Some, None, OnOk, length};
 ghost use Rattle.sat_base.specs.device.ReadRoom.{unread, HasReadRoom, ReadsWithinRoom};
 ghost use Rattle.sat_base.specs.device.Reading.{ReadsFromInput};
-ghost use Rattle.sat_base.specs.device.TakenAhead.{TakesNumber, IsEncodedBetween};
+ghost use Rattle.sat_base.specs.device.ConsumedAhead.{ConsumesNumber, IsEncodedBetween};
 ghost use Rattle.sat_base.specs.device.Sink.{SendsText, sink_of};
 ghost use Rattle.sat_base.specs.steps.StepBytes.{number_bytes};
-ghost use Rattle.sat_base.specs.steps.Numbers.{IsBelow};
+ghost use Rattle.sat_base.specs.steps.Numbers.{SpellsNumberBelow};
 
 use crate::device::ahead::Ahead;
 use crate::device::input::Input;
@@ -138,7 +138,7 @@ impl Ahead {
     /// at most `largest`.
     #[inline(always)] // each number outside a list goes through it
     pub(crate) fn take_number(&mut self, largest: u64) -> Option<u64>
-        ensures some { (number : ℕ) → result ≡ Some number → TakesNumber (largest + 1) number self.old self.new }
+        ensures some { (number : ℕ) → result ≡ Some number → ConsumesNumber (largest + 1) number self.old self.new }
         ensures left { (number : ℕ) → result ≡ Some number → unread self.new < unread self.old }
         ensures none { result ≡ None → self.new ≡ self.old }
     {
@@ -158,7 +158,7 @@ impl<R: CountedRead> Input<'_, R> {
     pub(super) fn number(&mut self, largest: u64) -> Result<u64, StepError>
         requires some { 0 < largest }
         requires room { HasReadRoom self.old }
-        ensures reads { ReadsFromInput (IsBelow (largest + 1)) result R.seen self.old self.new }
+        ensures reads { ReadsFromInput (SpellsNumberBelow (largest + 1)) result R.seen self.old self.new }
         ensures within { ReadsWithinRoom self.old self.new }
     {
         if let Some(number) = self.ahead.take_number(largest) {
@@ -173,7 +173,7 @@ impl<R: CountedRead> Input<'_, R> {
     fn number_by_bytes(&mut self, largest: u64) -> Result<u64, StepError>
         requires some { 0 < largest }
         requires room { HasReadRoom self.old }
-        ensures reads { ReadsFromInput (IsBelow (largest + 1)) result R.seen self.old self.new }
+        ensures reads { ReadsFromInput (SpellsNumberBelow (largest + 1)) result R.seen self.old self.new }
         ensures within { ReadsWithinRoom self.old self.new }
     {
         let mut value = 0;

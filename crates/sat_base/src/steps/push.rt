@@ -74,7 +74,7 @@ impl<W: CountedWrite, P: Room> Output<W, P> {
     #[inline(always)]
     fn push_variable(&mut self, var: Var)
         requires { HasByteRoom 10 P.waiting P.size self.old.pending }
-        ensures sends { spelling.Pushes spelling.a_variable var W.seen P.waiting self.old self.new }
+        ensures sends { spelling.PushesSpelling spelling.a_variable var W.seen P.waiting self.old self.new }
         ensures room { UsesRoom 10 P.waiting P.size self.old.pending self.new.pending }
     {
         self.push_one(var.index() as u64);
@@ -84,7 +84,7 @@ impl<W: CountedWrite, P: Room> Output<W, P> {
     #[inline(always)]
     fn push_optional(&mut self, var: Option<Var>)
         requires { HasByteRoom 10 P.waiting P.size self.old.pending }
-        ensures sends { spelling.Pushes spelling.an_optional_variable var W.seen P.waiting self.old self.new }
+        ensures sends { spelling.PushesSpelling spelling.an_optional_variable var W.seen P.waiting self.old self.new }
         ensures room { UsesRoom 10 P.waiting P.size self.old.pending self.new.pending }
     {
         match var {
@@ -97,7 +97,7 @@ impl<W: CountedWrite, P: Room> Output<W, P> {
     #[inline(always)]
     fn push_flag(&mut self, flag: bool)
         requires { HasByteRoom 10 P.waiting P.size self.old.pending }
-        ensures sends { spelling.Pushes spelling.a_flag flag W.seen P.waiting self.old self.new }
+        ensures sends { spelling.PushesSpelling spelling.a_flag flag W.seen P.waiting self.old self.new }
         ensures room { UsesRoom 10 P.waiting P.size self.old.pending self.new.pending }
     {
         if flag {
@@ -111,7 +111,7 @@ impl<W: CountedWrite, P: Room> Output<W, P> {
     #[inline(always)]
     fn push_width(&mut self, bits: HashBits)
         requires { HasByteRoom 10 P.waiting P.size self.old.pending }
-        ensures sends { spelling.Pushes spelling.a_width bits W.seen P.waiting self.old self.new }
+        ensures sends { spelling.PushesSpelling spelling.a_width bits W.seen P.waiting self.old self.new }
         ensures room { UsesRoom 10 P.waiting P.size self.old.pending self.new.pending }
     {
         self.push_one(bits.get() as u64);
@@ -121,7 +121,7 @@ impl<W: CountedWrite, P: Room> Output<W, P> {
     #[inline(always)]
     fn push_deletion(&mut self, proof: DeleteClauseProof)
         requires { HasByteRoom 10 P.waiting P.size self.old.pending }
-        ensures sends { spelling.Pushes spelling.a_deletion (deletion_of proof) W.seen P.waiting self.old self.new }
+        ensures sends { spelling.PushesSpelling spelling.a_deletion (deletion_of proof) W.seen P.waiting self.old self.new }
         ensures room { UsesRoom 10 P.waiting P.size self.old.pending self.new.pending }
     {
         match proof {
@@ -135,7 +135,7 @@ impl<W: CountedWrite, P: Room> Output<W, P> {
     #[inline(always)]
     fn push_literals(&mut self, lits: &[Lit])
         requires { HasByteRoom (10 * (length lits.now + 1)) P.waiting P.size self.old.pending }
-        ensures sends { spelling.Pushes spelling.literals lits.now W.seen P.waiting self.old self.new }
+        ensures sends { spelling.PushesSpelling spelling.literals lits.now W.seen P.waiting self.old self.new }
         ensures room { UsesRoom (10 * (length lits.now + 1)) P.waiting P.size self.old.pending self.new.pending }
     {
         self.push_one(lits.len() as u64);
@@ -148,7 +148,7 @@ impl<W: CountedWrite, P: Room> Output<W, P> {
     #[inline(always)]
     fn push_hashes(&mut self, hashes: &[ClauseHash])
         requires { HasByteRoom (10 * (length hashes.now + 1)) P.waiting P.size self.old.pending }
-        ensures sends { spelling.Pushes spelling.hashes hashes.now W.seen P.waiting self.old self.new }
+        ensures sends { spelling.PushesSpelling spelling.hashes hashes.now W.seen P.waiting self.old self.new }
         ensures room { UsesRoom (10 * (length hashes.now + 1)) P.waiting P.size self.old.pending self.new.pending }
     {
         self.push_one(hashes.len() as u64);
@@ -161,7 +161,7 @@ impl<W: CountedWrite, P: Room> Output<W, P> {
     #[inline(always)]
     fn push_unit(&mut self, unit: (Lit, ClauseHash))
         requires { HasByteRoom 20 P.waiting P.size self.old.pending }
-        ensures sends { spelling.Pushes (spelling.both spelling.a_literal spelling.a_hash) unit W.seen P.waiting
+        ensures sends { spelling.PushesSpelling (spelling.both spelling.a_literal spelling.a_hash) unit W.seen P.waiting
             self.old self.new }
         ensures room { UsesRoom 20 P.waiting P.size self.old.pending self.new.pending }
     {
@@ -173,7 +173,7 @@ impl<W: CountedWrite, P: Room> Output<W, P> {
     /// Appends a list of units to the pending bytes.
     fn push_units(&mut self, units: &[(Lit, ClauseHash)])
         requires { HasByteRoom (20 * length units.now + 10) P.waiting P.size self.old.pending }
-        ensures sends { spelling.Pushes spelling.units units.now W.seen P.waiting self.old self.new }
+        ensures sends { spelling.PushesSpelling spelling.units units.now W.seen P.waiting self.old self.new }
         ensures room { UsesRoom (20 * length units.now + 10) P.waiting P.size self.old.pending self.new.pending }
     {
         self.push_one(units.len() as u64);
@@ -186,7 +186,7 @@ impl<W: CountedWrite, P: Room> Output<W, P> {
     #[inline(always)]
     fn push_variables(&mut self, first: Var, second: Option<Var>)
         requires { HasByteRoom 20 P.waiting P.size self.old.pending }
-        ensures { spelling.Pushes spelling.variables (first, second) W.seen P.waiting self.old self.new }
+        ensures { spelling.PushesSpelling spelling.variables (first, second) W.seen P.waiting self.old self.new }
     {
         self.push_variable(first);
         self.push_optional(second);
@@ -196,7 +196,7 @@ impl<W: CountedWrite, P: Room> Output<W, P> {
     #[inline(always)]
     fn push_mode(&mut self, var: Var, sample: bool)
         requires { HasByteRoom 20 P.waiting P.size self.old.pending }
-        ensures { spelling.Pushes spelling.a_mode (var, sample) W.seen P.waiting self.old self.new }
+        ensures { spelling.PushesSpelling spelling.a_mode (var, sample) W.seen P.waiting self.old self.new }
     {
         self.push_variable(var);
         self.push_flag(sample);
@@ -206,7 +206,7 @@ impl<W: CountedWrite, P: Room> Output<W, P> {
     #[inline(always)]
     fn push_both_lists(&mut self, lits: &[Lit], hashes: &[ClauseHash])
         requires { HasByteRoom (10 * (length lits.now + length hashes.now + 2)) P.waiting P.size self.old.pending }
-        ensures { spelling.Pushes spelling.both_lists (lits.now, hashes.now) W.seen P.waiting self.old self.new }
+        ensures { spelling.PushesSpelling spelling.both_lists (lits.now, hashes.now) W.seen P.waiting self.old self.new }
     {
         self.push_literals(lits);
         self.push_hashes(hashes);
@@ -216,7 +216,7 @@ impl<W: CountedWrite, P: Room> Output<W, P> {
     #[inline(always)]
     fn push_derived(&mut self, redundant: bool, clause: &[Lit], hashes: &[ClauseHash])
         requires { HasByteRoom (10 * (length clause.now + length hashes.now + 3)) P.waiting P.size self.old.pending }
-        ensures { spelling.Pushes spelling.a_derived (redundant, (clause.now, hashes.now)) W.seen P.waiting self.old
+        ensures { spelling.PushesSpelling spelling.a_derived (redundant, (clause.now, hashes.now)) W.seen P.waiting self.old
             self.new }
     {
         self.push_flag(redundant);
@@ -227,7 +227,7 @@ impl<W: CountedWrite, P: Room> Output<W, P> {
     #[inline(always)]
     fn push_deleted(&mut self, clause: &[Lit], proof: DeleteClauseProof)
         requires { HasByteRoom (10 * (length clause.now + 2)) P.waiting P.size self.old.pending }
-        ensures { spelling.Pushes spelling.a_deleted (clause.now, deletion_of proof) W.seen P.waiting self.old
+        ensures { spelling.PushesSpelling spelling.a_deleted (clause.now, deletion_of proof) W.seen P.waiting self.old
             self.new }
     {
         self.push_literals(clause);
@@ -238,7 +238,7 @@ impl<W: CountedWrite, P: Room> Output<W, P> {
     #[inline(always)]
     fn push_fields(&mut self, step: &ProofStep<'_>)
         requires { HasByteRoom (10 * (items_in (step_of step.now) + 3)) P.waiting P.size self.old.pending }
-        ensures { spelling.Pushes spelling.fields (step_of step.now) W.seen P.waiting self.old self.new }
+        ensures { spelling.PushesSpelling spelling.fields (step_of step.now) W.seen P.waiting self.old self.new }
     {
         match *step {
             ProofStep::SolverVarName { global, solver } => self.push_variables(global, solver),
@@ -280,7 +280,7 @@ impl<W: CountedWrite, P: Room> Output<W, P> {
     #[inline(always)]
     fn push_step(&mut self, step: &ProofStep<'_>)
         requires { HasByteRoom (10 * (items_in (step_of step.now) + 4)) P.waiting P.size self.old.pending }
-        ensures { spelling.Pushes spelling.a_step (step_of step.now) W.seen P.waiting self.old self.new }
+        ensures { spelling.PushesSpelling spelling.a_step (step_of step.now) W.seen P.waiting self.old self.new }
     {
         self.pending.push(tag(step));
         self.push_fields(step);
@@ -289,7 +289,7 @@ impl<W: CountedWrite, P: Room> Output<W, P> {
     /// Appends the bytes of a step to the pending bytes if they certainly fit. Returns whether they do.
     #[inline(always)]
     pub(super) fn try_step(&mut self, step: &ProofStep<'_>) -> bool
-        ensures sends { result ≡ true → spelling.Pushes spelling.a_step (step_of step.now) W.seen P.waiting self.old
+        ensures sends { result ≡ true → spelling.PushesSpelling spelling.a_step (step_of step.now) W.seen P.waiting self.old
             self.new }
         ensures stays { result ≡ false → self.new ≡ self.old }
     {

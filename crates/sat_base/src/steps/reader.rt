@@ -3,9 +3,10 @@ ghost use Rattle.std.specs.Prelude.{◌≡◌, ℕ, List, false};
 ghost use Rattle.sat_base.specs.steps.StepText.{tag_of};
 ghost use Rattle.sat_base.specs.steps.StepViews.{step_of};
 ghost use Rattle.sat_base.specs.device.ReadRoom.{unread, HasCapacityFor};
-ghost use Rattle.sat_base.specs.device.Reading.{AnswersStepRead, giving, source, new_source, valued};
-ghost use Rattle.sat_base.specs.steps.Kinds.{step_held, step_with};
-ghost use Rattle.sat_base.specs.steps.StepReading.{reader_source, has_reader_failed, reader_name, step_in, is_stop};
+ghost use Rattle.sat_base.specs.device.Reading.{AnswersStepRead, with_result_value, source, new_source, map_result};
+ghost use Rattle.sat_base.specs.steps.Kinds.{step_of_lists, step_with};
+ghost use Rattle.sat_base.specs.steps.StepReading.{reader_source, has_reader_failed, reader_borrow, last_step_in};
+ghost use Rattle.sat_base.specs.steps.StepReading.{is_stop};
 ghost use Rattle.sat_base.specs.steps.StepReading.{AdvanceEffect};
 
 use crate::device::ahead::Ahead;
@@ -88,7 +89,7 @@ fn read_from<R: CountedRead>(
     lists: &mut Lists,
 ) -> Result<StepKind, StepError>
     requires { HasCapacityFor lists.old (unread ahead.old) }
-    ensures reads { AnswersStepRead (valued (step_held lists.new) result) (source R.seen reader.old ahead.old)
+    ensures reads { AnswersStepRead (map_result (step_of_lists lists.new) result) (source R.seen reader.old ahead.old)
         (source R.seen reader.new ahead.new) }
     ensures room { HasCapacityFor lists.new (unread ahead.new) }
 {
@@ -101,7 +102,7 @@ fn read_from<R: CountedRead>(
 impl<'r, R: CountedRead> StepReader<'r, R, Buffers> {
     /// Returns a step reader that reads its bytes from `reader`. Reads nothing yet, and never allocates.
     pub fn new(alloc: Global, reader: &'r mut R) -> StepReader<'r, R, Buffers>
-        ensures same { reader_name result ≡ reader.entry.ghost_name }
+        ensures same { reader_borrow result ≡ reader.entry.ghost_name }
         ensures source { reader_source R.seen result ≡ new_source (R.seen reader.old) }
         ensures fresh { has_reader_failed result ≡ false }
     {
@@ -120,7 +121,7 @@ impl<'r, R: CountedRead> StepReader<'r, R, Buffers> {
     /// return `HasFailed`. Memory for the lists of a step is requested before its bytes are read: after `OutOfMemory`,
     /// the bytes given after the steps before are a proper prefix of a step.
     pub fn advance(&mut self) -> Result<(), StepError>
-        ensures { AdvanceEffect R.seen self.old self.new (giving (step_in self.new) result) }
+        ensures { AdvanceEffect R.seen self.old self.new (with_result_value (last_step_in self.new) result) }
     {
         if self.buffers.failed {
             return Err(StepError::HasFailed);
@@ -143,14 +144,14 @@ impl<'r, R: CountedRead> StepReader<'r, R, Buffers> {
 
     /// Returns the tag, from 1 to 13, of the step that `advance` has read. After an error, the tag is unspecified.
     pub fn tag(&self) -> u8
-        ensures { result ≡ tag_of (step_in self.now) }
+        ensures { result ≡ tag_of (last_step_in self.now) }
     {
         tag(self.buffers.kind)
     }
 
     /// Returns the step that `advance` has read. After an error, the step is unspecified.
     pub fn step(&self) -> ProofStep<'_>
-        ensures { step_of result ≡ step_in self.now }
+        ensures { step_of result ≡ last_step_in self.now }
     {
         self.buffers.state.lists.step(self.buffers.kind)
     }

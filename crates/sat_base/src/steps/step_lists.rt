@@ -1,6 +1,6 @@
 //! The lists of the current step, whose memory is reused.
 ghost use Rattle.std.specs.Prelude.{◌≡◌, ◌<◌, ◌≤◌, []};
-ghost use Rattle.sat_base.specs.device.Device.{piece_size};
+ghost use Rattle.sat_base.specs.device.Device.{max_read_size};
 ghost use Rattle.sat_base.specs.device.ReadRoom.{HasCapacityFor, HasItemRoom};
 ghost use Rattle.sat_base.specs.steps.StepViews.{step_of};
 ghost use Rattle.sat_base.specs.steps.Kinds.{step_with};
@@ -52,7 +52,7 @@ impl Lists {
     /// Returns how many bytes of a step may be read at once: at most one more than each of the lists has capacity for,
     /// since the first byte of a chunk that is not read for an item completes none.
     pub(crate) fn room(&self, unread: usize) -> usize
-        requires few { unread ≤ piece_size }
+        requires few { unread ≤ max_read_size }
         requires capacity { HasCapacityFor self.now unread }
         ensures lists { HasItemRoom self.now result }
         ensures unread { unread < result }

@@ -1,9 +1,10 @@
 //! Reads and writes fields of steps that consist of a single number.
 ghost use Rattle.sat_base.specs.device.ReadRoom.{HasReadRoom, ReadsWithinRoom};
-ghost use Rattle.sat_base.specs.device.Reading.{ReadsFromInput, valued};
+ghost use Rattle.sat_base.specs.device.Reading.{ReadsFromInput, map_result};
 ghost use Rattle.sat_base.specs.steps.Spellings.{SendsSpelling, a_variable, an_optional_variable, a_flag, a_width};
 ghost use Rattle.sat_base.specs.steps.Spellings.{a_deletion};
-ghost use Rattle.sat_base.specs.steps.StepText.{IsVariable, IsOptionalVariable, IsFlag, IsWidth, IsDeletion};
+ghost use Rattle.sat_base.specs.steps.StepText.{SpellsVariable, SpellsOptionalVariable, SpellsFlag, SpellsWidth};
+ghost use Rattle.sat_base.specs.steps.StepText.{SpellsDeletion};
 ghost use Rattle.sat_base.specs.steps.StepViews.{deletion_of};
 
 use crate::device::input::Input;
@@ -20,7 +21,7 @@ impl<R: CountedRead> Input<'_, R> {
     /// Reads and returns a variable.
     pub(super) fn variable(&mut self) -> Result<Var, StepError>
         requires { HasReadRoom self.old }
-        ensures reads { ReadsFromInput IsVariable result R.seen self.old self.new }
+        ensures reads { ReadsFromInput SpellsVariable result R.seen self.old self.new }
         ensures within { ReadsWithinRoom self.old self.new }
     {
         let index = self.number(LARGEST_INDEX)?;
@@ -30,7 +31,7 @@ impl<R: CountedRead> Input<'_, R> {
     /// Reads and returns an optional variable.
     pub(super) fn optional(&mut self) -> Result<Option<Var>, StepError>
         requires { HasReadRoom self.old }
-        ensures reads { ReadsFromInput IsOptionalVariable result R.seen self.old self.new }
+        ensures reads { ReadsFromInput SpellsOptionalVariable result R.seen self.old self.new }
         ensures within { ReadsWithinRoom self.old self.new }
     {
         let above = self.number(LARGEST_INDEX + 1)?;
@@ -43,7 +44,7 @@ impl<R: CountedRead> Input<'_, R> {
     /// Reads and returns a flag.
     pub(super) fn flag(&mut self) -> Result<bool, StepError>
         requires { HasReadRoom self.old }
-        ensures reads { ReadsFromInput IsFlag result R.seen self.old self.new }
+        ensures reads { ReadsFromInput SpellsFlag result R.seen self.old self.new }
         ensures within { ReadsWithinRoom self.old self.new }
     {
         let bit = self.number(1)?;
@@ -56,7 +57,7 @@ impl<R: CountedRead> Input<'_, R> {
     /// Reads and returns a width, which is a number of hash bits.
     pub(super) fn width(&mut self) -> Result<HashBits, StepError>
         requires { HasReadRoom self.old }
-        ensures reads { ReadsFromInput IsWidth result R.seen self.old self.new }
+        ensures reads { ReadsFromInput SpellsWidth result R.seen self.old self.new }
         ensures within { ReadsWithinRoom self.old self.new }
     {
         let bits = self.number(64)?;
@@ -66,7 +67,7 @@ impl<R: CountedRead> Input<'_, R> {
     /// Reads and returns the reason for the deletion of a clause.
     pub(super) fn deletion(&mut self) -> Result<DeleteClauseProof, StepError>
         requires { HasReadRoom self.old }
-        ensures reads { ReadsFromInput IsDeletion (valued deletion_of result) R.seen self.old self.new }
+        ensures reads { ReadsFromInput SpellsDeletion (map_result deletion_of result) R.seen self.old self.new }
         ensures within { ReadsWithinRoom self.old self.new }
     {
         let code = self.number(2)?;

@@ -1,7 +1,7 @@
 //! Writes proof steps.
 ghost use Rattle.std.specs.Prelude.{◌≡◌, [], OnOk, true, false};
 ghost use Rattle.sat_base.specs.device.Device.{WritesText};
-ghost use Rattle.sat_base.specs.device.Sink.{SendsText, AddsToSink, Flushes, empty_sink};
+ghost use Rattle.sat_base.specs.device.Sink.{SendsText, AddsToSink, FlushesSink, empty_sink};
 ghost use Rattle.sat_base.specs.steps.StepBytes.{step_bytes};
 ghost use Rattle.sat_base.specs.steps.StepText.{SpellsStep};
 ghost use Rattle.sat_base.specs.steps.StepViews.{step_of};
@@ -64,7 +64,7 @@ impl<W: CountedWrite> StepWriter<W> {
 
     /// Writes out the pending bytes, and flushes the underlying writer.
     pub fn flush(&mut self) -> io::Result<()>
-        ensures { Flushes result (steps_sink W.seen self.old) (steps_sink W.seen self.new) }
+        ensures { FlushesSink result (steps_sink W.seen self.old) (steps_sink W.seen self.new) }
     {
         let flushed = self.output.flush();
         self.output.give_error(flushed)

@@ -2,7 +2,8 @@
 ghost use Rattle.std.specs.Prelude.{◌≡◌, false};
 ghost use Rattle.sat_base.specs.text.Text.{is_blank};
 ghost use Rattle.sat_base.specs.text.Position.{Position};
-ghost use Rattle.sat_base.specs.text.Tokenizing.{BeganHeader, MovesHeader, IsAtHeader, IsStageIf, ended_stage};
+ghost use Rattle.sat_base.specs.text.Tokenizing.{IsInHeaderWordOfByte, MovesHeaderByByte, RepresentsHeaderPosition};
+ghost use Rattle.sat_base.specs.text.Tokenizing.{RepresentsStageOrNone, stage_at_word_end};
 
 use super::{is_digit, with_digit};
 
@@ -42,7 +43,7 @@ pub(crate) enum HeaderPlace {
 /// allowed there.
 fn begun(ended: Stage, byte: u8) -> Option<HeaderPlace>
     requires { is_blank byte ≡ false }
-    ensures { BeganHeader ended byte result }
+    ensures { IsInHeaderWordOfByte ended byte result }
 {
     match ended {
         Stage::Named => {
@@ -77,7 +78,7 @@ fn begun(ended: Stage, byte: u8) -> Option<HeaderPlace>
 /// word malformed.
 pub(crate) fn next_in_header(place: HeaderPlace, byte: u8) -> Option<HeaderPlace>
     requires { is_blank byte ≡ false }
-    ensures { MovesHeader place byte result }
+    ensures { MovesHeaderByByte place byte result }
 {
     match place {
         HeaderPlace::Between(ended) => begun(ended, byte),
@@ -120,7 +121,7 @@ pub(crate) fn next_in_header(place: HeaderPlace, byte: u8) -> Option<HeaderPlace
 /// Returns the words that are finished if the current word ends at `place`, or `None` if this would make that
 /// word malformed.
 pub(crate) fn ended_in(place: HeaderPlace) -> Option<Stage>
-    ensures { (spot : Position) → IsAtHeader place spot → IsStageIf result (ended_stage spot) }
+    ensures { (spot : Position) → RepresentsHeaderPosition place spot → RepresentsStageOrNone result (stage_at_word_end spot) }
 {
     match place {
         HeaderPlace::Between(ended) => Some(ended),

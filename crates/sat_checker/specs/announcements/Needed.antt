@@ -2,7 +2,7 @@
 use Rattle.std.specs.Prelude.{ℕ, ◌==◌, not, ◌&&◌, List, [], ◌∷◌, ◌++◌, map, filter, Option, None, Some, if◌then◌else◌}
 use Rattle.sat_base.specs.values.Literals.{negated}
 use Rattle.sat_checker.specs.LiteralSets.{is_among, is_tautology, canonical}
-use Rattle.sat_checker.specs.Stored.{StoredClause, StoredUnit, Stored, unit_literals, hash_by}
+use Rattle.sat_checker.specs.Stored.{StoredClause, StoredUnit, Stored, unit_literals, clause_hash_by}
 use Rattle.sat_checker.specs.Storing.{unit_id}
 use Rattle.sat_checker.specs.inner.Walk.{ClauseState, falsified, becomes_unit, neither, clause_state}
 
@@ -29,21 +29,24 @@ causes_by falsified c assumed following = record { literals = map negated c.lite
 causes_by (becomes_unit l) c assumed following = with_cause l c (following (l ∷ assumed))
 causes_by neither c assumed following = following assumed
 
--- The causes of the first conflict of these clauses, if every clause that is unit when it is visited is used.
+-- The causes of the first conflict when these clauses are visited in order under the assumed literals, and every clause
+-- that is unit when visited is used. There are no causes if there is no conflict.
 abbrev pub conflict_causes : List ℕ → List StoredClause → ConflictCauses
 conflict_causes assumed [] = record { literals = []; clauses = [] }
 conflict_causes assumed (c ∷ cs) = causes_by (clause_state assumed c.literals) c assumed (λ more. conflict_causes more cs)
 
 -- The stored clauses of the buckets with these hashes, in the order of the hashes, and by id within each bucket.
-abbrev pub clauses_named : List ℕ → Stored → List StoredClause
-clauses_named [] f = []
-clauses_named (hash ∷ hashes) f = filter (λ c. hash_by f.solver_names f.width c.literals == hash) f.clauses ++ clauses_named hashes f
+abbrev pub clauses_of_hashes : List ℕ → Stored → List StoredClause
+clauses_of_hashes [] f = []
+clauses_of_hashes (hash ∷ hashes) f = filter (λ c. clause_hash_by f.solver_names f.width c.literals == hash) f.clauses ++ clauses_of_hashes hashes f
 
--- The units needed, by increasing id, without the literals of the negated clause.
+-- The units whose literals are among the causes `g`, in the order given, without those whose literal is in `denied`,
+-- the negations of the clause that is checked.
 abbrev pub needed_units : List ℕ → ConflictCauses → List StoredUnit → List StoredUnit
 needed_units denied g = filter (λ u. is_among g.literals u.literal && not (is_among denied u.literal))
 
--- The ids of the units needed, and then those of the clauses needed.
+-- The ids of the units that the causes `g` need, without those whose literal is in `denied`, and then the ids of the
+-- clauses of `g`.
 abbrev pub conflict_ids : List ℕ → ConflictCauses → List StoredUnit → List ℕ
 conflict_ids denied g units = map (λ u. u.id) (needed_units denied g units) ++ map (λ c. c.id) g.clauses
 
@@ -52,15 +55,15 @@ abbrev pub or_else : {A : Type 0} → Option A → Option A → Option A
 or_else None y = y
 or_else (Some x) y = Some x
 
--- The id of a unit that satisfies the clause, or `None`; it is the unit of the first literal that is stored as a unit.
-abbrev pub true_unit : List ℕ → List StoredUnit → Option ℕ
-true_unit [] units = None
-true_unit (l ∷ ls) units = or_else (unit_id l units) (true_unit ls units)
+-- The id of the unit of the first literal of the clause that is stored as a unit, or `None` if none is.
+abbrev pub satisfying_unit : List ℕ → List StoredUnit → Option ℕ
+satisfying_unit [] units = None
+satisfying_unit (l ∷ ls) units = or_else (unit_id l units) (satisfying_unit ls units)
 
 -- Only the id of the unit that satisfies the clause, or these ids if there is none.
-abbrev pub unit_alone : Option ℕ → List ℕ → List ℕ
-unit_alone (Some id) ids = id ∷ []
-unit_alone None ids = ids
+abbrev pub only_unit_or : Option ℕ → List ℕ → List ℕ
+only_unit_or (Some id) ids = id ∷ []
+only_unit_or None ids = ids
 
 -- The ids that a clause follows from, if it passes the check under these hashes. A tautology needs no ids. A clause
 -- that units satisfy follows from the unit of its lowest such literal. Any other clause follows from the needed units,
@@ -68,4 +71,4 @@ unit_alone None ids = ids
 abbrev pub propagations : Stored → List ℕ → List ℕ → List ℕ
 propagations f clause hashes =
     let denied : List ℕ = map negated clause in
-    if is_tautology clause then [] else unit_alone (true_unit (canonical clause) f.units) (conflict_ids denied (conflict_causes (denied ++ unit_literals f) (clauses_named hashes f)) f.units)
+    if is_tautology clause then [] else only_unit_or (satisfying_unit (canonical clause) f.units) (conflict_ids denied (conflict_causes (denied ++ unit_literals f) (clauses_of_hashes hashes f)) f.units)

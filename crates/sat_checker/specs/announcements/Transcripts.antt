@@ -5,7 +5,8 @@ use Rattle.sat_checker.specs.Stored.{Mode, Variable}
 use Rattle.sat_checker.specs.announcements.Announcements.{UserVariable, Announcement, UserVar, DeleteVar, DuplicatedClause, TautologicalClause, AtClause, MakeIrredundant, DeleteClause, DeleteAtClause, DeleteRatClause, Assumptions, is_sample, Notice}
 use Rattle.sat_checker.specs.announcements.Announcements as announcements
 
--- A step of a transcript, with the user's names.
+-- A step of a transcript. A variable is the index of its name or, if it has mode sample and no name, its own index; a
+-- literal is a code over these.
 pub data Transcribed : Type 0 where
   WitnessVar : ℕ → Transcribed
   SampleVar : ℕ → Transcribed
@@ -17,49 +18,53 @@ pub data Transcribed : Type 0 where
   Assume : List ℕ → Transcribed
   FailedAssumptions : List ℕ → Transcribed
 
--- The explicit name, or the variable's own index if its mode is sample.
+-- The given name or, if it is `None`, the variable's own index `v` if the mode is sample, and `None` otherwise.
 abbrev pub name_or_itself : ℕ → Mode → Option ℕ → Option ℕ
 name_or_itself v mode (Some name) = Some name
 name_or_itself v mode None = if is_sample mode then Some v else None
 
--- The name by which a user knows a variable, if there is one.
+-- The number by which a user knows variable `v`: its name or, if it has none and its mode is sample, its own index;
+-- otherwise `None`.
 abbrev pub user_from_proof_var : (ℕ → Variable) → ℕ → Option ℕ
 user_from_proof_var variables v = name_or_itself v (variables v).mode (variables v).name
 
--- The list and, before it, the name's literal with the sign of `l`, if there is a name.
-abbrev pub onto_named : ℕ → Option ℕ → List ℕ → List ℕ
-onto_named l None ls = ls
-onto_named l (Some name) ls = (2 * name + l % 2) ∷ ls
+-- The list `ls` and, before it, the literal of the given name with the sign of `l`; only `ls` if there is no name.
+abbrev pub prepend_named : ℕ → Option ℕ → List ℕ → List ℕ
+prepend_named l None ls = ls
+prepend_named l (Some name) ls = (2 * name + l % 2) ∷ ls
 
--- The literals with the user's names; literals of variables without a name are dropped.
+-- The literals with the user's names. A sample variable without a name keeps its own index; literals of any other
+-- variable without a name are dropped.
 abbrev pub in_user_names : (ℕ → Variable) → List ℕ → List ℕ
 in_user_names variables [] = []
-in_user_names variables (l ∷ ls) = onto_named l (user_from_proof_var variables (variable l)) (in_user_names variables ls)
+in_user_names variables (l ∷ ls) = prepend_named l (user_from_proof_var variables (variable l)) (in_user_names variables ls)
 
--- The transcript step for the removal of a variable's name, if it had one.
-abbrev pub name_was_removed : Option ℕ → Option Transcribed
-name_was_removed None = None
-name_was_removed (Some name) = Some (HideVar name)
+-- The transcript step when the name of a variable is removed, given that name: `HideVar`, or none if it had no name.
+abbrev pub name_removal_transcript : Option ℕ → Option Transcribed
+name_removal_transcript None = None
+name_removal_transcript (Some name) = Some (HideVar name)
 
--- The transcript step for a name: if the variable had none before, it was set; otherwise, the mode was changed.
+-- The transcript step for an announced name, given the variable's name before. If it had none, the step is
+-- `ObserveInternalVar`, or none for a new variable; otherwise only its mode changed, and the step is `SampleVar` or
+-- `WitnessVar`.
 abbrev pub naming_transcript : UserVariable → Option ℕ → Option Transcribed
 naming_transcript u None = if u.is_new then None else Some (ObserveInternalVar u.name)
 naming_transcript u (Some name) = Some (if u.sampling then SampleVar u.name else WitnessVar u.name)
 
 -- The transcript step for a derived clause: `Unsat` if it is empty, otherwise none.
-abbrev pub deriving_of : List ℕ → Option Transcribed
-deriving_of [] = Some Unsat
-deriving_of (l ∷ ls) = None
+abbrev pub derived_transcript : List ℕ → Option Transcribed
+derived_transcript [] = Some Unsat
+derived_transcript (l ∷ ls) = None
 
 -- The transcript step for an announcement, if any, given the variables before the step.
 abbrev pub transcript : (ℕ → Variable) → Announcement → Option Transcribed
-transcript variables (UserVar v None) = name_was_removed (variables v).name
+transcript variables (UserVar v None) = name_removal_transcript (variables v).name
 transcript variables (UserVar v (Some u)) = naming_transcript u (variables v).name
 transcript variables (DeleteVar v) = None
 transcript variables (announcements.AddClause id clause) = Some (AddClause (in_user_names variables clause))
 transcript variables (DuplicatedClause id same clause) = Some (AddClause (in_user_names variables clause))
 transcript variables (TautologicalClause id clause) = Some (AddClause (in_user_names variables clause))
-transcript variables (AtClause id redundant clause ids) = deriving_of clause
+transcript variables (AtClause id redundant clause ids) = derived_transcript clause
 transcript variables (MakeIrredundant id clause) = None
 transcript variables (DeleteClause id clause) = None
 transcript variables (DeleteAtClause id kept clause ids) = None
@@ -73,7 +78,7 @@ abbrev pub with_transcript : Option Transcribed → List Transcribed → List Tr
 with_transcript None ts = ts
 with_transcript (Some t) ts = t ∷ ts
 
--- The transcript of what was announced, in order.
+-- The transcript of these notices, the oldest first.
 abbrev pub transcripts : List Notice → List Transcribed
 transcripts [] = []
 transcripts (t ∷ ts) = with_transcript (transcript t.variables t.announcement) (transcripts ts)

@@ -5,12 +5,12 @@ use Rattle.sat_base.specs.values.Literals.{negated}
 use Rattle.sat_checker.specs.LiteralSets.{is_among, is_tautology}
 use Rattle.sat_checker.specs.Stored.{StoredClause}
 
--- The assumed literals, the newest first, and the literals that there is room for.
+-- The assumed literals, the newest first, and the literals that can be assumed without allocating.
 pub record LiteralsAndRoom : Type 0 where
   pub literals : List ℕ
   pub room : List ℕ
 
--- The room after one more literal and its negation are added.
+-- The literals with room, and also `l` and its negation, unless `l` has room already.
 abbrev pub with_room : ℕ → List ℕ → List ℕ
 with_room l room = if is_among room l then room else l ∷ negated l ∷ room
 
@@ -19,33 +19,34 @@ with_room l room = if is_among room l then room else l ∷ negated l ∷ room
 abbrev pub AssumesOnce : ℕ → LiteralsAndRoom → LiteralsAndRoom → Type 0
 AssumesOnce l old new = MatchBool (is_among old.literals l) (new ≡ old) (new ≡ record { literals = l ∷ old.literals; room = with_room l old.room })
 
--- `RoomStays old new` holds if every literal with room in `old` has room in `new`.
-abbrev pub RoomStays : List ℕ → List ℕ → Type 0
-RoomStays old new = (l : ℕ) → is_among old l ≡ true → is_among new l ≡ true
+-- `RoomIsKept old new` holds if every literal with room in `old` has room in `new`.
+abbrev pub RoomIsKept : List ℕ → List ℕ → Type 0
+RoomIsKept old new = (l : ℕ) → is_among old l ≡ true → is_among new l ≡ true
 
 -- `HasClauseRoom room clause` holds if there is room for every literal of the clause, and for its negation.
 abbrev pub HasClauseRoom : List ℕ → List ℕ → Type 0
 HasClauseRoom room = AllByRecursion (λ l. (is_among room l ≡ true) × (is_among room (negated l) ≡ true))
 
--- `HasClausesRoom room clauses` holds if `HasClauseRoom` does for all of these clauses.
+-- `HasClausesRoom room clauses` holds if there is room for every literal of these clauses, and for its negation.
 abbrev pub HasClausesRoom : List ℕ → List (List ℕ) → Type 0
 HasClausesRoom room = AllByRecursion (HasClauseRoom room)
 
--- `HasStoredRoom room clauses` holds if `HasClauseRoom` does for all of these stored clauses.
+-- `HasStoredRoom room clauses` holds if there is room for every literal of these stored clauses, and for its negation.
 abbrev pub HasStoredRoom : List ℕ → List StoredClause → Type 0
 HasStoredRoom room = AllByRecursion (λ c. HasClauseRoom room c.literals)
 
--- `AgreesOn room xs ys` holds if `xs` and `ys` contain the same literals among those that there is room for.
-abbrev pub AgreesOn : List ℕ → List ℕ → List ℕ → Type 0
-AgreesOn room xs ys = (l : ℕ) → is_among room l ≡ true → is_among xs l ≡ is_among ys l
+-- `AgreeWithinRoom room xs ys` holds if `xs` and `ys` contain the same of the literals in `room`; others do not matter.
+abbrev pub AgreeWithinRoom : List ℕ → List ℕ → List ℕ → Type 0
+AgreeWithinRoom room xs ys = (l : ℕ) → is_among room l ≡ true → is_among xs l ≡ is_among ys l
 
 -- The literals or, if `negate` is true, their negations.
 abbrev pub signed : Bool → List ℕ → List ℕ
 signed negate literals = if negate then map negated literals else literals
 
--- `DeniedInRoom old clause new` holds if the negations of the clause's literals are assumed in addition to those in
--- `old`, as far as `old` has room for them. The clause is no tautology, and none of its literals is assumed in `old`.
-pub record DeniedInRoom (old : LiteralsAndRoom) (clause : List ℕ) (new : LiteralsAndRoom) : Type 0 where
-  pub agrees : AgreesOn old.room new.literals (map negated clause ++ old.literals)
+-- `NegationsAssumedInRoom old clause new` holds if the negations of the clause's literals are assumed in addition to
+-- those in `old`, as far as `old` has room for them. The clause is no tautology, and none of its literals is assumed in
+-- `old`.
+pub record NegationsAssumedInRoom (old : LiteralsAndRoom) (clause : List ℕ) (new : LiteralsAndRoom) : Type 0 where
+  pub agrees : AgreeWithinRoom old.room new.literals (map negated clause ++ old.literals)
   pub no_unit : list_any (is_among old.literals) clause ≡ false
   pub no_tautology : is_tautology clause ≡ false

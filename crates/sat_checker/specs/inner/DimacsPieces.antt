@@ -3,7 +3,7 @@ use Rattle.std.specs.Prelude.{ℕ, ◌≡◌, ◌++◌, Bool, true, false, List,
 use Rattle.sat_base.specs.dimacs.Parsing.{Progress, clauses_read}
 use Rattle.sat_base.specs.declared.dimacs.error.DimacsError.{DimacsError}
 use Rattle.sat_base.specs.declared.dimacs.error.DimacsError.TheVariants as texts
-use Rattle.sat_checker.specs.ClausesView.{AddsClauses}
+use Rattle.sat_checker.specs.ClausesView.{AddClausesResult}
 use Rattle.sat_checker.specs.CheckerView.{CheckerView}
 use Rattle.sat_checker.specs.announcements.Announcements.{Notice}
 use Rattle.sat_checker.specs.declared.processing.ProcessingError.{ProcessingError}
@@ -19,20 +19,20 @@ is_out_of_memory texts.OutOfMemory = true
 is_out_of_memory texts.HasFailed = false
 
 -- The checker, marked as failed or not.
-abbrev pub with_flag : {L : Type 0} → Bool → CheckerView L → CheckerView L
-with_flag b c = record c { kernel = record c.kernel { failed = b } }
+abbrev pub with_failed_flag : {L : Type 0} → Bool → CheckerView L → CheckerView L
+with_failed_flag b c = record c { kernel = record c.kernel { failed = b } }
 
-module _ {L : Type 0} (Hears : L → Notice → Result Unit ProcessingError → L → Type 0) where
-  -- `AnswersRead Hears result answer old new clauses` holds if all of `clauses` were added and `result` reports the
-  -- parser's result `answer`, or if adding them failed as `result` says. If the parser ran out of memory, the checker
-  -- has failed.
-  abbrev pub AnswersRead : Result Unit CheckerDimacsError → Result Unit DimacsError → CheckerView L → CheckerView L → List (List ℕ) → Type 0
-  AnswersRead (Ok x) answer old new clauses = (answer ≡ Ok tt) × AddsClauses Hears (Ok tt) old new clauses
-  AnswersRead (Err (refused.Dimacs error)) answer old new clauses =
-      (answer ≡ Err error) × (mid : CheckerView L) × AddsClauses Hears (Ok tt) old mid clauses × (new ≡ with_flag (is_out_of_memory error) mid)
-  AnswersRead (Err (refused.Checker error)) answer old new clauses = AddsClauses Hears (Err error) old new clauses
+module _ {L : Type 0} (Receives : L → Notice → Result Unit ProcessingError → L → Type 0) where
+  -- `AddsClausesOfChunk Receives result answer old new clauses` holds if all of `clauses` were added and `result`
+  -- reports the parser's result `answer`, or if adding them failed as `result` says. If the parser ran out of memory,
+  -- the checker has failed.
+  abbrev pub AddsClausesOfChunk : Result Unit CheckerDimacsError → Result Unit DimacsError → CheckerView L → CheckerView L → List (List ℕ) → Type 0
+  AddsClausesOfChunk (Ok x) answer old new clauses = (answer ≡ Ok tt) × AddClausesResult Receives (Ok tt) old new clauses
+  AddsClausesOfChunk (Err (refused.Dimacs error)) answer old new clauses =
+      (answer ≡ Err error) × (mid : CheckerView L) × AddClausesResult Receives (Ok tt) old mid clauses × (new ≡ with_failed_flag (is_out_of_memory error) mid)
+  AddsClausesOfChunk (Err (refused.Checker error)) answer old new clauses = AddClausesResult Receives (Err error) old new clauses
 
-  -- `AddsRead Hears result answer parser old new` holds if `AnswersRead` does for the clauses that the parser has read
-  -- and not yet returned.
-  abbrev pub AddsRead : Result Unit CheckerDimacsError → Result Unit DimacsError → Progress → CheckerView L → CheckerView L → Type 0
-  AddsRead result answer parser old new = (clauses : List (List ℕ)) × (clauses_read parser ≡ parser.taken ++ clauses) × AnswersRead result answer old new clauses
+  -- `AddsReadClauses Receives result answer parser old new` holds if the clauses that the parser has read and not yet
+  -- returned were added, with the result that `AddsClausesOfChunk` demands.
+  abbrev pub AddsReadClauses : Result Unit CheckerDimacsError → Result Unit DimacsError → Progress → CheckerView L → CheckerView L → Type 0
+  AddsReadClauses result answer parser old new = (clauses : List (List ℕ)) × (clauses_read parser ≡ parser.taken ++ clauses) × AddsClausesOfChunk result answer old new clauses

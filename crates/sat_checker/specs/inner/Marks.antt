@@ -12,7 +12,7 @@ pub use Rattle.sat_checker.specs.SortedSets.{NoRepeats, IsIncreasing}
 abbrev pub AreAmong : List ℕ → List ℕ → Type 0
 AreAmong part whole = (l : ℕ) → is_among part l ≡ true → is_among whole l ≡ true
 
--- The mark at the code of a literal.
+-- The mark at the code of a literal, or `NoRoom` if the table has none for it.
 abbrev pub mark_at : Table Mark → ℕ → Mark
 mark_at = value_at mark.NoRoom
 
@@ -26,21 +26,21 @@ is_assumed mark.Assumed = true
 is_assumed mark.Room = false
 is_assumed mark.NoRoom = false
 
--- `AreNear near literals` holds if the marks in `near`, indexed by literal code, say exactly which of the literals with
--- these codes are assumed.
-abbrev pub AreNear : List Mark → List ℕ → Type 0
-AreNear near literals = (l : ℕ) → l < length near → is_assumed (slice_index_or near l mark.NoRoom) ≡ is_among literals l
+-- `AreMarksByCode near literals` holds if every mark in `near`, which is indexed by literal code, says whether the
+-- literal with this code is in `literals`, the assumed ones. Codes past the end of `near` do not matter.
+abbrev pub AreMarksByCode : List Mark → List ℕ → Type 0
+AreMarksByCode near literals = (l : ℕ) → l < length near → is_assumed (slice_index_or near l mark.NoRoom) ≡ is_among literals l
 
--- `AreMarks marks literals room` holds if exactly these literals are marked as assumed, and the others by whether there
--- is room for them. The literals are distinct, and there is room for all of them.
+-- `AreMarks marks literals room` holds if exactly `literals` are marked as assumed, and the others by whether they are
+-- in `room`. The literals are distinct, and all are in `room`.
 pub record AreMarks (marks : Table Mark) (literals room : List ℕ) : Type 0 where
   pub each : (l : ℕ) → mark_at marks l ≡ mark_for (is_among literals l) (is_among room l)
   pub once : NoRepeats literals
   pub within : (l : ℕ) → is_among literals l ≡ true → is_among room l ≡ true
 
--- `HoldsRoom count capacity room` holds if `count` is the number of literals with room, and is at most the capacity. If
--- a literal has room, so has its negation.
-pub record HoldsRoom (count capacity : ℕ) (room : List ℕ) : Type 0 where
+-- `CountsRoom count capacity room` holds if `count` is the number of literals with room, and is at most the capacity.
+-- If a literal has room, so has its negation.
+pub record CountsRoom (count capacity : ℕ) (room : List ℕ) : Type 0 where
   pub exact : count ≡ length room
   pub enough : count ≤ capacity
   pub paired : (l : ℕ) → is_among room l ≡ is_among room (negated l)

@@ -4,8 +4,8 @@ use Rattle.sat_checker.specs.LiteralSets.{is_among}
 use Rattle.sat_checker.specs.announcements.Needed.{ConflictCauses}
 use Rattle.sat_checker.specs.declared.rup.needed.Needed.{Needed}
 
--- `IsFollowed needed g` holds if exactly the literals of `g` are marked, and the ids are those of the clauses of `g`,
--- the last clause first.
-pub record IsFollowed (needed : Needed) (g : ConflictCauses) : Type 0 where
+-- `MarksCauses needed g` holds if exactly the literals of the causes `g` are marked as needed, and the listed ids are
+-- those of the clauses of `g`, the falsified clause first.
+pub record MarksCauses (needed : Needed) (g : ConflictCauses) : Type 0 where
   pub marked : (m : ℕ) → is_among needed.marked.literals m ≡ is_among g.literals m
   pub ids : needed.ids.items ≡ reverse (map (λ c. c.id) g.clauses)

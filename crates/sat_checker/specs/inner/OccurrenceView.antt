@@ -3,7 +3,7 @@ use Rattle.std.specs.Prelude.{ℕ, ◌≡◌, ◌+◌, ◌==◌, List, [], ◌�
 use Rattle.sat_base.specs.values.Tables.{value_at}
 use Rattle.sat_checker.specs.inner.IndexView.{IndexesSlots}
 use Rattle.sat_checker.specs.inner.PairView.{Indexed}
-use Rattle.sat_checker.specs.inner.SlotView.{Slot, is_gone}
+use Rattle.sat_checker.specs.inner.SlotView.{Slot, is_removed}
 use Rattle.sat_checker.specs.declared.store.occurrences.Occurrences.{Occurrences}
 
 -- How often a literal occurs in a clause.
@@ -14,7 +14,7 @@ times_in l (x ∷ xs) = (if x == l then 1 else 0) + times_in l xs
 -- How often a literal occurs in the clauses that are not removed.
 abbrev pub times_stored : ℕ → List Slot → ℕ
 times_stored l [] = 0
-times_stored l (s ∷ ss) = (if is_gone s then 0 else times_in l s.clause.literals) + times_stored l ss
+times_stored l (s ∷ ss) = (if is_removed s then 0 else times_in l s.clause.literals) + times_stored l ss
 
 -- The stored count of a literal, or 0 if there is none.
 abbrev pub count_at : Occurrences → ℕ → ℕ

@@ -26,14 +26,14 @@ abbrev pub first_of : List ℕ → Option ℕ
 first_of [] = None
 first_of (p ∷ ps) = Some p
 
--- The places after `place`.
+-- Those of the places that are greater than `place`.
 abbrev pub places_after : ℕ → List ℕ → List ℕ
 places_after place = filter (nat_lt place)
 
 -- The places from `place` on, or none if it is `None`.
-abbrev pub from_on : Option ℕ → List ℕ → List ℕ
-from_on None places = []
-from_on (Some place) places = filter (nat_le place) places
+abbrev pub places_at_or_after : Option ℕ → List ℕ → List ℕ
+places_at_or_after None places = []
+places_at_or_after (Some place) places = filter (nat_le place) places
 
 -- What contracts see of an index: its pairs, in order of their places, and the number of places.
 pub record Indexed : Type 0 where

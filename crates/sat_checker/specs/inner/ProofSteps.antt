@@ -4,16 +4,16 @@ use Rattle.std.specs.Bool.{MatchBool}
 use Rattle.std.specs.List.{AllByRecursion}
 use Rattle.sat_base.specs.declared.steps.error.StepError.{StepError}
 use Rattle.sat_base.specs.declared.steps.error.StepError.TheVariants as unread
-use Rattle.sat_base.specs.device.Device.{most_reads, piece_size}
+use Rattle.sat_base.specs.device.Device.{max_reads, max_read_size}
 use Rattle.sat_base.specs.device.Reading.{Source, ConsumesBytes, ConsumesToEnd, ConsumesAndFails}
 use Rattle.sat_base.specs.steps.Formats.{IsProperPrefix, IsPrefixOfText}
 use Rattle.sat_base.specs.steps.Steps.{Step, End}
 use Rattle.sat_base.specs.steps.StepText.{SpellsStep, SpellsSteps}
 use Rattle.sat_checker.specs.Accepts.{Accepts, stored_after, ready_after}
 use Rattle.sat_checker.specs.Looks.{most_looks}
-use Rattle.sat_checker.specs.CheckerView.{CheckerView, looks_of, HasAccepted, FailsRefusing, FailsBeforeStep, BreaksAt, RunsOutOfMemoryAt}
+use Rattle.sat_checker.specs.CheckerView.{CheckerView, looks_of, HasAccepted, FailsByRefusal, FailsBeforeStep, ListenerFailsAtStep, RunsOutOfMemoryAt}
 use Rattle.sat_checker.specs.announcements.Announcements.{Notice}
-use Rattle.sat_checker.specs.ProofView.{taken_after, most_looks_after, HasAcceptedUnfailed}
+use Rattle.sat_checker.specs.ProofView.{steps_after, most_looks_after, HasAcceptedUnfailed}
 use Rattle.sat_checker.specs.Counters.{ExhaustsCounters}
 use Rattle.sat_checker.specs.declared.error.CheckerError.{CheckerError}
 use Rattle.sat_checker.specs.declared.error.CheckerError.TheVariants as errors
@@ -29,18 +29,18 @@ read_error unread.Read = errors.IoError
 read_error unread.OutOfMemory = errors.OutOfMemory
 read_error unread.HasFailed = errors.HasFailed
 
--- `is_final error` is true if the error is an allocation failure, after which the checker has failed.
-abbrev pub is_final : StepError → Bool
-is_final unread.Ends = false
-is_final unread.Cut = false
-is_final unread.BadByte = false
-is_final unread.Read = false
-is_final unread.OutOfMemory = true
-is_final unread.HasFailed = false
+-- `is_step_out_of_memory error` is true if the error is an allocation failure, after which the checker has failed.
+abbrev pub is_step_out_of_memory : StepError → Bool
+is_step_out_of_memory unread.Ends = false
+is_step_out_of_memory unread.Cut = false
+is_step_out_of_memory unread.BadByte = false
+is_step_out_of_memory unread.Read = false
+is_step_out_of_memory unread.OutOfMemory = true
+is_step_out_of_memory unread.HasFailed = false
 
--- The largest number of bytes that can still be read.
+-- The largest number of bytes that can still come from a source: those pending, and those of the reads that are left.
 abbrev pub bytes_left : Source → ℕ
-bytes_left s = piece_size * (most_reads - s.reads) + length s.waiting
+bytes_left s = max_read_size * (max_reads - s.reads) + length s.waiting
 
 -- `CountsReads old new` holds if the calls of the reader and the reads that the source counts rose by the same number.
 abbrev pub CountsReads : Source → Source → Type 0
@@ -55,17 +55,17 @@ pub record CheckerAtSource (L : Type 0) : Type 0 where
 abbrev pub at_source : {L : Type 0} → CheckerView L → Source → CheckerAtSource L
 at_source c s = record { checker = c; source = s }
 
--- `TriesStep a b earlier step` holds if the bytes of the step were consumed, and the number of looks rose at most by
+-- `ConsumesStep a b earlier step` holds if the bytes of the step were consumed, and the number of looks rose at most by
 -- the bound for the step after the earlier ones.
-pub record TriesStep {L : Type 0} (a b : CheckerAtSource L) (earlier : List Step) (step : Step) : Type 0 where
+pub record ConsumesStep {L : Type 0} (a b : CheckerAtSource L) (earlier : List Step) (step : Step) : Type 0 where
   pub text : List ℕ
   pub passes : ConsumesBytes a.source b.source text
   pub spelt : SpellsStep step text
   pub looks : looks_of b.checker ≤ looks_of a.checker + most_looks (ready_after earlier) step
 
--- `ReadsPartOfStep a b` holds if a proper prefix of a step was consumed, of at least one byte, no other bytes are
+-- `ConsumesPartOfStep a b` holds if a proper prefix of a step was consumed, of at least one byte, no other bytes are
 -- pending, and no looks were added.
-pub record ReadsPartOfStep {L : Type 0} (a b : CheckerAtSource L) : Type 0 where
+pub record ConsumesPartOfStep {L : Type 0} (a b : CheckerAtSource L) : Type 0 where
   pub tag : ℕ
   pub more : List ℕ
   pub passes : ConsumesBytes a.source b.source (tag ∷ more)
@@ -73,42 +73,43 @@ pub record ReadsPartOfStep {L : Type 0} (a b : CheckerAtSource L) : Type 0 where
   pub begins : IsProperPrefix SpellsStep (tag ∷ more)
   pub looks : looks_of b.checker ≡ looks_of a.checker
 
-module _ {L : Type 0} (Hears : L → Notice → Result Unit ProcessingError → L → Type 0) (before : List Notice) (begun : L) where
-  -- `Waits Hears before begun a b earlier` holds if the checker has accepted the earlier steps and no others, it has
-  -- not failed, and no looks were added.
-  pub record Waits (a b : CheckerAtSource L) (earlier : List Step) : Type 0 where
-    pub goes_on : HasAcceptedUnfailed Hears before begun b.checker earlier
+module _ {L : Type 0} (Receives : L → Notice → Result Unit ProcessingError → L → Type 0) (before : List Notice) (begun : L) where
+  -- `IsUnchangedUnfailed Receives before begun a b earlier` holds if the checker has accepted the earlier steps and no
+  -- others, it has not failed, and no looks were added.
+  pub record IsUnchangedUnfailed (a b : CheckerAtSource L) (earlier : List Step) : Type 0 where
+    pub goes_on : HasAcceptedUnfailed Receives before begun b.checker earlier
     pub looks : looks_of b.checker ≡ looks_of a.checker
 
-  -- `StepsOn Hears before begun result a b earlier` holds if reading and checking the step after the earlier ones led
-  -- from `a` to `b` with this result. `Ok` says whether the step is the end.
-  abbrev pub StepsOn : Result Bool CheckerError → CheckerAtSource L → CheckerAtSource L → List Step → Type 0
-  StepsOn (Ok ended) a b earlier = (step : Step) × TriesStep a b earlier step × MatchBool ended (step ≡ End) (step ≢ End) × HasAcceptedUnfailed Hears before begun b.checker (step ∷ earlier)
-  StepsOn (Err errors.CheckFailed) a b earlier = (step : Step) × TriesStep a b earlier step × (Accepts (ready_after earlier) step → ⊥) × FailsRefusing Hears before begun b.checker earlier
-  StepsOn (Err errors.CounterEnd) a b earlier = (step : Step) × TriesStep a b earlier step × ExhaustsCounters step (stored_after earlier) × FailsBeforeStep Hears before begun b.checker earlier
-  StepsOn (Err errors.OutOfMemory) a b earlier =
-      (ReadsPartOfStep a b × FailsBeforeStep Hears before begun b.checker earlier)
-      ⊎ ((step : Step) × TriesStep a b earlier step × RunsOutOfMemoryAt Hears before begun b.checker step earlier)
-  StepsOn (Err (errors.ProofProcessorError cause)) a b earlier = (step : Step) × TriesStep a b earlier step × BreaksAt Hears before begun (faults.ProofProcessorError cause) b.checker step earlier
-  StepsOn (Err errors.ProofIncomplete) a b earlier =
-      (text : List ℕ) × ConsumesToEnd a.source b.source text × IsProperPrefix SpellsStep text × Waits a b earlier
-  StepsOn (Err errors.ParseError) a b earlier =
+  -- `NextStepResultAfter Receives before begun result a b earlier` holds if reading and checking one step, after the
+  -- accepted steps `earlier`, led from `a` to `b` with a correct result. `Ok(true)` means that the step is the end.
+  abbrev pub NextStepResultAfter : Result Bool CheckerError → CheckerAtSource L → CheckerAtSource L → List Step → Type 0
+  NextStepResultAfter (Ok ended) a b earlier = (step : Step) × ConsumesStep a b earlier step × MatchBool ended (step ≡ End) (step ≢ End) × HasAcceptedUnfailed Receives before begun b.checker (step ∷ earlier)
+  NextStepResultAfter (Err errors.CheckFailed) a b earlier = (step : Step) × ConsumesStep a b earlier step × (Accepts (ready_after earlier) step → ⊥) × FailsByRefusal Receives before begun b.checker earlier
+  NextStepResultAfter (Err errors.CounterEnd) a b earlier = (step : Step) × ConsumesStep a b earlier step × ExhaustsCounters step (stored_after earlier) × FailsBeforeStep Receives before begun b.checker earlier
+  NextStepResultAfter (Err errors.OutOfMemory) a b earlier =
+      (ConsumesPartOfStep a b × FailsBeforeStep Receives before begun b.checker earlier)
+      ⊎ ((step : Step) × ConsumesStep a b earlier step × RunsOutOfMemoryAt Receives before begun b.checker step earlier)
+  NextStepResultAfter (Err (errors.ProofProcessorError cause)) a b earlier = (step : Step) × ConsumesStep a b earlier step × ListenerFailsAtStep Receives before begun (faults.ProofProcessorError cause) b.checker step earlier
+  NextStepResultAfter (Err errors.ProofIncomplete) a b earlier =
+      (text : List ℕ) × ConsumesToEnd a.source b.source text × IsProperPrefix SpellsStep text × IsUnchangedUnfailed a b earlier
+  NextStepResultAfter (Err errors.ParseError) a b earlier =
       (front : List ℕ) × (byte : ℕ) × ConsumesBytes a.source b.source (front ++ byte ∷ []) × IsProperPrefix SpellsStep front
-      × (IsPrefixOfText SpellsStep (front ++ byte ∷ []) → ⊥) × Waits a b earlier
-  StepsOn (Err errors.IoError) a b earlier = (text : List ℕ) × ConsumesAndFails a.source b.source text × IsProperPrefix SpellsStep text × Waits a b earlier
-  StepsOn (Err errors.HasFailed) a b earlier = ⊥
+      × (IsPrefixOfText SpellsStep (front ++ byte ∷ []) → ⊥) × IsUnchangedUnfailed a b earlier
+  NextStepResultAfter (Err errors.IoError) a b earlier = (text : List ℕ) × ConsumesAndFails a.source b.source text × IsProperPrefix SpellsStep text × IsUnchangedUnfailed a b earlier
+  NextStepResultAfter (Err errors.HasFailed) a b earlier = ⊥
 
-  -- `TakesStepsBeforeEnd Hears before begun a b earlier passed` holds if the steps `passed`, none of them the end, were
-  -- read and accepted after the earlier ones, and the number of looks rose at most by their bound.
-  pub record TakesStepsBeforeEnd (a b : CheckerAtSource L) (earlier passed : List Step) : Type 0 where
+  -- `AcceptsStepsBeforeEnd Receives before begun a b earlier passed` holds if the steps `passed`, none of them the end,
+  -- were read and accepted after the earlier ones, and the number of looks rose at most by their bound.
+  pub record AcceptsStepsBeforeEnd (a b : CheckerAtSource L) (earlier passed : List Step) : Type 0 where
     pub text : List ℕ
     pub passes : ConsumesBytes a.source b.source text
     pub spelt : SpellsSteps passed text
     pub unended : AllByRecursion (λ step. step ≢ End) passed
-    pub goes_on : HasAcceptedUnfailed Hears before begun b.checker (taken_after passed earlier)
+    pub goes_on : HasAcceptedUnfailed Receives before begun b.checker (steps_after passed earlier)
     pub looks : looks_of b.checker ≤ looks_of a.checker + most_looks_after passed earlier
 
-module _ {L : Type 0} (Hears : L → Notice → Result Unit ProcessingError → L → Type 0) where
-  -- `TurnsOn Hears result a b` holds if `StepsOn` does, whatever was accepted and announced earlier.
-  abbrev pub TurnsOn : Result Bool CheckerError → CheckerAtSource L → CheckerAtSource L → Type 0
-  TurnsOn result a b = (before : List Notice) (begun : L) (earlier : List Step) → HasAccepted Hears before begun a.checker earlier → StepsOn Hears before begun result a b earlier
+module _ {L : Type 0} (Receives : L → Notice → Result Unit ProcessingError → L → Type 0) where
+  -- `NextStepResult Receives result a b` holds if reading and checking one step led from `a` to `b` with a correct
+  -- result, after whatever steps the checker of `a` has accepted. `Ok(true)` means that the step is the end.
+  abbrev pub NextStepResult : Result Bool CheckerError → CheckerAtSource L → CheckerAtSource L → Type 0
+  NextStepResult result a b = (before : List Notice) (begun : L) (earlier : List Step) → HasAccepted Receives before begun a.checker earlier → NextStepResultAfter Receives before begun result a b earlier

@@ -7,7 +7,7 @@ use Rattle.sat_checker.specs.Looks.{total_length}
 use Rattle.sat_checker.specs.Stored.{StoredClause}
 use Rattle.sat_checker.specs.announcements.Needed.{ConflictCauses, conflict_causes}
 use Rattle.sat_checker.specs.announcements.Promises.{Reason}
-use Rattle.sat_checker.specs.announcements.Following.{followed_back}
+use Rattle.sat_checker.specs.announcements.Following.{with_causes}
 use Rattle.sat_checker.specs.inner.SlotView.{Slot, slot_at, literals_at, is_filed}
 use Rattle.sat_checker.specs.inner.WalkNotes.{WalkNotes}
 use Rattle.sat_checker.specs.declared.rup.passed.Reason as noted
@@ -19,13 +19,13 @@ abbrev pub clause_at : List Slot → ℕ → StoredClause
 clause_at slots place = (slot_at slots place).clause
 
 -- The clauses with this hash that are not removed.
-abbrev pub filed : ℕ → List Slot → List StoredClause
-filed hash slots = map (λ s. s.clause) (filter (is_filed hash) slots)
+abbrev pub clauses_by_hash : ℕ → List Slot → List StoredClause
+clauses_by_hash hash slots = map (λ s. s.clause) (filter (is_filed hash) slots)
 
 -- The clauses with these hashes that are not removed, in the order of the hashes.
-abbrev pub named : List ℕ → List Slot → List StoredClause
-named [] slots = []
-named (hash ∷ hashes) slots = filed hash slots ++ named hashes slots
+abbrev pub clauses_by_hashes : List ℕ → List Slot → List StoredClause
+clauses_by_hashes [] slots = []
+clauses_by_hashes (hash ∷ hashes) slots = clauses_by_hash hash slots ++ clauses_by_hashes hashes slots
 
 -- A note of the code as a reason: the clause at the place, and the literal that it implied.
 abbrev pub reason_in : List Slot → noted.Reason → Reason
@@ -58,48 +58,52 @@ conflict_length slots (Some place) = length (literals_at slots place)
 abbrev pub noted_length : List Slot → WalkNotes → ℕ
 noted_length slots passed = total_length (map (λ r. literals_at slots r.place) passed.reasons) + conflict_length slots passed.conflict
 
--- `KeepsGround slots old assumed clauses new more left` holds if going from `old`, `assumed` and `clauses` to `new`,
--- `more` and `left` does not change the causes of a conflict. If all places noted in `old` exist, so do those in `new`.
-pub record KeepsGround (slots : List Slot) (old : WalkNotes) (assumed : List ℕ) (clauses : List StoredClause) (new : WalkNotes) (more : List ℕ) (left : List StoredClause) : Type 0 where
+-- `PreservesCauses slots old assumed clauses new more left` holds if the walk from the notes `old`, the assumed
+-- literals and `clauses` to the notes `new`, the literals `more` and the clauses `left` does not change the causes of a
+-- later conflict. Noted places exist in `new` if they do in `old`.
+pub record PreservesCauses (slots : List Slot) (old : WalkNotes) (assumed : List ℕ) (clauses : List StoredClause) (new : WalkNotes) (more : List ℕ) (left : List StoredClause) : Type 0 where
   pub same : (rest : List StoredClause) →
-      followed_back (reasons_in slots old) (conflict_causes assumed (clauses ++ rest)) ≡ followed_back (reasons_in slots new) (conflict_causes more (left ++ rest))
+      with_causes (reasons_in slots old) (conflict_causes assumed (clauses ++ rest)) ≡ with_causes (reasons_in slots new) (conflict_causes more (left ++ rest))
   pub there : AreNotedPlaces slots old → AreNotedPlaces slots new
 
--- `MeetsConflict slots old assumed clauses new` holds if the walk over these clauses, with the notes `old`, reached a
--- conflict that the notes `new` explain, whatever clauses come after. If all places noted in `old` exist, so do those
--- in `new`.
-pub record MeetsConflict (slots : List Slot) (old : WalkNotes) (assumed : List ℕ) (clauses : List StoredClause) (new : WalkNotes) : Type 0 where
+-- `ReachesConflict slots old assumed clauses new` holds if the walk over these clauses, from the notes `old` and the
+-- assumed literals, falsified a clause, and the notes `new` give its causes. Noted places exist in `new` if they do in
+-- `old`.
+pub record ReachesConflict (slots : List Slot) (old : WalkNotes) (assumed : List ℕ) (clauses : List StoredClause) (new : WalkNotes) : Type 0 where
   pub same : (rest : List StoredClause) →
-      followed_back (reasons_in slots old) (conflict_causes assumed (clauses ++ rest)) ≡ followed_back (reasons_in slots new) (conflict_at slots new.conflict)
+      with_causes (reasons_in slots old) (conflict_causes assumed (clauses ++ rest)) ≡ with_causes (reasons_in slots new) (conflict_at slots new.conflict)
   pub there : AreNotedPlaces slots old → AreNotedPlaces slots new
-  pub met : IsConflictPlace slots new.conflict
+  pub reached : IsConflictPlace slots new.conflict
 
--- `NotesReasons slots conflict old assumed clauses new more` holds if `MeetsConflict` does when `conflict` is true, and
--- if `KeepsGround` does, with no clauses left, when it is false.
+-- `NotesReasons slots conflict old assumed clauses new more` holds if the notes `new` are correct after the walk over
+-- all clauses: they give the causes of its conflict if `conflict` is true, and otherwise those of any later conflict,
+-- with `more` assumed.
 abbrev pub NotesReasons : List Slot → Bool → WalkNotes → List ℕ → List StoredClause → WalkNotes → List ℕ → Type 0
-NotesReasons slots true old assumed clauses new more = MeetsConflict slots old assumed clauses new
-NotesReasons slots false old assumed clauses new more = KeepsGround slots old assumed clauses new more []
+NotesReasons slots true old assumed clauses new more = ReachesConflict slots old assumed clauses new
+NotesReasons slots false old assumed clauses new more = PreservesCauses slots old assumed clauses new more []
 
--- `RecordsWalk slots walked old assumed clauses new more` holds if `MeetsConflict` does for a walk over a bucket that
--- reached a conflict, and `KeepsGround`, with no clauses left, for one that did not. It holds for an empty bucket.
+-- `RecordsWalk slots walked old assumed clauses new more` holds if the notes `new` are correct after the walk over a
+-- bucket: they give the causes of its conflict (`Conflict`), or those of any later one, with `more` assumed (`Open`).
+-- Nothing is required for an empty bucket.
 abbrev pub RecordsWalk : List Slot → Walked → WalkNotes → List ℕ → List StoredClause → WalkNotes → List ℕ → Type 0
 RecordsWalk slots Empty old assumed clauses new more = Unit {0}
-RecordsWalk slots Conflict old assumed clauses new more = MeetsConflict slots old assumed clauses new
-RecordsWalk slots Open old assumed clauses new more = KeepsGround slots old assumed clauses new more []
+RecordsWalk slots Conflict old assumed clauses new more = ReachesConflict slots old assumed clauses new
+RecordsWalk slots Open old assumed clauses new more = PreservesCauses slots old assumed clauses new more []
 
--- `Explains slots passed whole` holds if following the notes back from their conflict gives the causes `whole`, and all
--- noted places exist.
-pub record Explains (slots : List Slot) (passed : WalkNotes) (whole : ConflictCauses) : Type 0 where
-  pub same : whole ≡ followed_back (reasons_in slots passed) (conflict_at slots passed.conflict)
+-- `ExplainsConflict slots passed whole` holds if following the notes back from their conflict gives the causes `whole`,
+-- and all noted places exist.
+pub record ExplainsConflict (slots : List Slot) (passed : WalkNotes) (whole : ConflictCauses) : Type 0 where
+  pub same : whole ≡ with_causes (reasons_in slots passed) (conflict_at slots passed.conflict)
   pub there : AreNotedPlaces slots passed
-  pub met : IsConflictPlace slots passed.conflict
+  pub reached : IsConflictPlace slots passed.conflict
 
--- `ExplainsUnless slots passed units clause whole` holds if the notes explain the causes `whole`, unless the clause has
--- both signs of a variable or one of the literals `units`.
-abbrev pub ExplainsUnless : List Slot → WalkNotes → List ℕ → List ℕ → ConflictCauses → Type 0
-ExplainsUnless slots passed units clause whole = list_any (is_among units) clause ≡ false → is_tautology clause ≡ false → Explains slots passed whole
+-- `ExplainsUnlessSatisfied slots passed units clause whole` holds if the notes `passed` give the causes `whole`, unless
+-- the clause has both signs of a variable or contains one of the literals `units`.
+abbrev pub ExplainsUnlessSatisfied : List Slot → WalkNotes → List ℕ → List ℕ → ConflictCauses → Type 0
+ExplainsUnlessSatisfied slots passed units clause whole = list_any (is_among units) clause ≡ false → is_tautology clause ≡ false → ExplainsConflict slots passed whole
 
--- `ExplainsCheck slots passed assumed clause hashes` holds if the notes explain the check of the clause by these hashes
--- under the assumed literals, unless one of these is in the clause or it has both signs of a variable.
+-- `ExplainsCheck slots passed assumed clause hashes` holds if the notes `passed` give the causes of the conflict when
+-- the clause is checked by these hashes under the assumed literals, unless it contains one of these or both signs of a
+-- variable.
 abbrev pub ExplainsCheck : List Slot → WalkNotes → List ℕ → List ℕ → List ℕ → Type 0
-ExplainsCheck slots passed assumed clause hashes = ExplainsUnless slots passed assumed clause (conflict_causes (map negated clause ++ assumed) (named hashes slots))
+ExplainsCheck slots passed assumed clause hashes = ExplainsUnlessSatisfied slots passed assumed clause (conflict_causes (map negated clause ++ assumed) (clauses_by_hashes hashes slots))

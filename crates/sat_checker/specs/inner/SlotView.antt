@@ -2,13 +2,13 @@
 use Rattle.std.specs.Prelude.{ℕ, ◌+◌, ◌<◌, ◌≤◌, ◌==◌, ◌≡◌, ◌⊎◌, Bool, false, not, ◌&&◌, List, [], ◌∷◌, ◌++◌, map, filter, find, Option, length, take, nat_le, slice_range, slice_index_or, slice_set, if◌then◌else◌}
 use Rattle.sat_checker.specs.LiteralSets.{same_literals}
 use Rattle.sat_checker.specs.Looks.{total_length}
-use Rattle.sat_checker.specs.Stored.{StoredClause, hash_by}
-use Rattle.sat_checker.specs.Storing.{with_count, without_count, new_clause, unless_gone}
+use Rattle.sat_checker.specs.Stored.{StoredClause, clause_hash_by}
+use Rattle.sat_checker.specs.Storing.{with_count, without_count, new_clause, unless_removed}
 use Rattle.sat_checker.specs.HasherView.{solver_name_of, width_of}
 use Rattle.sat_checker.specs.declared.hash.ClauseHasher.{ClauseHasher}
 use Rattle.sat_checker.specs.declared.store.slots.ClauseLits.{ClauseLits}
 
--- The literals, which are stored inline or in the buffer.
+-- The literals of a clause as the code stores it: inline if there are at most 4, otherwise a part of `buffer`.
 abbrev pub lits_in : List ℕ → ClauseLits → List ℕ
 lits_in buffer c = if nat_le c.len 4 then take c.len c.inline else slice_range buffer c.start (c.start + c.len)
 
@@ -21,17 +21,17 @@ pub record Slot : Type 0 where
   pub clause : StoredClause
   pub hash : ℕ
 
--- The slot of a clause with these counts.
+-- The slot of a clause with this id, these counts (first irredundant, then redundant), this hash and these literals.
 abbrev pub slot_with : ℕ → ℕ → ℕ → ℕ → List ℕ → Slot
 slot_with id irredundant redundant hash literals = record { clause = record { id = id; literals = literals; irredundant = irredundant; redundant = redundant }; hash = hash }
 
--- The slot of a removed clause.
-abbrev pub unstored : ℕ → ℕ → List ℕ → Slot
-unstored id hash literals = slot_with id 0 0 hash literals
+-- The slot of a removed clause, which has no count, with this id, this hash and these literals.
+abbrev pub removed_slot : ℕ → ℕ → List ℕ → Slot
+removed_slot id hash literals = slot_with id 0 0 hash literals
 
 -- The slot at `place`, or that of a removed clause without literals if there is none.
 abbrev pub slot_at : List Slot → ℕ → Slot
-slot_at slots place = slice_index_or slots place (unstored 0 0 [])
+slot_at slots place = slice_index_or slots place (removed_slot 0 0 [])
 
 -- The literals of the clause at `place`, even if it is removed.
 abbrev pub literals_at : List Slot → ℕ → List ℕ
@@ -45,11 +45,12 @@ all_lits = map (λ s. s.clause.literals)
 abbrev pub slot_count : Bool → Slot → ℕ
 slot_count redundant s = if redundant then s.clause.redundant else s.clause.irredundant
 
--- The slots once the clause at `place` has one more count, redundant or irredundant.
+-- The slots once the clause at `place` has one more count: redundant if the flag is true, otherwise irredundant.
 abbrev pub with_count_at : Bool → ℕ → List Slot → List Slot
 with_count_at redundant place slots = slice_set slots place (record (slot_at slots place) { clause = with_count redundant (slot_at slots place).clause })
 
--- The slots once the clause at `place` has one count fewer. Without a count, it is removed.
+-- The slots once the clause at `place` has one count fewer, redundant (true) or irredundant; 0 stays 0. A clause
+-- without a count is removed, but keeps its place.
 abbrev pub without_count_at : Bool → ℕ → List Slot → List Slot
 without_count_at redundant place slots = slice_set slots place (record (slot_at slots place) { clause = without_count redundant (slot_at slots place).clause })
 
@@ -61,64 +62,66 @@ with_hash_at hash place slots = slice_set slots place (record (slot_at slots pla
 abbrev pub slot_ids : List Slot → List ℕ
 slot_ids = map (λ s. s.clause.id)
 
--- The clauses that are not removed.
-abbrev pub live : List Slot → List StoredClause
-live [] = []
-live (s ∷ ss) = unless_gone s.clause ++ live ss
+-- The clauses that have a count, in order of their places.
+abbrev pub live_clauses : List Slot → List StoredClause
+live_clauses [] = []
+live_clauses (s ∷ ss) = unless_removed s.clause ++ live_clauses ss
 
--- `is_gone s` is true if the clause has no count.
-abbrev pub is_gone : Slot → Bool
-is_gone s = s.clause.irredundant == 0 && s.clause.redundant == 0
+-- `is_removed s` is true if the clause has no count.
+abbrev pub is_removed : Slot → Bool
+is_removed s = s.clause.irredundant == 0 && s.clause.redundant == 0
 
 -- The number of removed clauses.
-abbrev pub gone_count : List Slot → ℕ
-gone_count [] = 0
-gone_count (s ∷ ss) = (if is_gone s then 1 else 0) + gone_count ss
+abbrev pub removed_count : List Slot → ℕ
+removed_count [] = 0
+removed_count (s ∷ ss) = (if is_removed s then 1 else 0) + removed_count ss
 
 -- The slots without those of removed clauses.
-abbrev pub slots_present : List Slot → List Slot
-slots_present = filter (λ s. not (is_gone s))
+abbrev pub slots_not_removed : List Slot → List Slot
+slots_not_removed = filter (λ s. not (is_removed s))
 
 -- `CompactsOrKeeps old new` holds if the removed clauses were dropped, or nothing changed.
 abbrev pub CompactsOrKeeps : List Slot → List Slot → Type 0
-CompactsOrKeeps old new = (new ≡ old) ⊎ (new ≡ slots_present old)
+CompactsOrKeeps old new = (new ≡ old) ⊎ (new ≡ slots_not_removed old)
 
 -- `IsPresentAt slots id place` holds if the clause at `place` has this id and is not removed.
 pub record IsPresentAt (slots : List Slot) (id place : ℕ) : Type 0 where
   pub inside : place < length slots
   pub id_is : (slot_at slots place).clause.id ≡ id
-  pub there : is_gone (slot_at slots place) ≡ false
+  pub there : is_removed (slot_at slots place) ≡ false
 
--- The slot of a clause that was stored once.
+-- The slot of a new clause, with one count: redundant if the flag is true, otherwise irredundant.
 abbrev pub stored_slot : Bool → ℕ → ℕ → List ℕ → Slot
 stored_slot redundant id hash literals = record { clause = new_clause redundant id literals; hash = hash }
 
 -- `is_filed hash s` is true if the clause is not removed and has this hash.
 abbrev pub is_filed : ℕ → Slot → Bool
-is_filed hash s = not (is_gone s) && s.hash == hash
+is_filed hash s = not (is_removed s) && s.hash == hash
 
--- The literals of the clauses with this hash.
+-- The literals of the clauses that are not removed and are filed under this hash, in order of places.
 abbrev pub bucket_in : ℕ → List Slot → List (List ℕ)
 bucket_in hash slots = all_lits (filter (is_filed hash) slots)
 
--- The literals of the clauses with a hash, as a function of the hash.
+-- The literals of the clauses that are filed under a hash and not removed, as a function of the hash.
 abbrev pub bucket_of : List Slot → ℕ → List (List ℕ)
 bucket_of slots hash = bucket_in hash slots
 
 -- The number of literals of the clauses that are not removed.
-abbrev pub live_length : List Slot → ℕ
-live_length slots = total_length (map (λ c. c.literals) (live slots))
+abbrev pub live_literal_count : List Slot → ℕ
+live_literal_count slots = total_length (map (λ c. c.literals) (live_clauses slots))
 
--- The places of the clauses with this hash, if the first slot is at `place`.
+-- The places of the clauses that are not removed and are filed under this hash, increasing, if the first slot is at
+-- `place`.
 abbrev pub places_from : ℕ → ℕ → List Slot → List ℕ
 places_from place hash [] = []
 places_from place hash (s ∷ ss) = if is_filed hash s then place ∷ places_from (place + 1) hash ss else places_from (place + 1) hash ss
 
--- The places of the clauses with this hash.
+-- The places of the clauses that are not removed and are filed under this hash, increasing. The first slot is at place
+-- 0.
 abbrev pub places_of : ℕ → List Slot → List ℕ
 places_of hash slots = places_from 0 hash slots
 
--- `is_same_at slots literals place` is true if the clause at `place` has these literals.
+-- `is_same_at slots literals place` is true if the clause at `place`, removed or not, has exactly these literals.
 abbrev pub is_same_at : List Slot → List ℕ → ℕ → Bool
 is_same_at slots literals place = same_literals (literals_at slots place) literals
 
@@ -128,7 +131,7 @@ found_among slots literals = find (is_same_at slots literals)
 
 -- The slot with the hash of its clause by these solver names, at this width. The slot of a removed clause is unchanged.
 abbrev pub hashed_by : (ℕ → Option ℕ) → ℕ → Slot → Slot
-hashed_by names width s = if is_gone s then s else record s { hash = hash_by names width s.clause.literals }
+hashed_by names width s = if is_removed s then s else record s { hash = clause_hash_by names width s.clause.literals }
 
 -- The slots with the hashes of their clauses by these solver names, at this width. The slots of removed clauses are
 -- unchanged.
@@ -136,5 +139,5 @@ abbrev pub all_hashed_by : (ℕ → Option ℕ) → ℕ → List Slot → List S
 all_hashed_by names width = map (hashed_by names width)
 
 -- The slots with the hashes of their clauses by this hasher. The slots of removed clauses are unchanged.
-abbrev pub hashed_anew : ClauseHasher → List Slot → List Slot
-hashed_anew h slots = all_hashed_by (solver_name_of h) (width_of h) slots
+abbrev pub rehashed_slots : ClauseHasher → List Slot → List Slot
+rehashed_slots h slots = all_hashed_by (solver_name_of h) (width_of h) slots

@@ -8,13 +8,14 @@ use Rattle.sat_checker.specs.inner.LitNumbers.{number_at, AreTrailPlaces}
 use Rattle.sat_checker.specs.declared.units.lit_numbers.LitNumbers.{LitNumbers}
 use Rattle.sat_checker.specs.declared.units.lit_numbers.LitPlaces.{LitPlaces}
 
--- The units in the order in which they were stored, and the literals that there is room for.
+-- The units in the order in which they were stored, and the literals that can be assigned without allocating.
 pub record UnitsAndRoom : Type 0 where
   pub units : List StoredUnit
   pub room : List ℕ
 
--- `UnitsInvariant units ids places assigned` holds if exactly the units are assigned, in any order, and no unit is
--- repeated. Every literal has its unit's id and, if assigned, its trail place.
+-- `UnitsInvariant units ids places assigned` holds if `assigned`, the newest first, has exactly the literals of the
+-- units, none repeated, `ids` has the id of every unit by its literal, and `places` the trail place of every assigned
+-- literal.
 pub record UnitsInvariant (units : List StoredUnit) (ids : LitNumbers) (places : LitPlaces) (assigned : List ℕ) : Type 0 where
   pub assumed : (l : ℕ) → is_among assigned l ≡ is_among (map (λ u. u.literal) units) l
   pub once : NoRepeats (map (λ u. u.literal) units)

@@ -26,7 +26,7 @@ variable_of_data d = record { known = d.known; mode = mode_in d.mode; name = d.n
 
 -- What the code stores for a variable that no step has made known.
 abbrev pub unknown_data : VarData
-unknown_data = record { known = stored.unknown.known; mode = code.Sample; name = None }
+unknown_data = record { known = stored.initial_variable.known; mode = code.Sample; name = None }
 
 -- The data that is stored for a variable, or the data of an unknown variable if none is.
 abbrev pub variable_at : Variables → ℕ → Variable
@@ -40,14 +40,15 @@ holder_at vs name = value_at None vs.holders name
 abbrev pub known_if : Bool → Variable → Variable
 known_if b x = if b then record x { known = true } else x
 
--- `KeepsVariables vs variables` holds if the code stores these variables, and the names that they have.
-pub record KeepsVariables (vs : Variables) (variables : ℕ → Variable) : Type 0 where
+-- `StoresVariables vs variables` holds if the code stores the data of these variables, and for every name the variable
+-- that has it.
+pub record StoresVariables (vs : Variables) (variables : ℕ → Variable) : Type 0 where
   pub each : (v : ℕ) → variable_at vs v ≡ variables v
   pub holders : (name v : ℕ) → (holder_at vs name ≡ Some v) ↔ ((variables v).name ≡ Some name)
 
--- `KeepsData old new` holds if no variable's data changed.
-abbrev pub KeepsData : Variables → Variables → Type 0
-KeepsData old new = (v : ℕ) → variable_at new v ≡ variable_at old v
+-- `KeepsVariableData old new` holds if no variable's data changed.
+abbrev pub KeepsVariableData : Variables → Variables → Type 0
+KeepsVariableData old new = (v : ℕ) → variable_at new v ≡ variable_at old v
 
 -- `HasDataRoom vs v` holds if the data of variable `v` can be set without allocating.
 abbrev pub HasDataRoom : Variables → ℕ → Type 0
@@ -57,19 +58,20 @@ HasDataRoom vs v = HasPlaceFor vs.data v
 abbrev pub HaveDataRoom : Variables → List ℕ → Type 0
 HaveDataRoom vs variables = (v : ℕ) → is_among variables v ≡ true → HasDataRoom vs v
 
--- `VariablesJudge vs step accepted` holds if `accepted` says whether a checker with these variables accepts the step.
-abbrev pub VariablesJudge : Variables → Step → Bool → Type 0
-VariablesJudge vs step accepted = (f : Stored) → KeepsVariables vs f.variables → MatchBool accepted (Accepts f step) (Accepts f step → ⊥)
+-- `VariablesDecide vs step accepted` holds if `accepted` says whether the rules accept the step, for everything that
+-- can be stored with the variables `vs`.
+abbrev pub VariablesDecide : Variables → Step → Bool → Type 0
+VariablesDecide vs step accepted = (f : Stored) → StoresVariables vs f.variables → MatchBool accepted (Accepts f step) (Accepts f step → ⊥)
 
--- `VariablesAnswer old step new accepted` holds if `accepted` says whether the rules accept the step, and `new`
--- represents the variables after it if they do.
-abbrev pub VariablesAnswer : Variables → Step → Variables → Bool → Type 0
-VariablesAnswer old step new accepted =
-    (f : Stored) → KeepsVariables old f.variables → MatchBool accepted (Accepts f step × KeepsVariables new (effect step f).variables) (Accepts f step → ⊥)
+-- `VariablesDecideEffect old step new accepted` holds if `accepted` says whether the rules accept the step for
+-- everything that can be stored with the variables `old`, and `new` then represents the variables after it.
+abbrev pub VariablesDecideEffect : Variables → Step → Variables → Bool → Type 0
+VariablesDecideEffect old step new accepted =
+    (f : Stored) → StoresVariables old f.variables → MatchBool accepted (Accepts f step × StoresVariables new (effect step f).variables) (Accepts f step → ⊥)
 
 -- `VariablesAllow vs step` holds if the rules accept the step for all stored data with the variables `vs`.
 abbrev pub VariablesAllow : Variables → Step → Type 0
-VariablesAllow vs step = (f : Stored) → KeepsVariables vs f.variables → Accepts f step
+VariablesAllow vs step = (f : Stored) → StoresVariables vs f.variables → Accepts f step
 
 -- `AreSampling vs literals` holds if every variable of the literals has the mode sample.
 abbrev pub AreSampling : Variables → List ℕ → Type 0

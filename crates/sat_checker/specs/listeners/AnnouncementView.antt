@@ -11,7 +11,7 @@ use Rattle.sat_checker.specs.declared.announce.announcement.CheckedUserVar.{Chec
 use Rattle.sat_checker.specs.declared.announce.announcement.CheckedProofStep.{CheckedProofStep}
 use Rattle.sat_checker.specs.declared.announce.announcement.CheckedProofStep.TheVariants as code
 use Rattle.sat_checker.specs.declared.announce.announcement.CheckerData.{CheckerData}
-use Rattle.sat_checker.specs.declared.announce.announcement.Was.{Was}
+use Rattle.sat_checker.specs.declared.announce.announcement.EarlierData.{EarlierData}
 
 -- `is_sampling mode` is true if the mode that the code announces is sample; otherwise it is witness.
 abbrev pub is_sampling : CheckedSamplingMode → Bool
@@ -39,14 +39,14 @@ announcement_of (code.Assumptions assumptions) = Assumptions assumptions.now
 announcement_of (code.FailedAssumptions core ids) = FailedAssumptions core.now ids.now
 
 -- The variables, but with the earlier data that is given for one of them, if any.
-abbrev pub looked_up : Option (Bor Was) → (ℕ → Variable) → ℕ → Variable
+abbrev pub looked_up : Option (Bor EarlierData) → (ℕ → Variable) → ℕ → Variable
 looked_up None variables = variables
 looked_up (Some was) variables = λ v. if v == was.now.var then variable_of_data was.now.data else variables v
 
--- The variables that may be looked up.
+-- The data of all variables that may be looked up during an announcement: that from before the announced step.
 abbrev pub variables_of : CheckerData → ℕ → Variable
 variables_of names = looked_up names.was (variable_at names.variables.now)
 
--- The announcement that the code's step represents, with the variables that may be looked up.
+-- The announcement that the code's `step` represents, with the variables that `names` makes available to the listener.
 abbrev pub notice_of : CheckedProofStep → CheckerData → Notice
 notice_of step names = record { announcement = announcement_of step; variables = variables_of names }

@@ -7,7 +7,8 @@ use Rattle.sat_checker.specs.declared.announce.pending.AnnouncementKind.{Announc
 use Rattle.sat_checker.specs.declared.announce.pending.AnnouncementKind.TheVariants as kinds
 use Rattle.sat_checker.specs.declared.announce.pending.Item.{Item}
 
--- An announcement of this kind, with these literals and ids.
+-- The announcement of this kind, with these literals (a clause, model, assumptions or core) and these ids of what it
+-- follows from.
 abbrev pub announcement_with : AnnouncementKind → List ℕ → List ℕ → Announcement
 announcement_with (kinds.UserVar var user) literals ids = UserVar var (option_map announced_user user)
 announcement_with (kinds.DeleteVar var) literals ids = DeleteVar var
@@ -22,7 +23,8 @@ announcement_with kinds.Model literals ids = Model literals
 announcement_with kinds.Assumptions literals ids = Assumptions literals
 announcement_with kinds.FailedAssumptions literals ids = FailedAssumptions literals ids
 
--- The announcement of an item, with the literals and ids at its places.
+-- The announcement of a pending item, with the literals and the ids that are at its places in the two lists, or the
+-- empty list if there is no such place.
 abbrev pub announcement_at : List (List ℕ) → List (List ℕ) → Item → Announcement
 announcement_at literals ids i = announcement_with i.kind (slice_index_or literals i.literals []) (slice_index_or ids i.ids [])
 

@@ -1,7 +1,7 @@
 //! What the checker announces about the steps that it accepts.
 ghost use Rattle.std.specs.Prelude.{◌≡◌};
 ghost use Rattle.sat_checker.specs.announcements.Transcripts.{user_from_proof_var};
-ghost use Rattle.sat_checker.specs.inner.NotifyingSteps.{put_back, was_of};
+ghost use Rattle.sat_checker.specs.inner.NotifyingSteps.{with_earlier_data, earlier_data_of};
 ghost use Rattle.sat_checker.specs.inner.VariablesView.{variable_at, variable_of_data};
 ghost use Rattle.sat_checker.specs.listeners.AnnouncementView.{variables_of};
 
@@ -110,7 +110,7 @@ pub enum CheckedProofStep<'a> {
 
 /// A variable, and its data before the current step.
 #[derive(Drop)]
-pub(crate) struct Was {
+pub(crate) struct EarlierData {
     pub(crate) var: Var,
     pub(crate) data: VarData,
 }
@@ -121,7 +121,7 @@ pub(crate) struct Was {
 pub struct CheckerData<'a> {
     variables: &'a Variables,
     /// The variable whose name or mode the step may have changed, with its data before the step.
-    was: Option<&'a Was>,
+    was: Option<&'a EarlierData>,
 }
 
 impl<'a> CheckerData<'a> {
@@ -136,8 +136,8 @@ impl<'a> CheckerData<'a> {
     }
 
     /// Returns a view of the variables in which the variable of `was`, if any, has its earlier data.
-    pub(crate) fn before(variables: &'a Variables, was: &'a Option<Was>) -> CheckerData<'a>
-        ensures { variables_of result ≡ put_back (was_of was.now) (variable_at variables.now) }
+    pub(crate) fn before(variables: &'a Variables, was: &'a Option<EarlierData>) -> CheckerData<'a>
+        ensures { variables_of result ≡ with_earlier_data (earlier_data_of was.now) (variable_at variables.now) }
     {
         match was {
             Some(was) => CheckerData {

@@ -5,18 +5,20 @@ ghost use Rattle.sat_base.specs.steps.Steps.{DeleteClause, FailedAssumptions};
 ghost use Rattle.sat_base.specs.steps.StepViews.{deletion_of};
 ghost use Rattle.sat_base.specs.values.Literals.{negated};
 ghost use Rattle.sat_checker.specs.LiteralSets.{canonical};
-ghost use Rattle.sat_checker.specs.Looks.{literal_count};
+ghost use Rattle.sat_checker.specs.Looks.{stored_literal_count};
 ghost use Rattle.sat_checker.specs.Stored.{Stored};
 ghost use Rattle.sat_checker.specs.announcements.Announcements as announcements;
-ghost use Rattle.sat_checker.specs.announcements.Announcements.{announced, derived, derived_set, id_of_set, input};
-ghost use Rattle.sat_checker.specs.announcements.Announcements.{mode_change, renaming};
+ghost use Rattle.sat_checker.specs.announcements.Announcements.{announced, announced_derived, announced_derived_set};
+ghost use Rattle.sat_checker.specs.announcements.Announcements.{id_of_set, announced_input};
+ghost use Rattle.sat_checker.specs.announcements.Announcements.{announced_mode_change, announced_name_change};
 ghost use Rattle.sat_checker.specs.announcements.Needed.{propagations};
-ghost use Rattle.sat_checker.specs.inner.FormulaView.{Explained, RepresentsFormula};
-ghost use Rattle.sat_checker.specs.inner.Looking.{LooksOver, LooksUpTo};
+ghost use Rattle.sat_checker.specs.inner.FormulaView.{NotesExplainCheck, RepresentsFormula};
+ghost use Rattle.sat_checker.specs.inner.LookCounts.{LooksOver, LooksUpTo};
 ghost use Rattle.sat_checker.specs.inner.Marks.{IsIncreasing};
 ghost use Rattle.sat_checker.specs.inner.Reasons.{noted_length};
 ghost use Rattle.sat_checker.specs.inner.VariablesView.{mode_in, variable_of_data};
-ghost use Rattle.sat_checker.specs.listeners.AnnouncingView.{stored_as, deletion_announced, AreLong};
+ghost use Rattle.sat_checker.specs.listeners.AnnouncingView.{announced_change, deletion_announced};
+ghost use Rattle.sat_checker.specs.listeners.AnnouncingView.{HasNoStoredUnitClause};
 ghost use Rattle.sat_checker.specs.listeners.NotedView.{AppendsAnnouncements};
 
 use crate::announce::pending::PendingAnnouncements;
@@ -33,7 +35,7 @@ use std::alloc::{AllocError, Global};
 #[derive(Drop)]
 pub(crate) struct Notes {
     /// Whether there is a listener. If there is none, nothing is noted.
-    hears: bool,
+    listening: bool,
     pub(crate) news: PendingAnnouncements,
     rests_on: Propagations,
     /// A buffer for sorted literals.
@@ -43,11 +45,11 @@ pub(crate) struct Notes {
 impl Notes {
     /// Creates empty notes, without a listener.
     pub fn new(alloc: Global) -> Notes
-        ensures hears { result.hears ≡ false }
+        ensures listening { result.listening ≡ false }
         ensures none { result.news ≡ [] }
     {
         Notes {
-            hears: false,
+            listening: false,
             news: PendingAnnouncements::new(alloc),
             rests_on: Propagations::new(alloc),
             literals: Vec::new(alloc),
@@ -57,18 +59,19 @@ impl Notes {
     /// Returns `true` if a listener needs the notes.
     #[inline(always)]
     pub fn has_listener(&self) -> bool
-        ensures { result ≡ self.now.hears }
+        ensures { result ≡ self.now.listening }
     {
-        self.hears
+        self.listening
     }
 
-    /// Starts the notes on a step. `hears` says whether there is a listener; if there is, earlier notes are removed.
-    pub fn begin(&mut self, hears: bool)
-        ensures hears { self.new.hears ≡ hears }
-        ensures none { IsTrue hears → self.new.news ≡ [] }
+    /// Starts the notes on a step. `listening` says whether there is a listener; if there is, earlier notes are
+    /// removed.
+    pub fn begin(&mut self, listening: bool)
+        ensures listening { self.new.listening ≡ listening }
+        ensures none { IsTrue listening → self.new.news ≡ [] }
     {
-        self.hears = hears;
-        if hears {
+        self.listening = listening;
+        if listening {
             self.news.clear();
         }
     }
@@ -80,25 +83,26 @@ impl Notes {
         user: Option<Var>,
         before: VarData,
     ) -> Result<(), AllocError>
-        ensures { OnOk result (AppendsAnnouncements self.old (renaming var user (variable_of_data before)) self.new) }
+        ensures { OnOk result (AppendsAnnouncements self.old (announced_name_change var user (variable_of_data before)) self.new) }
     {
-        if !self.hears {
+        if !self.listening {
             return Ok(());
         }
         self.news.renaming(var, user, before)
     }
 
-    /// If this is announced, notes that the mode of `var`, whose data was `before`, changes.
+    /// Notes that the mode of `var`, whose data was `before`, becomes sample if `sampling` is true, and witness
+    /// otherwise. Notes nothing if this change is not announced.
     pub fn mode_change(
         &mut self,
         var: Var,
         sampling: bool,
         before: VarData,
     ) -> Result<(), AllocError>
-        ensures { OnOk result (AppendsAnnouncements self.old (mode_change var sampling (mode_in before.mode) before.name)
+        ensures { OnOk result (AppendsAnnouncements self.old (announced_mode_change var sampling (mode_in before.mode) before.name)
             self.new) }
     {
-        if !self.hears {
+        if !self.listening {
             return Ok(());
         }
         self.news.mode_change(var, sampling, before)
@@ -108,7 +112,7 @@ impl Notes {
     pub fn var_deleted(&mut self, var: Var) -> Result<(), AllocError>
         ensures { OnOk result (AppendsAnnouncements self.old (announcements.DeleteVar var ∷ []) self.new) }
     {
-        if !self.hears {
+        if !self.listening {
             return Ok(());
         }
         self.news.delete_var(var)
@@ -126,9 +130,9 @@ impl Notes {
         literals: &[Lit],
     ) -> Result<(), AllocError>
         ensures { OnOk result (AppendsAnnouncements self.old
-            (stored_as change id redundant literals.now self.old.rests_on.ids.items) self.new) }
+            (announced_change change id redundant literals.now self.old.rests_on.ids.items) self.new) }
     {
-        if !self.hears {
+        if !self.listening {
             return Ok(());
         }
         self.news
@@ -139,7 +143,7 @@ impl Notes {
     pub fn deleted(&mut self, literals: &[Lit], deletion: Deletion) -> Result<(), AllocError>
         ensures { OnOk result (AppendsAnnouncements self.old (deletion_announced literals.now deletion) self.new) }
     {
-        if !self.hears {
+        if !self.listening {
             return Ok(());
         }
         self.news.deleted(literals, deletion)
@@ -149,7 +153,7 @@ impl Notes {
     pub fn model(&mut self, assignment: &[Lit]) -> Result<(), AllocError>
         ensures { OnOk result (AppendsAnnouncements self.old (announcements.Model assignment.now ∷ []) self.new) }
     {
-        if !self.hears {
+        if !self.listening {
             return Ok(());
         }
         self.news.model(assignment)
@@ -159,7 +163,7 @@ impl Notes {
     pub fn assumptions(&mut self, assumptions: &[Lit]) -> Result<(), AllocError>
         ensures { OnOk result (AppendsAnnouncements self.old (announcements.Assumptions assumptions.now ∷ []) self.new) }
     {
-        if !self.hears {
+        if !self.listening {
             return Ok(());
         }
         self.news.assumptions(assumptions)
@@ -176,10 +180,10 @@ impl Formula {
     ) -> Result<(), AllocError>
         requires { IsIncreasing literals.now }
         ensures noted { OnOk result ((f : Stored) (clause : List ℕ) → RepresentsFormula self.now f
-            → literals.now ≡ canonical clause → AppendsAnnouncements notes.old (input clause f) notes.new) }
-        ensures looks { LooksOver (RepresentsFormula self.now) literal_count looks.old looks.new }
+            → literals.now ≡ canonical clause → AppendsAnnouncements notes.old (announced_input clause f) notes.new) }
+        ensures looks { LooksOver (RepresentsFormula self.now) stored_literal_count looks.old looks.new }
     {
-        if !notes.hears {
+        if !notes.listening {
             return Ok(());
         }
         let both_signs = has_both_signs(literals);
@@ -199,26 +203,26 @@ impl Formula {
         proof: DeleteClauseProof,
         looks: &mut Looks,
     ) -> Deletion
-        ensures reported { IsTrue notes.now.hears → (f : Stored) → RepresentsFormula self.now f
+        ensures reported { IsTrue notes.now.listening → (f : Stored) → RepresentsFormula self.now f
             → (clause : List ℕ) → literals.now ≡ canonical clause
             → deletion_announced literals.now result ≡ announced f (DeleteClause clause (deletion_of proof)) }
-        ensures looks { LooksOver (RepresentsFormula self.now) literal_count looks.old looks.new }
-        ensures quiet { notes.now.hears ≡ false → looks.new ≡ looks.old }
+        ensures looks { LooksOver (RepresentsFormula self.now) stored_literal_count looks.old looks.new }
+        ensures quiet { notes.now.listening ≡ false → looks.new ≡ looks.old }
     {
-        if !notes.hears {
+        if !notes.listening {
             return Deletion {
                 redundant: true,
                 stored: None,
                 from: None,
             };
         }
-        self.deletion_heard(literals, proof, looks)
+        self.find_deletion(literals, proof, looks)
     }
 
     /// Returns what `deletion` returns if there is a listener: looks up the clause, and the id of the clause from which
     /// it follows.
     #[inline(never)]
-    fn deletion_heard(
+    fn find_deletion(
         &self,
         literals: &[Lit],
         proof: DeleteClauseProof,
@@ -226,7 +230,7 @@ impl Formula {
     ) -> Deletion
         ensures reported { (f : Stored) → RepresentsFormula self.now f → (clause : List ℕ) → literals.now ≡ canonical clause
             → deletion_announced literals.now result ≡ announced f (DeleteClause clause (deletion_of proof)) }
-        ensures looks { LooksOver (RepresentsFormula self.now) literal_count looks.old looks.new }
+        ensures looks { LooksOver (RepresentsFormula self.now) stored_literal_count looks.old looks.new }
     {
         let stored = self.store.stored(literals, looks);
         match proof {
@@ -259,15 +263,15 @@ impl Formula {
         looks: &mut Looks,
     ) -> Result<(), AllocError>
         requires set { literals.now ≡ canonical clause.now }
-        requires explained { self.now.passed.lost ≡ false → (hashes : List ℕ) × Explained self.now clause.now hashes }
+        requires explained { self.now.passed.lost ≡ false → (hashes : List ℕ) × NotesExplainCheck self.now clause.now hashes }
         ensures listed { OnOk result ((f : Stored) (hashes : List ℕ) → RepresentsFormula self.now f
-            → (self.now.passed.lost ≡ false → Explained self.now clause.now hashes) → IsTrue notes.old.hears
+            → (self.now.passed.lost ≡ false → NotesExplainCheck self.now clause.now hashes) → IsTrue notes.old.listening
             → notes.new.rests_on.ids.items ≡ propagations f clause.now hashes) }
-        ensures hears { notes.new.hears ≡ notes.old.hears }
+        ensures listening { notes.new.listening ≡ notes.old.listening }
         ensures news { notes.new.news ≡ notes.old.news }
         ensures looks { LooksUpTo (noted_length self.now.store.clauses self.now.passed) looks.old looks.new }
     {
-        if !notes.hears {
+        if !notes.listening {
             return Ok(());
         }
         notes.rests_on.list(
@@ -282,9 +286,9 @@ impl Formula {
 
     /// Returns what storing the unit `lit` would change.
     pub fn unit_change(&self, lit: Lit) -> StoreClauseResult
-        ensures { (f : Stored) → RepresentsFormula self.now f → AreLong f → (redundant : Bool) (ids : List ℕ) →
-            stored_as result f.next_id redundant (lit ∷ []) ids
-            ≡ derived_set redundant (lit ∷ []) ids f (id_of_set (lit ∷ []) f) }
+        ensures { (f : Stored) → RepresentsFormula self.now f → HasNoStoredUnitClause f → (redundant : Bool) (ids : List ℕ) →
+            announced_change result f.next_id redundant (lit ∷ []) ids
+            ≡ announced_derived_set redundant (lit ∷ []) ids f (id_of_set (lit ∷ []) f) }
     {
         match self.units.id(lit) {
             None => StoreClauseResult::New,
@@ -300,14 +304,14 @@ impl Formula {
         notes: &mut Notes,
         looks: &mut Looks,
     ) -> Result<(), AllocError>
-        requires explained { self.now.passed.lost ≡ false → (hashes : List ℕ) × Explained self.now (lit ∷ []) hashes }
-        ensures noted { OnOk result ((f : Stored) (hashes : List ℕ) → RepresentsFormula self.now f → AreLong f
-            → (self.now.passed.lost ≡ false → Explained self.now (lit ∷ []) hashes)
-            → AppendsAnnouncements notes.old (derived false (lit ∷ []) hashes f) notes.new) }
-        ensures hears { notes.new.hears ≡ notes.old.hears }
+        requires explained { self.now.passed.lost ≡ false → (hashes : List ℕ) × NotesExplainCheck self.now (lit ∷ []) hashes }
+        ensures noted { OnOk result ((f : Stored) (hashes : List ℕ) → RepresentsFormula self.now f → HasNoStoredUnitClause f
+            → (self.now.passed.lost ≡ false → NotesExplainCheck self.now (lit ∷ []) hashes)
+            → AppendsAnnouncements notes.old (announced_derived false (lit ∷ []) hashes f) notes.new) }
+        ensures listening { notes.new.listening ≡ notes.old.listening }
         ensures looks { LooksUpTo (noted_length self.now.store.clauses self.now.passed) looks.old looks.new }
     {
-        if !notes.hears {
+        if !notes.listening {
             return Ok(());
         }
         notes.rests_on.list(
@@ -335,13 +339,13 @@ impl Formula {
         looks: &mut Looks,
     ) -> Result<(), AllocError>
         requires denied { denied.now ≡ map negated core.now }
-        requires explained { self.now.passed.lost ≡ false → (hashes : List ℕ) × Explained self.now denied.now hashes }
+        requires explained { self.now.passed.lost ≡ false → (hashes : List ℕ) × NotesExplainCheck self.now denied.now hashes }
         ensures noted { OnOk result ((f : Stored) (hashes : List ℕ) → RepresentsFormula self.now f
-            → (self.now.passed.lost ≡ false → Explained self.now denied.now hashes)
+            → (self.now.passed.lost ≡ false → NotesExplainCheck self.now denied.now hashes)
             → AppendsAnnouncements notes.old (announced f (FailedAssumptions core.now hashes)) notes.new) }
         ensures looks { LooksUpTo (noted_length self.now.store.clauses self.now.passed) looks.old looks.new }
     {
-        if !notes.hears {
+        if !notes.listening {
             return Ok(());
         }
         copy_canonical(&mut notes.literals, denied)?;

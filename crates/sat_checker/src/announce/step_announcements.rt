@@ -1,18 +1,20 @@
 //! What a step announces, given what is stored and known before the step.
 ghost use Rattle.std.specs.Prelude.{◌≡◌, ◌+◌, ◌++◌, ◌∷◌, [], OnOk, OnErr, if◌then◌else◌};
-ghost use Rattle.sat_checker.specs.Looks.{literal_count};
+ghost use Rattle.sat_checker.specs.Looks.{stored_literal_count};
 ghost use Rattle.sat_checker.specs.Stored.{Stored};
 ghost use Rattle.sat_checker.specs.announcements.Announcements as announcements;
-ghost use Rattle.sat_checker.specs.announcements.Announcements.{id_of_set, input_set, irredundant_deleted};
-ghost use Rattle.sat_checker.specs.announcements.Announcements.{is_sample, has_witness_mode, last_id, mode_change};
-ghost use Rattle.sat_checker.specs.announcements.Announcements.{naming};
-ghost use Rattle.sat_checker.specs.announcements.Announcements.{option_to_list, redundant_deleted, renaming};
+ghost use Rattle.sat_checker.specs.announcements.Announcements.{id_of_set, announced_input_set, irredundant_deletion};
+ghost use Rattle.sat_checker.specs.announcements.Announcements.{is_sample, has_witness_mode, last_id};
+ghost use Rattle.sat_checker.specs.announcements.Announcements.{announced_mode_change};
+ghost use Rattle.sat_checker.specs.announcements.Announcements.{announced_name};
+ghost use Rattle.sat_checker.specs.announcements.Announcements.{option_to_list, redundant_deletion};
+ghost use Rattle.sat_checker.specs.announcements.Announcements.{announced_name_change};
 ghost use Rattle.sat_checker.specs.inner.FormulaView.{last_in, RepresentsFormula};
-ghost use Rattle.sat_checker.specs.inner.Looking.{LooksOver};
-ghost use Rattle.sat_checker.specs.inner.StoreView.{found_in};
+ghost use Rattle.sat_checker.specs.inner.LookCounts.{LooksOver};
+ghost use Rattle.sat_checker.specs.inner.StoreView.{found_clause};
 ghost use Rattle.sat_checker.specs.inner.VariablesView.{mode_in, variable_of_data};
 ghost use Rattle.sat_checker.specs.listeners.AnnouncementView.{is_sampling};
-ghost use Rattle.sat_checker.specs.listeners.AnnouncingView.{stored_as, change_in, deletion_announced};
+ghost use Rattle.sat_checker.specs.listeners.AnnouncingView.{announced_change, change_in, deletion_announced};
 
 use crate::announce::announcement::{CheckedSamplingMode, CheckedUserVar};
 use crate::announce::pending::PendingAnnouncements;
@@ -49,7 +51,7 @@ impl Formula {
     /// no such clause, or if `literals` is empty.
     pub fn id_of_set(&self, literals: &[Lit], looks: &mut Looks) -> Option<u64>
         ensures id { (f : Stored) → RepresentsFormula self.now f → result ≡ id_of_set literals.now f }
-        ensures looks { LooksOver (RepresentsFormula self.now) literal_count looks.old looks.new }
+        ensures looks { LooksOver (RepresentsFormula self.now) stored_literal_count looks.old looks.new }
     {
         if literals.is_empty() {
             return None;
@@ -135,7 +137,7 @@ impl PendingAnnouncements {
         same: Option<u64>,
     ) -> Result<(), AllocError>
         ensures ok { OnOk result (self.new ≡ self.old
-            ++ (if both_signs then announcements.TautologicalClause id literals.now ∷ [] else input_set id literals.now same)) }
+            ++ (if both_signs then announcements.TautologicalClause id literals.now ∷ [] else announced_input_set id literals.now same)) }
         ensures err { OnErr result (self.new ≡ self.old) }
     {
         if both_signs {
@@ -156,7 +158,7 @@ impl PendingAnnouncements {
         literals: &[Lit],
         propagations: &[u64],
     ) -> Result<(), AllocError>
-        ensures ok { OnOk result (self.new ≡ self.old ++ stored_as change id redundant literals.now propagations.now) }
+        ensures ok { OnOk result (self.new ≡ self.old ++ announced_change change id redundant literals.now propagations.now) }
         ensures err { OnErr result (self.new ≡ self.old) }
     {
         match change {
@@ -173,7 +175,7 @@ impl PendingAnnouncements {
         literals: &[Lit],
         stored: Option<Found>,
     ) -> Result<(), AllocError>
-        ensures ok { OnOk result (self.new ≡ self.old ++ redundant_deleted (found_in literals.now stored)) }
+        ensures ok { OnOk result (self.new ≡ self.old ++ redundant_deletion (found_clause literals.now stored)) }
         ensures err { OnErr result (self.new ≡ self.old) }
     {
         let Some(clause) = stored else {
@@ -193,8 +195,8 @@ impl PendingAnnouncements {
         stored: Option<Found>,
         from: Option<u64>,
     ) -> Result<(), AllocError>
-        ensures ok { OnOk result (self.new ≡ self.old ++ irredundant_deleted (option_to_list from)
-            (found_in literals.now stored)) }
+        ensures ok { OnOk result (self.new ≡ self.old ++ irredundant_deletion (option_to_list from)
+            (found_clause literals.now stored)) }
         ensures err { OnErr result (self.new ≡ self.old) }
     {
         let Some(clause) = stored else {
@@ -223,7 +225,7 @@ impl PendingAnnouncements {
 
     /// Adds the announcement that `var`, whose data was `before`, gets the name `name`.
     pub fn naming(&mut self, var: Var, name: Var, before: VarData) -> Result<(), AllocError>
-        ensures ok { OnOk result (self.new ≡ self.old ++ naming var name (variable_of_data before)) }
+        ensures ok { OnOk result (self.new ≡ self.old ++ announced_name var name (variable_of_data before)) }
         ensures err { OnErr result (self.new ≡ self.old) }
     {
         let user = CheckedUserVar {
@@ -242,7 +244,7 @@ impl PendingAnnouncements {
         user: Option<Var>,
         before: VarData,
     ) -> Result<(), AllocError>
-        ensures ok { OnOk result (self.new ≡ self.old ++ renaming var user (variable_of_data before)) }
+        ensures ok { OnOk result (self.new ≡ self.old ++ announced_name_change var user (variable_of_data before)) }
         ensures err { OnErr result (self.new ≡ self.old) }
     {
         match user {
@@ -259,7 +261,7 @@ impl PendingAnnouncements {
         sampling: bool,
         before: VarData,
     ) -> Result<(), AllocError>
-        ensures ok { OnOk result (self.new ≡ self.old ++ mode_change var sampling (mode_in before.mode) before.name) }
+        ensures ok { OnOk result (self.new ≡ self.old ++ announced_mode_change var sampling (mode_in before.mode) before.name) }
         ensures err { OnErr result (self.new ≡ self.old) }
     {
         let Some(name) = before.name.get() else {

@@ -2,7 +2,7 @@
 ghost use Rattle.std.specs.Prelude.{◌≡◌, IfOk, OnOk, Result, if◌then◌else◌, []};
 ghost use Rattle.std.specs.Option.{option_map};
 ghost use Rattle.anyhow.specs.declared.error.Error.{Error};
-ghost use Rattle.sat_checker.specs.announcements.Transcripts.{Transcribed, SampleVar, WitnessVar, deriving_of};
+ghost use Rattle.sat_checker.specs.announcements.Transcripts.{Transcribed, SampleVar, WitnessVar, derived_transcript};
 ghost use Rattle.sat_checker.specs.announcements.Transcripts.{in_user_names, transcript};
 ghost use Rattle.sat_checker.specs.announcements.Announcements.{UserVar};
 ghost use Rattle.sat_checker.specs.listeners.AnnouncementView.{announcement_of, announced_user, variables_of};
@@ -157,7 +157,7 @@ fn mode_change<'s>(user: CheckedUserVar) -> ProofTranscriptStep<'s>
 
 /// Returns the transcript step for a derived clause: `Unsat` if the clause is empty, and `None` otherwise.
 fn derivation<'s>(clause: &[Lit]) -> Option<ProofTranscriptStep<'s>>
-    ensures { option_map transcribed_of result ≡ deriving_of clause.now }
+    ensures { option_map transcribed_of result ≡ derived_transcript clause.now }
 {
     if clause.is_empty() {
         return Some(ProofTranscriptStep::Unsat);

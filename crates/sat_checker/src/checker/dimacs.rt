@@ -1,16 +1,16 @@
 //! Adds the clauses of a formula that is given as text in DIMACS CNF.
 ghost use Rattle.std.specs.Prelude.{◌≡◌, ◌≤◌, ◌<◌, ◌+◌, false, IfOk};
 ghost use Rattle.std.specs.Io.{ReadsAtMost};
-ghost use Rattle.sat_base.specs.device.Device.{most_reads};
-ghost use Rattle.sat_base.specs.dimacs.Faults.{ReadsNext};
-ghost use Rattle.sat_base.specs.dimacs.Parsing.{all_taken, no_progress, ReportsEnded, StopsReading};
-ghost use Rattle.sat_checker.specs.CheckerView.{has_failed, kernel_of, looks_of, seen_of, FailsAgain};
+ghost use Rattle.sat_base.specs.device.Device.{max_reads};
+ghost use Rattle.sat_base.specs.dimacs.Faults.{ReadsOnceUnlessEnded};
+ghost use Rattle.sat_base.specs.dimacs.Parsing.{with_all_taken, no_progress, ReportsEnded, MakesNoReadAfterEnd};
+ghost use Rattle.sat_checker.specs.CheckerView.{checker_has_failed, kernel_of, looks_of, view_of, FailsAgain};
 ghost use Rattle.sat_checker.specs.declared.error.CheckerDimacsError.TheVariants as errors;
 ghost use Rattle.sat_checker.specs.declared.error.CheckerError.TheVariants.{HasFailed};
-ghost use Rattle.sat_checker.specs.DimacsView.{AddsDimacs, DimacsFaultNeedsListener};
+ghost use Rattle.sat_checker.specs.DimacsView.{AddDimacsResult, DimacsFaultNeedsListener};
 ghost use Rattle.sat_checker.specs.KernelView.{kernel_looks};
-ghost use Rattle.sat_checker.specs.inner.DimacsPieces.{AddsRead, is_out_of_memory};
-ghost use Rattle.sat_checker.specs.listeners.ProcessingView.{HearsEach};
+ghost use Rattle.sat_checker.specs.inner.DimacsPieces.{AddsReadClauses, is_out_of_memory};
+ghost use Rattle.sat_checker.specs.listeners.ProcessingView.{EachListenerReceives};
 
 use crate::announce::transcript::ProofTranscriptProcessor;
 use crate::checker::Checker;
@@ -26,7 +26,7 @@ const PIECE: usize = 4096;
 const MAX_READS: u64 = 1 << 48;
 
 /// Returns `true` if the error is `OutOfMemory`, which makes the checker fail.
-fn is_want(error: DimacsError) -> bool
+fn is_out_of_memory(error: DimacsError) -> bool
     ensures { result ≡ is_out_of_memory error }
 {
     match error {
@@ -46,8 +46,8 @@ fn read_next<R: CountedRead>(
     room: &mut [u8],
 ) -> io::Result<usize>
     ensures bound { ReadsAtMost result room.new }
-    ensures reads { ReadsNext result room.new parser.now.fed (R.seen reader.old) (R.seen reader.new) }
-    ensures goes_on { IfOk result (λ n. 0 < n → ReportsEnded false parser.now) }
+    ensures reads { ReadsOnceUnlessEnded result room.new parser.now.fed (R.seen reader.old) (R.seen reader.new) }
+    ensures goes_on { (R.seen reader.old).calls < (R.seen reader.new).calls → ReportsEnded false parser.now }
 {
     if parser.has_ended() {
         return Ok(0);
@@ -58,17 +58,17 @@ fn read_next<R: CountedRead>(
 impl<P: ProofProcessor, T: ProofTranscriptProcessor> Checker<P, T> {
     /// Reads a formula in DIMACS CNF, in chunks of at most 4,096 bytes, and adds its clauses in order. The clauses
     /// before a fault in the text, or before a refused clause, remain. If the text is malformed or can't be read, the
-    /// checker can still be used. A line that begins with `%` ends the text: no chunk after it is read.
+    /// checker can still be used. A line that begins with `%` ends the text: no read follows the one that gives it.
     pub fn add_dimacs_cnf<R: CountedRead>(
         &mut self,
         reader: &mut R,
     ) -> Result<(), CheckerDimacsError>
-        ensures adds { AddsDimacs (HearsEach P.takes T.reads)
-            result (seen_of self.old) (seen_of self.new) (R.seen reader.old) (R.seen reader.new) }
-        // Nothing is read after the line that ends the text.
-        ensures stops { StopsReading (R.seen reader.old) (R.seen reader.new) }
-        ensures reads { (R.seen reader.new).calls ≤ (R.seen reader.old).calls + most_reads }
-        ensures rise { looks_of (seen_of self.old) ≤ looks_of (seen_of self.new) }
+        ensures adds { AddDimacsResult (EachListenerReceives P.takes T.reads)
+            result (view_of self.old) (view_of self.new) (R.seen reader.old) (R.seen reader.new) }
+        // No read is made after the one that gave the line that ends the text.
+        ensures stops { MakesNoReadAfterEnd (R.seen reader.old) (R.seen reader.new) }
+        ensures reads { (R.seen reader.new).calls ≤ (R.seen reader.old).calls + max_reads }
+        ensures rise { looks_of (view_of self.old) ≤ looks_of (view_of self.new) }
         ensures faults { DimacsFaultNeedsListener result self.old }
         ensures failed { FailsAgain (errors.Checker HasFailed) result self.old self.new }
     {
@@ -85,12 +85,12 @@ impl<P: ProofProcessor, T: ProofTranscriptProcessor> Checker<P, T> {
         parser: &mut DimacsParser,
         reader: &mut R,
     ) -> Result<(), CheckerDimacsError>
-        requires well { has_failed (seen_of self.old) ≡ false }
+        requires well { checker_has_failed (view_of self.old) ≡ false }
         requires fresh { parser.old ≡ no_progress }
-        ensures adds { AddsDimacs (HearsEach P.takes T.reads)
-            result (seen_of self.old) (seen_of self.new) (R.seen reader.old) (R.seen reader.new) }
-        ensures stops { StopsReading (R.seen reader.old) (R.seen reader.new) }
-        ensures reads { (R.seen reader.new).calls ≤ (R.seen reader.old).calls + most_reads }
+        ensures adds { AddDimacsResult (EachListenerReceives P.takes T.reads)
+            result (view_of self.old) (view_of self.new) (R.seen reader.old) (R.seen reader.new) }
+        ensures stops { MakesNoReadAfterEnd (R.seen reader.old) (R.seen reader.new) }
+        ensures reads { (R.seen reader.new).calls ≤ (R.seen reader.old).calls + max_reads }
         ensures rise { kernel_looks (kernel_of self.old) ≤ kernel_looks (kernel_of self.new) }
     {
         let mut piece = [0; PIECE];
@@ -117,9 +117,9 @@ impl<P: ProofProcessor, T: ProofTranscriptProcessor> Checker<P, T> {
         parser: &mut DimacsParser,
         answer: Result<(), DimacsError>,
     ) -> Result<(), CheckerDimacsError>
-        ensures taken { parser.new ≡ all_taken parser.old }
-        ensures adds { AddsRead (HearsEach P.takes T.reads)
-            result answer parser.old (seen_of self.old) (seen_of self.new) }
+        ensures taken { parser.new ≡ with_all_taken parser.old }
+        ensures adds { AddsReadClauses (EachListenerReceives P.takes T.reads)
+            result answer parser.old (view_of self.old) (view_of self.new) }
         ensures rise { kernel_looks (kernel_of self.old) ≤ kernel_looks (kernel_of self.new) }
     {
         let formula = parser.take_formula();
@@ -127,7 +127,7 @@ impl<P: ProofProcessor, T: ProofTranscriptProcessor> Checker<P, T> {
             return Err(CheckerDimacsError::Checker(error));
         }
         if let Err(error) = answer {
-            self.kernel.failed = is_want(error);
+            self.kernel.failed = is_out_of_memory(error);
             return Err(CheckerDimacsError::Dimacs(error));
         }
         Ok(())

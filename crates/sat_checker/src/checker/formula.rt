@@ -1,9 +1,9 @@
 //! Adds a formula, clause by clause.
 ghost use Rattle.std.specs.Prelude.{◌≤◌};
-ghost use Rattle.sat_checker.specs.CheckerView.{seen_of, looks_of, FaultNeedsListener, FailsAgain};
+ghost use Rattle.sat_checker.specs.CheckerView.{view_of, looks_of, FaultNeedsListener, FailsAgain};
 ghost use Rattle.sat_checker.specs.declared.error.CheckerError.TheVariants.{HasFailed};
-ghost use Rattle.sat_checker.specs.listeners.ProcessingView.{HearsEach};
-ghost use Rattle.sat_checker.specs.ClausesView.{AddsClauses};
+ghost use Rattle.sat_checker.specs.listeners.ProcessingView.{EachListenerReceives};
+ghost use Rattle.sat_checker.specs.ClausesView.{AddClausesResult};
 
 use crate::announce::transcript::ProofTranscriptProcessor;
 use crate::checker::Checker;
@@ -15,9 +15,9 @@ impl<P: ProofProcessor, T: ProofTranscriptProcessor> Checker<P, T> {
     /// Adds the clauses of a formula, in order, and stops at the first one that is not accepted. The clauses before
     /// that one remain.
     pub fn add_formula(&mut self, formula: &CnfFormula) -> Result<(), CheckerError>
-        ensures adds { AddsClauses (HearsEach P.takes T.reads)
-            result (seen_of self.old) (seen_of self.new) formula.now.clauses }
-        ensures rise { looks_of (seen_of self.old) ≤ looks_of (seen_of self.new) }
+        ensures adds { AddClausesResult (EachListenerReceives P.takes T.reads)
+            result (view_of self.old) (view_of self.new) formula.now.clauses }
+        ensures rise { looks_of (view_of self.old) ≤ looks_of (view_of self.new) }
         ensures faults { FaultNeedsListener result self.old }
         ensures failed { FailsAgain HasFailed result self.old self.new }
     {

@@ -1,19 +1,20 @@
 //! Checks complete proofs, which are read step by step.
 ghost use Rattle.std.specs.Prelude.{◌≡◌, ◌≢◌, ◌≤◌, ◌<◌, false, MatchBool, Ok, OnOk, IsErrOf};
-ghost use Rattle.sat_base.specs.device.Device.{most_reads};
+ghost use Rattle.sat_base.specs.device.Device.{max_reads};
 ghost use Rattle.sat_base.specs.device.Reading.{new_source, AtEnd};
 ghost use Rattle.sat_base.specs.steps.Steps.{End};
-ghost use Rattle.sat_base.specs.steps.StepReading.{reader_source, reader_name, has_reader_failed as is_stopped};
+ghost use Rattle.sat_base.specs.steps.StepReading.{reader_source, reader_borrow, has_reader_failed as is_stopped};
 ghost use Rattle.sat_base.specs.steps.StepViews.{step_of};
 ghost use Rattle.sat_checker.specs.KernelView.{kernel_has_failed, kernel_looks};
-ghost use Rattle.sat_checker.specs.CheckerView.{kernel_of, seen_of, seen_with, looks_of};
+ghost use Rattle.sat_checker.specs.CheckerView.{kernel_of, view_of, view_with, looks_of};
 ghost use Rattle.sat_checker.specs.CheckerView.{FaultNeedsListener, FailsAgain};
 ghost use Rattle.sat_checker.specs.declared.error.CheckerError.TheVariants.{HasFailed, OutOfMemory};
 ghost use Rattle.sat_checker.specs.announcements.Announcements.{Notice};
-ghost use Rattle.sat_checker.specs.ProofView.{ChecksProof, FoundNoEnd};
-ghost use Rattle.sat_checker.specs.inner.ProofSteps.{TurnsOn, CountsReads, read_error, is_final, at_source, bytes_left};
-ghost use Rattle.sat_checker.specs.listeners.Hearing.{HearsFirst};
-ghost use Rattle.sat_checker.specs.listeners.ProcessingView.{HearsEach};
+ghost use Rattle.sat_checker.specs.ProofView.{ProofResult, FoundNoEnd};
+ghost use Rattle.sat_checker.specs.inner.ProofSteps.{NextStepResult, CountsReads, read_error, is_step_out_of_memory};
+ghost use Rattle.sat_checker.specs.inner.ProofSteps.{at_source, bytes_left};
+ghost use Rattle.sat_checker.specs.listeners.Receiving.{OwnReceivesFirst};
+ghost use Rattle.sat_checker.specs.listeners.ProcessingView.{EachListenerReceives};
 
 use crate::announce::transcript::ProofTranscriptProcessor;
 use crate::checker::Checker;
@@ -36,8 +37,8 @@ fn unread_error(error: StepError) -> CheckerError
 }
 
 /// Returns `true` if the error is `OutOfMemory`, which makes the checker fail.
-fn is_final(error: StepError) -> bool
-    ensures { result ≡ is_final error }
+fn is_step_out_of_memory(error: StepError) -> bool
+    ensures { result ≡ is_step_out_of_memory error }
 {
     match error {
         StepError::OutOfMemory => true,
@@ -61,10 +62,10 @@ impl<P: ProofProcessor, T: ProofTranscriptProcessor> Checker<P, T> {
     /// time. Steps that were accepted before an error remain in effect. If the proof is malformed, ends early or can't
     /// be read, the checker can still be used.
     pub fn check_proof<R: CountedRead>(&mut self, reader: &mut R) -> Result<(), CheckerError>
-        ensures proof { ChecksProof (HearsEach P.takes T.reads)
-            result (seen_of self.old) (seen_of self.new) (R.seen reader.old) (R.seen reader.new) }
+        ensures proof { ProofResult (EachListenerReceives P.takes T.reads)
+            result (view_of self.old) (view_of self.new) (R.seen reader.old) (R.seen reader.new) }
         ensures unended { IsErrOf result OutOfMemory → FoundNoEnd (R.seen reader.old) (R.seen reader.new) }
-        ensures rise { looks_of (seen_of self.old) ≤ looks_of (seen_of self.new) }
+        ensures rise { looks_of (view_of self.old) ≤ looks_of (view_of self.new) }
         ensures faults { FaultNeedsListener result self.old }
         ensures failed { FailsAgain HasFailed result self.old self.new }
     {
@@ -79,10 +80,10 @@ impl<P: ProofProcessor, T: ProofTranscriptProcessor> Checker<P, T> {
         reader: &mut R,
         own: &mut O,
     ) -> Result<(), CheckerError>
-        ensures proof { ChecksProof (HearsFirst O.takes (HearsEach P.takes T.reads))
-            result (seen_with own.old self.old) (seen_with own.new self.new) (R.seen reader.old) (R.seen reader.new) }
+        ensures proof { ProofResult (OwnReceivesFirst O.takes (EachListenerReceives P.takes T.reads))
+            result (view_with own.old self.old) (view_with own.new self.new) (R.seen reader.old) (R.seen reader.new) }
         ensures unended { IsErrOf result OutOfMemory → FoundNoEnd (R.seen reader.old) (R.seen reader.new) }
-        ensures rise { looks_of (seen_of self.old) ≤ looks_of (seen_of self.new) }
+        ensures rise { looks_of (view_of self.old) ≤ looks_of (view_of self.new) }
         ensures failed { FailsAgain HasFailed result self.old self.new }
     {
         self.check_proof_by(reader, own, true)
@@ -97,8 +98,8 @@ impl<P: ProofProcessor, T: ProofTranscriptProcessor> Checker<P, T> {
         has_own: bool,
     ) -> Result<(), CheckerError>
         requires { has_own ≡ false → (v : _) (t : Notice) → O.takes v t (Ok tt) v }
-        ensures proof { ChecksProof (HearsFirst O.takes (HearsEach P.takes T.reads))
-            result (seen_with own.old self.old) (seen_with own.new self.new) (R.seen reader.old) (R.seen reader.new) }
+        ensures proof { ProofResult (OwnReceivesFirst O.takes (EachListenerReceives P.takes T.reads))
+            result (view_with own.old self.old) (view_with own.new self.new) (R.seen reader.old) (R.seen reader.new) }
         ensures unended { IsErrOf result OutOfMemory → FoundNoEnd (R.seen reader.old) (R.seen reader.new) }
         ensures rise { kernel_looks (kernel_of self.old) ≤ kernel_looks (kernel_of self.new) }
         ensures failed { FailsAgain HasFailed result self.old self.new }
@@ -121,9 +122,9 @@ impl<P: ProofProcessor, T: ProofTranscriptProcessor> Checker<P, T> {
         requires well { kernel_has_failed (kernel_of self.old) ≡ false }
         requires fresh { reader_source R.seen steps.old ≡ new_source (reader_source R.seen steps.old).reader }
         requires open_yet { is_stopped steps.old ≡ false }
-        ensures same { reader_name steps.new ≡ reader_name steps.old }
-        ensures proof { ChecksProof (HearsFirst O.takes (HearsEach P.takes T.reads))
-            result (seen_with own.old self.old) (seen_with own.new self.new)
+        ensures same { reader_borrow steps.new ≡ reader_borrow steps.old }
+        ensures proof { ProofResult (OwnReceivesFirst O.takes (EachListenerReceives P.takes T.reads))
+            result (view_with own.old self.old) (view_with own.new self.new)
             (reader_source R.seen steps.old).reader (reader_source R.seen steps.new).reader }
         ensures unended { IsErrOf result OutOfMemory
             → FoundNoEnd (reader_source R.seen steps.old).reader (reader_source R.seen steps.new).reader }
@@ -146,14 +147,14 @@ impl<P: ProofProcessor, T: ProofTranscriptProcessor> Checker<P, T> {
         requires quiet { has_own ≡ false → (v : _) (t : Notice) → O.takes v t (Ok tt) v }
         requires well { kernel_has_failed (kernel_of self.old) ≡ false }
         requires open_yet { is_stopped steps.old ≡ false }
-        ensures same { reader_name steps.new ≡ reader_name steps.old }
-        ensures bound { (reader_source R.seen steps.new).reads ≤ most_reads }
+        ensures same { reader_borrow steps.new ≡ reader_borrow steps.old }
+        ensures bound { (reader_source R.seen steps.new).reads ≤ max_reads }
         ensures goes_on { OnOk result ((kernel_has_failed (kernel_of self.new) ≡ false) × (is_stopped steps.new ≡ false)) }
         ensures takes { OnOk result (bytes_left (reader_source R.seen steps.new)
             < bytes_left (reader_source R.seen steps.old)) }
-        ensures steps_on { TurnsOn (HearsFirst O.takes (HearsEach P.takes T.reads))
-            result (at_source (seen_with own.old self.old) (reader_source R.seen steps.old))
-            (at_source (seen_with own.new self.new) (reader_source R.seen steps.new)) }
+        ensures steps_on { NextStepResult (OwnReceivesFirst O.takes (EachListenerReceives P.takes T.reads))
+            result (at_source (view_with own.old self.old) (reader_source R.seen steps.old))
+            (at_source (view_with own.new self.new) (reader_source R.seen steps.new)) }
         ensures calls { CountsReads (reader_source R.seen steps.old) (reader_source R.seen steps.new) }
         ensures unended { OnOk result (AtEnd (reader_source R.seen steps.new)
             → AtEnd (reader_source R.seen steps.old)) }
@@ -162,7 +163,7 @@ impl<P: ProofProcessor, T: ProofTranscriptProcessor> Checker<P, T> {
         ensures rise { kernel_looks (kernel_of self.old) ≤ kernel_looks (kernel_of self.new) }
     {
         if let Err(error) = steps.advance() {
-            self.kernel.failed = is_final(error);
+            self.kernel.failed = is_step_out_of_memory(error);
             return Err(unread_error(error));
         }
         let step = steps.step();

@@ -8,13 +8,13 @@ ghost use Rattle.sat_base.specs.steps.StepViews.{deletion_of};
 ghost use Rattle.sat_base.specs.values.Literals.{negated};
 ghost use Rattle.sat_checker.specs.LiteralSets.{canonical, is_among};
 ghost use Rattle.sat_checker.specs.Accepts.{Accepts, FitsModel, IsStrictSubset};
-ghost use Rattle.sat_checker.specs.Looks.{literal_count};
+ghost use Rattle.sat_checker.specs.Looks.{stored_literal_count};
 ghost use Rattle.sat_checker.specs.Stored.{Stored};
 ghost use Rattle.sat_checker.specs.Storing.{last_literals, clause_with};
-ghost use Rattle.sat_checker.specs.inner.FormulaView.{RepresentsFormula, rehashed_in, ChecksBeside};
-ghost use Rattle.sat_checker.specs.inner.Looking.{LooksOver};
+ghost use Rattle.sat_checker.specs.inner.FormulaView.{RepresentsFormula, rehashed_in, DiffersInNotesAndRoom};
+ghost use Rattle.sat_checker.specs.inner.LookCounts.{LooksOver};
 ghost use Rattle.sat_checker.specs.inner.ModelTests.{are_all_true};
-ghost use Rattle.sat_checker.specs.inner.AssumedRoom.{AgreesOn};
+ghost use Rattle.sat_checker.specs.inner.AssumedRoom.{AgreeWithinRoom};
 ghost use Rattle.sat_checker.specs.inner.StoreView.{store_count_in};
 ghost use Rattle.sat_checker.specs.declared.store.StoreError.TheVariants.{OutOfMemory};
 
@@ -32,9 +32,9 @@ impl Formula {
     pub fn fits(&mut self, literals: &[Lit], looks: &mut Looks) -> Result<bool, AllocError>
         ensures exact { IfOk result (λ fits. (f : Stored) → RepresentsFormula (rehashed_in self.old) f
             → IsTrue fits ↔ FitsModel f literals.now) }
-        ensures judged { OnErr result ((f : Stored) → RepresentsFormula (rehashed_in self.old) f → FitsModel f literals.now) }
-        ensures rest { ChecksBeside self.old self.new }
-        ensures looks { LooksOver (RepresentsFormula (rehashed_in self.old)) literal_count looks.old looks.new }
+        ensures on_error { OnErr result ((f : Stored) → RepresentsFormula (rehashed_in self.old) f → FitsModel f literals.now) }
+        ensures rest { DiffersInNotesAndRoom self.old self.new }
+        ensures looks { LooksOver (RepresentsFormula (rehashed_in self.old)) stored_literal_count looks.old looks.new }
     {
         if self.status.unsat {
             return Ok(false);
@@ -42,26 +42,26 @@ impl Formula {
         self.marks.allow(literals.len().saturating_mul(4));
         self.marks.undo_to(0);
         match assume_apart(&mut self.marks, literals) {
-            Ok(apart) => Ok(apart && self.are_met(literals, looks)),
-            Err(_) => self.fail_if_met(literals, looks),
+            Ok(apart) => Ok(apart && self.is_model(literals, looks)),
+            Err(_) => self.fail_if_model(literals, looks),
         }
     }
 
     /// Does what `fits` does once memory has run out: returns `false` if the literals are not a model of the stored
     /// formula, and an error if they are.
-    fn fail_if_met(&mut self, literals: &[Lit], looks: &mut Looks) -> Result<bool, AllocError>
+    fn fail_if_model(&mut self, literals: &[Lit], looks: &mut Looks) -> Result<bool, AllocError>
         requires { self.old.status.unsat ≡ false }
         ensures exact { IfOk result (λ fits. (f : Stored) → RepresentsFormula (rehashed_in self.old) f
             → IsTrue fits ↔ FitsModel f literals.now) }
-        ensures judged { OnErr result ((f : Stored) → RepresentsFormula (rehashed_in self.old) f → FitsModel f literals.now) }
-        ensures rest { ChecksBeside self.old self.new }
-        ensures looks { LooksOver (RepresentsFormula (rehashed_in self.old)) literal_count looks.old looks.new }
+        ensures on_error { OnErr result ((f : Stored) → RepresentsFormula (rehashed_in self.old) f → FitsModel f literals.now) }
+        ensures rest { DiffersInNotesAndRoom self.old self.new }
+        ensures looks { LooksOver (RepresentsFormula (rehashed_in self.old)) stored_literal_count looks.old looks.new }
     {
         if !are_apart(literals) {
             return Ok(false);
         }
         self.mark_in_room(literals);
-        if self.are_met(literals, looks) {
+        if self.is_model(literals, looks) {
             return Err(AllocError);
         }
         Ok(false)
@@ -72,7 +72,7 @@ impl Formula {
         ensures marked { (l : ℕ) → is_among self.new.marks.literals l
             ≡ (is_among self.old.marks.room l && is_among literals.now l) }
         ensures room { self.new.marks.room ≡ self.old.marks.room }
-        ensures rest { ChecksBeside self.old self.new }
+        ensures rest { DiffersInNotesAndRoom self.old self.new }
     {
         self.marks.undo_to(0);
         assume_roomy(&mut self.marks, literals);
@@ -80,12 +80,12 @@ impl Formula {
 
     /// Returns `true` if the literals include no negation of a unit, and satisfy every irredundant clause. The literals
     /// for which there is room must be marked.
-    fn are_met(&self, literals: &[Lit], looks: &mut Looks) -> bool
-        requires { AgreesOn self.now.marks.room self.now.marks.literals literals.now }
-        ensures met { (f : Stored) → RepresentsFormula (rehashed_in self.now) f
+    fn is_model(&self, literals: &[Lit], looks: &mut Looks) -> bool
+        requires { AgreeWithinRoom self.now.marks.room self.now.marks.literals literals.now }
+        ensures reached { (f : Stored) → RepresentsFormula (rehashed_in self.now) f
             → result ≡ (not (list_any (λ u. is_among literals.now (negated u.literal)) f.units)
             && are_all_true literals.now f.clauses) }
-        ensures looks { LooksOver (RepresentsFormula (rehashed_in self.now)) literal_count looks.old looks.new }
+        ensures looks { LooksOver (RepresentsFormula (rehashed_in self.now)) stored_literal_count looks.old looks.new }
     {
         !self.units.are_contradicted(literals) && self.store.are_satisfied(&self.marks, looks)
     }
@@ -100,10 +100,10 @@ impl Formula {
     ) -> Result<bool, StoreError>
         ensures refused { IfOk result (λ accepted. (accepted ≡ false) × ((f : Stored) → RepresentsFormula self.old f
             → Accepts f (DeleteClause clause.now (deletion_of proof)) → ⊥)) }
-        ensures judged { OnErr result ((f : Stored) → RepresentsFormula self.old f
+        ensures on_error { OnErr result ((f : Stored) → RepresentsFormula self.old f
             → Accepts f (DeleteClause clause.now (deletion_of proof))) }
         ensures memory { OnErr result (IsErrOf result OutOfMemory) }
-        ensures looks { LooksOver (RepresentsFormula self.old) (λ f. 2 * literal_count f) looks.old looks.new }
+        ensures looks { LooksOver (RepresentsFormula self.old) (λ f. 2 * stored_literal_count f) looks.old looks.new }
     {
         if self.may_delete_in_room(clause, proof, looks) {
             return Err(StoreError::OutOfMemory);
@@ -121,8 +121,8 @@ impl Formula {
         ensures exact { (f : Stored) → RepresentsFormula self.old f
             → MatchBool result (Accepts f (DeleteClause clause.now (deletion_of proof)))
             (Accepts f (DeleteClause clause.now (deletion_of proof)) → ⊥) }
-        ensures rest { ChecksBeside self.old self.new }
-        ensures looks { LooksOver (RepresentsFormula self.old) (λ f. 2 * literal_count f) looks.old looks.new }
+        ensures rest { DiffersInNotesAndRoom self.old self.new }
+        ensures looks { LooksOver (RepresentsFormula self.old) (λ f. 2 * stored_literal_count f) looks.old looks.new }
     {
         if !have_room(&self.marks, clause) {
             return false;
@@ -138,7 +138,7 @@ impl Formula {
         ensures exact { (f : Stored) → RepresentsFormula self.now f
             → MatchBool result (Accepts f (DeleteClause clause.now (deletion_of proof)))
             (Accepts f (DeleteClause clause.now (deletion_of proof)) → ⊥) }
-        ensures looks { LooksOver (RepresentsFormula self.now) (λ f. 2 * literal_count f) looks.old looks.new }
+        ensures looks { LooksOver (RepresentsFormula self.now) (λ f. 2 * stored_literal_count f) looks.old looks.new }
     {
         match proof {
             DeleteClauseProof::Redundant => self.marked_has_count(true, clause, looks),
@@ -158,7 +158,7 @@ impl Formula {
         ensures found { (f : Stored) → RepresentsFormula self.now f
             → MatchBool result (0 < store_count_in redundant (clause_with (canonical clause.now) f.clauses))
             (0 < store_count_in redundant (clause_with (canonical clause.now) f.clauses) → ⊥) }
-        ensures looks { LooksOver (RepresentsFormula self.now) literal_count looks.old looks.new }
+        ensures looks { LooksOver (RepresentsFormula self.now) stored_literal_count looks.old looks.new }
     {
         self.store.assumed_count(redundant, &self.marks, looks) > 0
     }
@@ -169,7 +169,7 @@ impl Formula {
         ensures part { (f : Stored) → RepresentsFormula self.now f
             → MatchBool result (IsStrictSubset (last_literals f.last f) self.now.marks.literals)
             (IsStrictSubset (last_literals f.last f) self.now.marks.literals → ⊥) }
-        ensures looks { LooksOver (RepresentsFormula self.now) literal_count looks.old looks.new }
+        ensures looks { LooksOver (RepresentsFormula self.now) stored_literal_count looks.old looks.new }
     {
         match self.status.last {
             LastClause::NoneYet => false,

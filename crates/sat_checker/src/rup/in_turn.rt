@@ -3,11 +3,12 @@
 ghost use Rattle.std.specs.Prelude.{ℕ, ◌≡◌, ◌-◌, ◌*◌, [], ◌∷◌, length, map, not, ◌&&◌, IfOk, OnErr, IsTrue, ◌↔◌};
 ghost use Rattle.sat_checker.specs.Accepts.{PassesByHashes};
 ghost use Rattle.sat_checker.specs.LiteralSets.{is_among};
-ghost use Rattle.sat_checker.specs.Looks.{literal_count};
+ghost use Rattle.sat_checker.specs.Looks.{stored_literal_count};
 ghost use Rattle.sat_checker.specs.Stored.{Stored, is_unit};
-ghost use Rattle.sat_checker.specs.inner.InTurn.{with_assumed, stands_first, AssumesUnits, PassAfter};
-ghost use Rattle.sat_checker.specs.inner.Look.{AssumesMore};
-ghost use Rattle.sat_checker.specs.inner.Looking.{LooksOver};
+ghost use Rattle.sat_checker.specs.inner.InTurn.{with_assumed, is_first_of_variable, AssumesUnits};
+ghost use Rattle.sat_checker.specs.inner.InTurn.{OtherUnitsPassInTurn};
+ghost use Rattle.sat_checker.specs.inner.WalkResults.{AssumesMore};
+ghost use Rattle.sat_checker.specs.inner.LookCounts.{LooksOver};
 ghost use Rattle.sat_checker.specs.inner.AssumedRoom.{HasStoredRoom};
 ghost use Rattle.sat_checker.specs.inner.StoreView.{RepresentsClauses};
 
@@ -29,8 +30,8 @@ fn assume(assigned: &mut Assigned, lit: Lit)
 }
 
 /// Returns `true` if the first unit with the same variable as `lit` is `lit` itself.
-fn stands_first(units: &[(Lit, ClauseHash)], lit: Lit) -> bool
-    ensures { result ≡ stands_first (map (λ u. u.0) units.now) lit }
+fn is_first_of_variable(units: &[(Lit, ClauseHash)], lit: Lit) -> bool
+    ensures { result ≡ is_first_of_variable (map (λ u. u.0) units.now) lit }
 {
     for unit in units {
         if unit.0 == lit {
@@ -44,10 +45,10 @@ fn stands_first(units: &[(Lit, ClauseHash)], lit: Lit) -> bool
 }
 
 /// Returns `true` if there is no room for `lit`, and the first unit in `before` with the same variable is `lit` itself.
-fn came_in(assigned: &Assigned, before: &[(Lit, ClauseHash)], lit: Lit) -> bool
-    ensures { result ≡ (not (is_among assigned.now.room lit) && stands_first (map (λ u. u.0) before.now) lit) }
+fn is_unit_before(assigned: &Assigned, before: &[(Lit, ClauseHash)], lit: Lit) -> bool
+    ensures { result ≡ (not (is_among assigned.now.room lit) && is_first_of_variable (map (λ u. u.0) before.now) lit) }
 {
-    !assigned.has_room(lit) && stands_first(before, lit)
+    !assigned.has_room(lit) && is_first_of_variable(before, lit)
 }
 
 /// Returns `true` if a unit passes, given the units before it. Runs out of memory only if there is no room for a
@@ -68,10 +69,10 @@ fn passes(
     ensures extends { AssumesMore assigned.old assigned.new }
     ensures same { (f : Stored) → RepresentsClauses store.now f → HasStoredRoom assigned.old.room f.clauses
         → assigned.new ≡ assigned.old }
-    ensures looks { LooksOver (RepresentsClauses store.now) literal_count looks.old looks.new }
+    ensures looks { LooksOver (RepresentsClauses store.now) stored_literal_count looks.old looks.new }
 {
     assigned.are_in_room();
-    if came_in(assigned, before, unit.0) {
+    if is_unit_before(assigned, before, unit.0) {
         return Ok(true);
     }
     let count = assigned.len();
@@ -100,12 +101,12 @@ pub(crate) fn pass_in_turn(
 ) -> Result<bool, AllocError>
     ensures exact { IfOk result (λ pass. (f : Stored) → RepresentsClauses store.now f
         → ((l : ℕ) → is_among assigned.old.literals l ≡ is_unit f l) → HasStoredRoom assigned.old.room f.clauses
-        → IsTrue pass ↔ PassAfter f units.now) }
+        → IsTrue pass ↔ OtherUnitsPassInTurn f units.now) }
     ensures short { OnErr result ((f : Stored) → RepresentsClauses store.now f
         → HasStoredRoom assigned.old.room f.clauses → ⊥) }
     ensures extends { AssumesMore assigned.old assigned.new }
     ensures looks { LooksOver (RepresentsClauses store.now)
-        (λ f. (length units.now - 1) * literal_count f) looks.old looks.new }
+        (λ f. (length units.now - 1) * stored_literal_count f) looks.old looks.new }
 {
     assigned.are_in_room();
     for place in 1..units.len() {

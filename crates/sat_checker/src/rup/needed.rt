@@ -5,11 +5,11 @@ ghost use Rattle.sat_base.specs.values.Literals.{negated};
 ghost use Rattle.sat_checker.specs.LiteralSets.{is_among};
 ghost use Rattle.sat_checker.specs.announcements.Needed.{ConflictCauses, negations_except, with_cause, needed_units};
 ghost use Rattle.sat_checker.specs.announcements.Needed.{conflict_ids};
-ghost use Rattle.sat_checker.specs.inner.Looking.{LooksUpTo};
+ghost use Rattle.sat_checker.specs.inner.LookCounts.{LooksUpTo};
 ghost use Rattle.sat_checker.specs.inner.Marks.{IsIncreasing};
-ghost use Rattle.sat_checker.specs.inner.NeededView.{IsFollowed};
+ghost use Rattle.sat_checker.specs.inner.NeededView.{MarksCauses};
 ghost use Rattle.sat_checker.specs.inner.Reasons.{clause_at, conflict_at, noted_length, AreNotedPlaces};
-ghost use Rattle.sat_checker.specs.inner.Reasons.{IsConflictPlace, Explains};
+ghost use Rattle.sat_checker.specs.inner.Reasons.{IsConflictPlace, ExplainsConflict};
 ghost use Rattle.sat_checker.specs.inner.SlotView.{literals_at};
 
 use crate::looks::Looks;
@@ -111,7 +111,7 @@ impl Needed {
         looks: &mut Looks,
     ) -> Result<(), AllocError>
         requires { place < length clauses.now }
-        ensures followed { OnOk result (IsFollowed self.new (conflict_at clauses.now (Some place))) }
+        ensures followed { OnOk result (MarksCauses self.new (conflict_at clauses.now (Some place))) }
         ensures looks { looks.new ≡ looks.old + length (literals_at clauses.now place) }
     {
         self.ids.clear();
@@ -132,8 +132,8 @@ impl Needed {
         looks: &mut Looks,
     ) -> Result<(), AllocError>
         requires { reason.place < length clauses.now }
-        ensures followed { OnOk result ((g : ConflictCauses) → IsFollowed self.old g
-            → IsFollowed self.new (with_cause reason.lit (clause_at clauses.now reason.place) g)) }
+        ensures followed { OnOk result ((g : ConflictCauses) → MarksCauses self.old g
+            → MarksCauses self.new (with_cause reason.lit (clause_at clauses.now reason.place) g)) }
         ensures looks { LooksUpTo (length (literals_at clauses.now reason.place)) looks.old looks.new }
     {
         if !self.marked.is_true(reason.lit) {
@@ -156,10 +156,10 @@ impl Needed {
         looks: &mut Looks,
     ) -> Result<(), AllocError>
         requires there { AreNotedPlaces clauses.now passed.now }
-        requires met { IsConflictPlace clauses.now passed.now.conflict }
+        requires reached { IsConflictPlace clauses.now passed.now.conflict }
         requires whole { passed.now.lost ≡ false }
         ensures followed { OnOk result
-            ((whole : ConflictCauses) → Explains clauses.now passed.now whole → IsFollowed self.new whole) }
+            ((whole : ConflictCauses) → ExplainsConflict clauses.now passed.now whole → MarksCauses self.new whole) }
         ensures looks { LooksUpTo (noted_length clauses.now passed.now) looks.old looks.new }
     {
         let Some(place) = passed.conflict() else {
@@ -205,7 +205,7 @@ impl Needed {
         ids: &mut Vec<u64>,
     ) -> Result<(), AllocError>
         requires { ids.old.items ≡ [] }
-        ensures { OnOk result ((g : ConflictCauses) → IsFollowed self.old g
+        ensures { OnOk result ((g : ConflictCauses) → MarksCauses self.old g
             → IsIncreasing (map (λ u. u.id) units.now.units)
             → ids.new.items ≡ conflict_ids denied.now.literals g units.now.units) }
     {

@@ -52,12 +52,12 @@ impl Passed {
         }
     }
 
-    /// Sets whether a listener needs the notes from now on. If `hears` is false, no reasons are stored.
+    /// Sets whether a listener needs the notes from now on. If `listening` is false, no reasons are stored.
     #[inline(always)]
-    pub fn listen(&mut self, hears: bool)
+    pub fn listen(&mut self, listening: bool)
         ensures { self.new ≡ self.old }
     {
-        self.quiet = !hears;
+        self.quiet = !listening;
     }
 
     /// Removes all notes, but keeps the allocated memory.

@@ -5,10 +5,11 @@ ghost use Rattle.sat_base.specs.values.Literals.{negated};
 ghost use Rattle.sat_checker.specs.LiteralSets.{canonical};
 ghost use Rattle.sat_checker.specs.Stored.{Stored};
 ghost use Rattle.sat_checker.specs.announcements.Needed.{ConflictCauses, conflict_causes, conflict_ids, propagations};
-ghost use Rattle.sat_checker.specs.inner.Looking.{LooksUpTo};
+ghost use Rattle.sat_checker.specs.inner.LookCounts.{LooksUpTo};
 ghost use Rattle.sat_checker.specs.inner.Marks.{IsIncreasing};
-ghost use Rattle.sat_checker.specs.inner.Reasons.{named, noted_length, AreNotedPlaces, IsConflictPlace, Explains};
-ghost use Rattle.sat_checker.specs.inner.Reasons.{ExplainsUnless};
+ghost use Rattle.sat_checker.specs.inner.Reasons.{clauses_by_hashes, noted_length, AreNotedPlaces, IsConflictPlace};
+ghost use Rattle.sat_checker.specs.inner.Reasons.{ExplainsConflict};
+ghost use Rattle.sat_checker.specs.inner.Reasons.{ExplainsUnlessSatisfied};
 ghost use Rattle.sat_checker.specs.inner.StoreView.{RepresentsClauses};
 
 use crate::looks::Looks;
@@ -49,7 +50,7 @@ impl Propagations {
     }
 
     /// Lists the propagations of a clause that passed the check, using the notes on the check. Returns an error if the
-    /// notes are unusable. `literals` must be the sorted literals of `clause`.
+    /// notes are unusable or memory runs out. `literals` must be the sorted literals of `clause`.
     #[inline(never)]
     pub fn list(
         &mut self,
@@ -62,12 +63,12 @@ impl Propagations {
     ) -> Result<(), AllocError>
         requires canonical { literals.now ≡ canonical clause.now }
         requires explained { passed.now.lost ≡ false → (whole : ConflictCauses)
-            × ExplainsUnless store.now.clauses passed.now (map (λ u. u.literal) units.now.units) clause.now whole }
+            × ExplainsUnlessSatisfied store.now.clauses passed.now (map (λ u. u.literal) units.now.units) clause.now whole }
         ensures listed { OnOk result
             ((f : Stored) (hashes : List ℕ) → RepresentsClauses store.now f → units.now.units ≡ f.units
             → (passed.now.lost ≡ false
-            → ExplainsUnless store.now.clauses passed.now (map (λ u. u.literal) units.now.units) clause.now
-            (conflict_causes (map negated clause.now ++ map (λ u. u.literal) units.now.units) (named hashes store.now.clauses)))
+            → ExplainsUnlessSatisfied store.now.clauses passed.now (map (λ u. u.literal) units.now.units) clause.now
+            (conflict_causes (map negated clause.now ++ map (λ u. u.literal) units.now.units) (clauses_by_hashes hashes store.now.clauses)))
             → IsIncreasing (map (λ u. u.id) f.units) → self.new.ids.items ≡ propagations f clause.now hashes) }
         ensures looks { LooksUpTo (noted_length store.now.clauses passed.now) looks.old looks.new }
     {
@@ -98,8 +99,8 @@ impl Propagations {
         requires empty { self.old.ids.items ≡ [] }
         requires whole { passed.now.lost ≡ false }
         requires there { AreNotedPlaces store.now.clauses passed.now }
-        requires met { IsConflictPlace store.now.clauses passed.now.conflict }
-        ensures listed { OnOk result ((whole : ConflictCauses) → Explains store.now.clauses passed.now whole
+        requires reached { IsConflictPlace store.now.clauses passed.now.conflict }
+        ensures listed { OnOk result ((whole : ConflictCauses) → ExplainsConflict store.now.clauses passed.now whole
             → IsIncreasing (map (λ u. u.id) units.now.units)
             → self.new.ids.items ≡ conflict_ids (map negated clause.now) whole units.now.units) }
         ensures looks { LooksUpTo (noted_length store.now.clauses passed.now) looks.old looks.new }

@@ -2,20 +2,21 @@
 ghost use Rattle.std.specs.Prelude.{◌≡◌, ◌+◌, ◌*◌, ◌<◌, ◌≤◌, ◌^◌, [], ◌∷◌, ◌++◌, length, true, false, None, OnOk};
 ghost use Rattle.std.specs.Prelude.{ℕ, OnErr, IfSome};
 ghost use Rattle.std.specs.List.{AllByRecursion, list_any};
-ghost use Rattle.sat_checker.specs.inner.Looking.{LooksUpTo};
+ghost use Rattle.sat_checker.specs.inner.LookCounts.{LooksUpTo};
 ghost use Rattle.sat_checker.specs.inner.ModelTests.{are_all_true, irredundant_length};
 ghost use Rattle.sat_checker.specs.Looks.{total_length};
 ghost use Rattle.sat_checker.specs.inner.Marks.{IsIncreasing};
 ghost use Rattle.sat_checker.specs.inner.SlotView.{slot_at, literals_at, all_lits, stored_slot, with_count_at};
-ghost use Rattle.sat_checker.specs.inner.SlotView.{without_count_at, slot_count, is_gone, gone_count, slots_present};
+ghost use Rattle.sat_checker.specs.inner.SlotView.{without_count_at, slot_count, is_removed, removed_count};
+ghost use Rattle.sat_checker.specs.inner.SlotView.{slots_not_removed};
 ghost use Rattle.sat_checker.specs.inner.SlotView.{CompactsOrKeeps, IsPresentAt, slot_ids, places_of, bucket_in};
 ghost use Rattle.sat_checker.specs.inner.SlotView.{is_same_at};
-ghost use Rattle.sat_checker.specs.inner.SlotView.{found_among, hashed_anew, live, live_length};
-ghost use Rattle.sat_checker.specs.Storing.{clause_numbered, clause_with};
+ghost use Rattle.sat_checker.specs.inner.SlotView.{found_among, rehashed_slots, live_clauses, live_literal_count};
+ghost use Rattle.sat_checker.specs.Storing.{clause_with_id, clause_with};
 ghost use Rattle.sat_checker.specs.LiteralSets.{mentions, is_among, canonical};
 ghost use Rattle.sat_checker.specs.inner.StoreView.{store_count_in};
 ghost use Rattle.sat_checker.specs.inner.PairView.{first_of, places_after};
-ghost use Rattle.sat_checker.specs.inner.IndexView.{IndexesSlots, pairs_of};
+ghost use Rattle.sat_checker.specs.inner.IndexView.{IndexesSlots, slot_pairs};
 ghost use Rattle.sat_checker.specs.inner.OccurrenceView.{SlotsInvariant, times_in};
 
 use crate::hash::{ClauseHasher, mixed};
@@ -46,14 +47,14 @@ pub struct Clauses {
 
 impl Model for Clauses {
     ghost use Rattle.std.specs.Prelude.{List, ◌≡◌};
-    ghost use Rattle.sat_checker.specs.inner.SlotView.{Slot, gone_count};
+    ghost use Rattle.sat_checker.specs.inner.SlotView.{Slot, removed_count};
     ghost use Rattle.sat_checker.specs.inner.OccurrenceView.{SlotsInvariant};
 
     ghost Value = { List Slot };
 
     ghost view = { λ s. s.slots };
 
-    ghost invariant = { λ s. SlotsInvariant s.slots s.index s.occurrences × (s.gone ≡ gone_count s.slots) };
+    ghost invariant = { λ s. SlotsInvariant s.slots s.index s.occurrences × (s.gone ≡ removed_count s.slots) };
 }
 
 impl Clauses {
@@ -114,7 +115,7 @@ impl Clauses {
         self.slots.count(place, redundant)
     }
 
-    /// Returns the place of the first clause with the hash `hash`, in order of ids.
+    /// Returns the place of the first clause, in order of ids, with the hash `hash`, or `None` if there is none.
     #[inline(always)]
     pub fn first(&self, hash: ClauseHash) -> Option<usize>
         ensures { result ≡ first_of (places_of hash self.now) }
@@ -159,10 +160,10 @@ impl Clauses {
     /// Returns the place of the clause with the id `id`, if this clause is present. Ids must increase with places.
     pub fn place_of(&self, id: u64) -> Option<usize>
         ensures found { IfSome result (IsPresentAt self.now id) }
-        ensures absent { result ≡ None → IsIncreasing (slot_ids self.now) → clause_numbered id (live self.now) ≡ None }
+        ensures absent { result ≡ None → IsIncreasing (slot_ids self.now) → clause_with_id id (live_clauses self.now) ≡ None }
     {
         let place = self.slots.place_of(id)?;
-        if self.slots.is_gone(place) {
+        if self.slots.is_removed(place) {
             return None;
         }
         Some(place)
@@ -185,24 +186,24 @@ impl Clauses {
     /// Returns `true` if any clause that is not removed contains the literal. Counts no looks.
     #[inline(always)]
     pub fn have_literal(&self, lit: Lit) -> bool
-        ensures { result ≡ true → list_any (λ c. is_among c.literals lit) (live self.now) ≡ true }
+        ensures { result ≡ true → list_any (λ c. is_among c.literals lit) (live_clauses self.now) ≡ true }
     {
         self.occurrences.has_literal(lit)
     }
 
     /// Returns `true` if any clause that is not removed contains the variable. Counts no looks.
     pub fn mention(&self, var: Var) -> bool
-        ensures { result ≡ list_any (λ c. mentions c.literals var) (live self.now) }
+        ensures { result ≡ list_any (λ c. mentions c.literals var) (live_clauses self.now) }
     {
         self.occurrences.has(var)
     }
 
     /// Returns `true` if every clause that is stored as irredundant contains an assumed literal.
     pub fn are_satisfied(&self, assigned: &Assigned, looks: &mut Looks) -> bool
-        ensures found { result ≡ are_all_true assigned.now.literals (live self.now) }
-        ensures looks { LooksUpTo (live_length self.now) looks.old looks.new }
+        ensures found { result ≡ are_all_true assigned.now.literals (live_clauses self.now) }
+        ensures looks { LooksUpTo (live_literal_count self.now) looks.old looks.new }
         // If the result is true, exactly the literals of the irredundant clauses were looked at.
-        ensures all { result ≡ true → looks.new ≡ looks.old + irredundant_length (live self.now) }
+        ensures all { result ≡ true → looks.new ≡ looks.old + irredundant_length (live_clauses self.now) }
     {
         for place in 0..self.slots.len() {
             if self.slots.count(place, false) == 0 {
@@ -218,11 +219,11 @@ impl Clauses {
     /// Finds the clause that consists of exactly the assumed literals, without using its hash. Returns how many times
     /// it is stored: as redundant if `redundant` is true, and as irredundant otherwise.
     pub fn assumed_count(&self, redundant: bool, assigned: &Assigned, looks: &mut Looks) -> u64
-        ensures found { result ≡ store_count_in redundant (clause_with (canonical assigned.now.literals) (live self.now)) }
-        ensures looks { LooksUpTo (live_length self.now) looks.old looks.new }
+        ensures found { result ≡ store_count_in redundant (clause_with (canonical assigned.now.literals) (live_clauses self.now)) }
+        ensures looks { LooksUpTo (live_literal_count self.now) looks.old looks.new }
     {
         for place in 0..self.slots.len() {
-            if self.slots.is_gone(place) {
+            if self.slots.is_removed(place) {
                 continue;
             }
             if has_just_assumed(assigned, self.slots.literals(place, looks)) {
@@ -263,8 +264,8 @@ impl Clauses {
 
     /// Files the present clauses again, under the hashes that `hasher` computes. Never allocates.
     pub fn rehash(&mut self, hasher: &ClauseHasher, looks: &mut Looks)
-        ensures hashed { self.new ≡ hashed_anew hasher.now self.old }
-        ensures looks { LooksUpTo (live_length self.old) looks.old looks.new }
+        ensures hashed { self.new ≡ rehashed_slots hasher.now self.old }
+        ensures looks { LooksUpTo (live_literal_count self.old) looks.old looks.new }
     {
         file_all(&mut self.slots, hasher, &mut self.index, looks);
     }
@@ -273,7 +274,7 @@ impl Clauses {
     /// is true, and to the irredundant count otherwise.
     pub fn add_count(&mut self, place: usize, redundant: bool)
         requires inside { place < length self.old }
-        requires there { is_gone (slot_at self.old place) ≡ false }
+        requires there { is_removed (slot_at self.old place) ≡ false }
         requires room { slot_count redundant (slot_at self.old place) + 1 < 2 ^ 64 }
         ensures { self.new ≡ with_count_at redundant place self.old }
     {
@@ -291,7 +292,7 @@ impl Clauses {
     {
         let _count = self.slots.len();
         self.slots.take_count(place, redundant);
-        if self.slots.is_gone(place) {
+        if self.slots.is_removed(place) {
             self.index.remove(place);
             self.occurrences.subtract(literals);
             self.gone += 1;
@@ -309,13 +310,13 @@ impl Clauses {
     /// much of the buffer. This changes the places of other clauses. If memory runs out, all clauses are kept.
     pub fn compact(&mut self, looks: &mut Looks) -> Result<(), AllocError>
         ensures left { CompactsOrKeeps self.old self.new }
-        ensures few { OnOk result (2 * gone_count self.new ≤ length self.new) }
-        ensures looks { LooksUpTo (live_length self.old) looks.old looks.new }
+        ensures few { OnOk result (2 * removed_count self.new ≤ length self.new) }
+        ensures looks { LooksUpTo (live_literal_count self.old) looks.old looks.new }
     {
         if self.gone <= self.slots.len() / 2 && !self.wastes_buffer() {
             return Ok(());
         }
-        drop_gone(self.alloc, &mut self.slots, &mut self.index, looks)?;
+        drop_removed(self.alloc, &mut self.slots, &mut self.index, looks)?;
         self.gone = 0;
         self.unused = 0;
         Ok(())
@@ -356,17 +357,17 @@ fn add(
 
 /// Files the remaining clauses in `next`, from the last to the first, under the places that they will have once the
 /// removed clauses are dropped.
-fn file_standing(slots: &Slots, index: &SortedPairs, next: &mut SortedPairs)
+fn file_live(slots: &Slots, index: &SortedPairs, next: &mut SortedPairs)
     requires filed { IndexesSlots index.now slots.now }
     requires none { next.old.pairs ≡ [] }
-    requires places { next.old.places ≡ length (slots_present slots.now) }
-    ensures { next.new ≡ record { pairs = pairs_of (slots_present slots.now); places = next.old.places } }
+    requires places { next.old.places ≡ length (slots_not_removed slots.now) }
+    ensures { next.new ≡ record { pairs = slot_pairs (slots_not_removed slots.now); places = next.old.places } }
 {
     let mut to = next.places();
     let count = slots.len();
     for done in 0..count {
         let place = count - 1 - done;
-        if slots.is_gone(place) {
+        if slots.is_removed(place) {
             continue;
         }
         to -= 1;
@@ -376,22 +377,22 @@ fn file_standing(slots: &Slots, index: &SortedPairs, next: &mut SortedPairs)
 
 /// Drops the removed clauses from memory, and files the others under their new places. If memory runs out,
 /// nothing changes.
-fn drop_gone(
+fn drop_removed(
     alloc: Global,
     slots: &mut Slots,
     index: &mut SortedPairs,
     looks: &mut Looks,
 ) -> Result<(), AllocError>
     requires { IndexesSlots index.old slots.old }
-    ensures left { OnOk result (slots.new ≡ slots_present slots.old) }
-    ensures filed { OnOk result (IndexesSlots index.new (slots_present slots.old)) }
+    ensures left { OnOk result (slots.new ≡ slots_not_removed slots.old) }
+    ensures filed { OnOk result (IndexesSlots index.new (slots_not_removed slots.old)) }
     ensures err { OnErr result ((slots.new ≡ slots.old) × (index.new ≡ index.old)) }
-    ensures looks { LooksUpTo (live_length slots.old) looks.old looks.new }
+    ensures looks { LooksUpTo (live_literal_count slots.old) looks.old looks.new }
 {
     let mut left = Slots::new(alloc);
-    left.push_standing(slots, looks)?;
+    left.push_live(slots, looks)?;
     let mut next = with_places(alloc, left.len())?;
-    file_standing(slots, index, &mut next);
+    file_live(slots, index, &mut next);
     *index = next;
     *slots = left;
     Ok(())
@@ -400,15 +401,15 @@ fn drop_gone(
 /// Hashes all clauses that are not removed, and files them in `index`, from the last to the first.
 fn file_all(slots: &mut Slots, hasher: &ClauseHasher, index: &mut SortedPairs, looks: &mut Looks)
     requires places { index.old.places ≡ length slots.old }
-    ensures hashed { slots.new ≡ hashed_anew hasher.now slots.old }
-    ensures filed { IndexesSlots index.new (hashed_anew hasher.now slots.old) }
-    ensures looks { LooksUpTo (live_length slots.old) looks.old looks.new }
+    ensures hashed { slots.new ≡ rehashed_slots hasher.now slots.old }
+    ensures filed { IndexesSlots index.new (rehashed_slots hasher.now slots.old) }
+    ensures looks { LooksUpTo (live_literal_count slots.old) looks.old looks.new }
 {
     index.clear();
     let count = slots.len();
     for done in 0..count {
         let place = count - 1 - done;
-        if slots.is_gone(place) {
+        if slots.is_removed(place) {
             continue;
         }
         let hash = hasher.clause_hash(slots.literals(place, looks));

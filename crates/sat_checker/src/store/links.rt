@@ -1,10 +1,12 @@
 //! Pairs of a hash and a place, in linked lists. For each value of the top bits of a hash, a head gives the first place
 //! of a list, which is in order of places.
-ghost use Rattle.std.specs.Prelude.{All, ℕ, ◌≡◌, ◌≢◌, ◌+◌, ◌<◌, ◌≤◌, ◌∷◌, ◌++◌, [], length, slice_set, OnOk, OnErr, None};
+ghost use Rattle.std.specs.Prelude.{All, ℕ, ◌≡◌, ◌≢◌, ◌+◌, ◌<◌, ◌≤◌, ◌∷◌, ◌++◌, [], length, slice_set, OnOk, OnErr};
+ghost use Rattle.std.specs.Prelude.{None};
 ghost use Rattle.sat_checker.specs.inner.PairView.{without_pair, places_in, first_of};
-ghost use Rattle.sat_checker.specs.inner.LinkView.{rest, listed_pairs, top_of, IsWalk, AreLinked, AreLinkedFrom};
-ghost use Rattle.sat_checker.specs.inner.LinkView.{LinksListPairs, IsLinkSet};
-ghost use Rattle.sat_checker.specs.inner.LinkView.{last_or, place_before, nowhere, gone};
+ghost use Rattle.sat_checker.specs.inner.LinkView.{linked_from, listed_pairs, top_of, LinksEnd, AreLinked};
+ghost use Rattle.sat_checker.specs.inner.LinkView.{AreLinkedFrom};
+ghost use Rattle.sat_checker.specs.inner.LinkView.{LinksListPairs, SetsLink};
+ghost use Rattle.sat_checker.specs.inner.LinkView.{last_place_or, place_before, no_place, no_pair};
 
 use sat_base::ClauseHash;
 use std::alloc::AllocError;
@@ -44,8 +46,8 @@ pub(crate) fn top(hash: ClauseHash, shift: u32, count: usize) -> usize
 /// Returns the first place whose hash is `hash`, in the list that starts at `from`.
 #[inline(always)]
 pub(crate) fn first_from(links: &[Link], from: u32, hash: ClauseHash) -> Option<usize>
-    requires { IsWalk links.now from }
-    ensures { result ≡ first_of (places_in hash (rest links.now from)) }
+    requires { LinksEnd links.now from }
+    ensures { result ≡ first_of (places_in hash (linked_from links.now from)) }
 {
     let mut at = from;
     while at != NOWHERE {
@@ -60,8 +62,8 @@ pub(crate) fn first_from(links: &[Link], from: u32, hash: ClauseHash) -> Option<
 
 /// Returns the last place of the list that starts at `from`, if the list is not empty.
 fn last_from(links: &[Link], from: u32) -> Option<usize>
-    requires { IsWalk links.now from }
-    ensures { result ≡ last_or None (rest links.now from) }
+    requires { LinksEnd links.now from }
+    ensures { result ≡ last_place_or None (linked_from links.now from) }
 {
     let mut last = None;
     let mut at = from;
@@ -74,9 +76,9 @@ fn last_from(links: &[Link], from: u32) -> Option<usize>
 
 /// Returns the place before `place`, in the list that starts at `from`.
 fn place_before(links: &[Link], from: u32, place: usize) -> Option<usize>
-    requires walk { IsWalk links.now from }
+    requires walk { LinksEnd links.now from }
     requires inside { place < length links.now }
-    ensures { result ≡ place_before place (rest links.now from) }
+    ensures { result ≡ place_before place (linked_from links.now from) }
 {
     let mut at = from;
     while at != NOWHERE {
@@ -98,7 +100,7 @@ pub(crate) fn put(
 ) -> Result<(), AllocError>
     requires linked { AreLinked heads.old links.old.items shift }
     requires some { 0 < length heads.old }
-    requires few { length links.old.items < gone }
+    requires few { length links.old.items < no_pair }
     requires shift { shift < 64 }
     ensures ok { OnOk result (LinksListPairs heads.new links.new.items shift
         (listed_pairs links.old.items ++ (record { hash = hash; place = length links.old.items }) ∷ [])) }
@@ -173,8 +175,8 @@ pub(crate) fn list_all(links: &[Link], list: &mut Vec<Pair>) -> Result<(), Alloc
 
 /// Links all pairs again, from the last to the first, to new heads of empty lists.
 pub(crate) fn link_all(heads: &mut [u32], links: &mut [Link], shift: u32)
-    requires few { length links.old ≤ gone }
-    requires none { All (λ h. h ≡ nowhere) heads.old }
+    requires few { length links.old ≤ no_pair }
+    requires none { All (λ h. h ≡ no_place) heads.old }
     requires some { 0 < length heads.old }
     requires shift { shift < 64 }
     ensures lists { LinksListPairs heads.new links.new shift (listed_pairs links.old) }
@@ -206,7 +208,7 @@ pub(crate) fn link_before(
     requires inside { place < length links.old }
     requires shift { shift < 64 }
     ensures linked { AreLinkedFrom place heads.new links.new shift }
-    ensures set { IsLinkSet place hash links.old links.new }
+    ensures set { SetsLink place hash links.old links.new }
     ensures heads { length heads.new ≡ length heads.old }
 {
     let top = top(hash, shift, heads.len());

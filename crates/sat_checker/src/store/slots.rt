@@ -6,8 +6,8 @@ ghost use Rattle.sat_checker.specs.LiteralSets.{is_among};
 ghost use Rattle.sat_checker.specs.inner.Marks.{IsIncreasing};
 ghost use Rattle.sat_checker.specs.inner.SlotView.{lits_in, LitsWithin, slot_at, literals_at, all_lits, slot_ids};
 ghost use Rattle.sat_checker.specs.inner.SlotView.{slot_with, with_count_at, without_count_at, with_hash_at};
-ghost use Rattle.sat_checker.specs.inner.SlotView.{slot_count, is_gone, slots_present, live_length};
-ghost use Rattle.sat_checker.specs.inner.Looking.{LooksUpTo};
+ghost use Rattle.sat_checker.specs.inner.SlotView.{slot_count, is_removed, slots_not_removed, live_literal_count};
+ghost use Rattle.sat_checker.specs.inner.LookCounts.{LooksUpTo};
 
 use crate::looks::Looks;
 use crate::store::filed_hash::FiledHash;
@@ -174,9 +174,9 @@ impl Slots {
     }
 
     /// Returns `true` if the clause at `place` is removed, that is, whether both of its counts are zero.
-    pub fn is_gone(&self, place: usize) -> bool
+    pub fn is_removed(&self, place: usize) -> bool
         requires { place < length self.now }
-        ensures { result ≡ is_gone (slot_at self.now place) }
+        ensures { result ≡ is_removed (slot_at self.now place) }
     {
         self.count(place, false) == 0 && self.count(place, true) == 0
     }
@@ -207,12 +207,12 @@ impl Slots {
     }
 
     /// Appends the clauses of `others` that are not removed. Counts one look for each literal that it copies.
-    pub fn push_standing(&mut self, others: &Slots, looks: &mut Looks) -> Result<(), AllocError>
-        ensures copied { OnOk result (self.new ≡ self.old ++ slots_present others.now) }
-        ensures looks { LooksUpTo (live_length others.now) looks.old looks.new }
+    pub fn push_live(&mut self, others: &Slots, looks: &mut Looks) -> Result<(), AllocError>
+        ensures copied { OnOk result (self.new ≡ self.old ++ slots_not_removed others.now) }
+        ensures looks { LooksUpTo (live_literal_count others.now) looks.old looks.new }
     {
         for place in 0..others.len() {
-            if others.is_gone(place) {
+            if others.is_removed(place) {
                 continue;
             }
             let literals = others.literals(place, looks);

@@ -5,7 +5,7 @@ ghost use Rattle.std.specs.List.{AllByRecursion};
 ghost use Rattle.sat_checker.specs.LiteralSets.{is_among};
 ghost use Rattle.sat_checker.specs.inner.PairView.{AreInOrder, without_pair, places_in, first_of};
 ghost use Rattle.sat_checker.specs.inner.PairView.{places_after};
-ghost use Rattle.sat_checker.specs.inner.LinkView.{listed_pairs, AreKeptPairs, LinksListPairs, nowhere, gone};
+ghost use Rattle.sat_checker.specs.inner.LinkView.{listed_pairs, PairListsInvariant, LinksListPairs, no_place, no_pair};
 
 use crate::store::links::{
     GONE, Link, NOWHERE, Pair, first_from, link_all, link_before, list_all, put, top, unlink,
@@ -34,7 +34,7 @@ fn shift_for(places: usize) -> u32
 fn no_heads(alloc: Global, shift: u32) -> Result<Vec<u32>, AllocError>
     requires few { 33 ≤ shift }
     requires below { shift < 64 }
-    ensures none { IfOk result (λ heads. All (λ h. h ≡ nowhere) heads.items) }
+    ensures none { IfOk result (λ heads. All (λ h. h ≡ no_place) heads.items) }
     ensures some { IfOk result (λ heads. 0 < length heads.items) }
 {
     let mut heads = Vec::new(alloc);
@@ -44,7 +44,7 @@ fn no_heads(alloc: Global, shift: u32) -> Result<Vec<u32>, AllocError>
 
 /// Empties the lists of all heads.
 fn clear_heads(heads: &mut [u32])
-    ensures none { All (λ h. h ≡ nowhere) heads.new }
+    ensures none { All (λ h. h ≡ no_place) heads.new }
     ensures count { length heads.new ≡ length heads.old }
 {
     heads.fill(NOWHERE);
@@ -52,7 +52,7 @@ fn clear_heads(heads: &mut [u32])
 
 /// Removes the pairs of all links.
 fn clear_links(links: &mut [Link])
-    ensures none { All (λ l. l.next ≡ gone) links.new }
+    ensures none { All (λ l. l.next ≡ no_pair) links.new }
     ensures count { length links.new ≡ length links.old }
 {
     links.fill(Link {
@@ -69,7 +69,7 @@ fn grow(
     links: &mut [Link],
     shift: u32,
 ) -> Result<u32, AllocError>
-    requires { AreKeptPairs heads.old.items links.old shift }
+    requires { PairListsInvariant heads.old.items links.old shift }
     ensures ok { IfOk result (λ s. LinksListPairs heads.new.items links.new s (listed_pairs links.old)) }
     ensures some { OnOk result (0 < length heads.new.items) }
     ensures few { IfOk result (λ s. 33 ≤ s) }
@@ -91,7 +91,7 @@ fn make_heads(
     links: &mut [Link],
     shift: u32,
 ) -> Result<u32, AllocError>
-    requires { AreKeptPairs heads.old.items links.old shift }
+    requires { PairListsInvariant heads.old.items links.old shift }
     ensures ok { IfOk result (λ s. LinksListPairs heads.new.items links.new s (listed_pairs links.old)) }
     ensures some { OnOk result (0 < length heads.new.items) }
     ensures few { IfOk result (λ s. 33 ≤ s) }
@@ -120,13 +120,13 @@ pub struct SortedPairs {
 impl Model for SortedPairs {
     ghost use Rattle.std.specs.Prelude.{length};
     ghost use Rattle.sat_checker.specs.inner.PairView.{Indexed};
-    ghost use Rattle.sat_checker.specs.inner.LinkView.{listed_pairs, AreKeptPairs};
+    ghost use Rattle.sat_checker.specs.inner.LinkView.{listed_pairs, PairListsInvariant};
 
     ghost Value = { Indexed };
 
     ghost view = { λ s. record { pairs = listed_pairs s.links.items; places = length s.links.items } };
 
-    ghost invariant = { λ s. AreKeptPairs s.heads.items s.links.items s.shift };
+    ghost invariant = { λ s. PairListsInvariant s.heads.items s.links.items s.shift };
 }
 
 impl SortedPairs {
@@ -145,7 +145,7 @@ impl SortedPairs {
     /// Returns the number of places that have been assigned.
     pub fn places(&self) -> usize
         ensures count { result ≡ self.now.places }
-        ensures few { self.now.places ≤ gone }
+        ensures few { self.now.places ≤ no_pair }
         ensures order { AreInOrder self.now.pairs }
     {
         self.links.len()

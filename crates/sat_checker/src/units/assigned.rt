@@ -1,9 +1,10 @@
 //! The assumed literals, and the literals for which there is room, with a mark for each literal code.
 ghost use Rattle.std.specs.Prelude.{◌≡◌, ◌+◌, ◌-◌, ◌<◌, ◌≤◌, List, [], ◌∷◌, drop, length, OnOk, OnErr, IfSome};
 ghost use Rattle.std.specs.Prelude.{MatchBool, true, false, reverse, ℕ, ◌==◌, get_or, if◌then◌else◌, ◌&&◌, not};
-ghost use Rattle.sat_checker.specs.inner.Marks.{is_assumed, mark_at, AreNear, NoRepeats, IsSwapRemoved};
-ghost use Rattle.sat_checker.specs.inner.AssumedRoom.{with_room, AgreesOn, AssumesOnce, HasClauseRoom, RoomStays};
-ghost use Rattle.sat_checker.specs.inner.Look.{AssumesMore};
+ghost use Rattle.sat_checker.specs.inner.Marks.{is_assumed, mark_at, AreMarksByCode, NoRepeats, IsSwapRemoved};
+ghost use Rattle.sat_checker.specs.inner.AssumedRoom.{with_room, AgreeWithinRoom, AssumesOnce, HasClauseRoom};
+ghost use Rattle.sat_checker.specs.inner.AssumedRoom.{RoomIsKept};
+ghost use Rattle.sat_checker.specs.inner.WalkResults.{AssumesMore};
 ghost use Rattle.sat_base.specs.values.Tables.{HasPlaceFor, KeepsRoom};
 ghost use Rattle.sat_checker.specs.LiteralSets.{is_among};
 ghost use Rattle.sat_base.specs.values.Literals.{negated};
@@ -36,14 +37,14 @@ pub struct Assigned {
 impl Model for Assigned {
     ghost use Rattle.std.specs.Prelude.{reverse, vec_capacity};
     ghost use Rattle.sat_checker.specs.inner.AssumedRoom.{LiteralsAndRoom};
-    ghost use Rattle.sat_checker.specs.inner.Marks.{AreMarks, HoldsRoom};
+    ghost use Rattle.sat_checker.specs.inner.Marks.{AreMarks, CountsRoom};
 
     ghost Value = { LiteralsAndRoom };
 
     ghost view = { λ s. record { literals = reverse s.trail.items; room = s.room.literals } };
 
     ghost invariant = { λ s. AreMarks s.marks (reverse s.trail.items) s.room.literals
-        × HoldsRoom s.count (vec_capacity s.trail) s.room.literals };
+        × CountsRoom s.count (vec_capacity s.trail) s.room.literals };
 }
 
 impl Assigned {
@@ -101,7 +102,7 @@ impl Assigned {
     /// Returns the marks of literals with small codes as a slice, in order of their codes.
     #[inline(always)]
     fn near(&self) -> &[Mark]
-        ensures { AreNear result.now self.now.literals }
+        ensures { AreMarksByCode result.now self.now.literals }
     {
         self.marks.near()
     }
@@ -252,7 +253,7 @@ pub fn make_room_for(assigned: &mut Assigned, clause: &[Lit]) -> Result<(), Allo
     ensures room { OnOk result (HasClauseRoom assigned.new.room clause.now) }
     ensures short { OnErr result (HasClauseRoom assigned.old.room clause.now → ⊥) }
     ensures literals { assigned.new.literals ≡ assigned.old.literals }
-    ensures stays { RoomStays assigned.old.room assigned.new.room }
+    ensures stays { RoomIsKept assigned.old.room assigned.new.room }
 {
     for lit in clause {
         assigned.make_room(*lit)?;
@@ -267,7 +268,7 @@ pub fn assume_if_roomy(assigned: &mut Assigned, lit: Lit)
         ≡ (if is_among assigned.old.room lit && not (is_among assigned.old.literals lit)
         then lit ∷ assigned.old.literals else assigned.old.literals) }
     ensures room { assigned.new.room ≡ assigned.old.room }
-    ensures agrees { AgreesOn assigned.old.room assigned.new.literals (lit ∷ assigned.old.literals) }
+    ensures agrees { AgreeWithinRoom assigned.old.room assigned.new.literals (lit ∷ assigned.old.literals) }
     ensures extends { AssumesMore assigned.old assigned.new }
 {
     if !assigned.has_room(lit) {

@@ -96,7 +96,7 @@ impl LitPlaces {
         Some(place)
     }
 
-    /// Allows `more` more places to be in the table's list, rather than in its tree.
+    /// Allows `more` additional places to be in the table's list, rather than in its tree.
     #[inline(always)]
     pub fn grant(&mut self, more: usize)
         ensures room { (l : ℕ) → HasPlaceFor self.old.places l → HasPlaceFor self.new.places l }

@@ -4,7 +4,7 @@ ghost use Rattle.std.specs.List.{list_any};
 ghost use Rattle.sat_checker.specs.LiteralSets.{is_among, is_subset_of, mentions, canonical, same_literals};
 ghost use Rattle.sat_checker.specs.Accepts.{VariablesDistinct};
 ghost use Rattle.sat_checker.specs.inner.Marks.{IsIncreasing};
-ghost use Rattle.sat_checker.specs.inner.AssumedRoom.{RoomStays};
+ghost use Rattle.sat_checker.specs.inner.AssumedRoom.{RoomIsKept};
 
 use crate::units::assigned::{Assigned, assume_if_roomy};
 use sat_base::{Lit, Var};
@@ -17,7 +17,7 @@ pub(crate) fn assume_apart(assigned: &mut Assigned, literals: &[Lit]) -> Result<
     requires { assigned.old.literals ≡ [] }
     ensures exact { IfOk result (λ yes. MatchBool yes
         (VariablesDistinct literals.now × (assigned.new.literals ≡ literals.now)) (VariablesDistinct literals.now → ⊥)) }
-    ensures stays { RoomStays assigned.old.room assigned.new.room }
+    ensures stays { RoomIsKept assigned.old.room assigned.new.room }
 {
     for place in (0..literals.len()).rev() {
         let lit = literals[place];

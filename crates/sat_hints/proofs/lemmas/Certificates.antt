@@ -6,20 +6,20 @@ use Rattle.sat_base.specs.steps.Steps.{Step, End}
 use Rattle.sat_base.specs.steps.StepText.{SpellsStep, SpellsSteps}
 use Rattle.sat_base.proofs.lemmas.steps.StepReads.{one_step}
 use Rattle.sat_checker.specs.Accepts.{Accepts, AcceptsAll, ready_after}
-use Rattle.sat_checker.specs.ProofView.{taken_after}
+use Rattle.sat_checker.specs.ProofView.{steps_after}
 
 -- STEPS THAT WERE ACCEPTED
-accepted_before : (steps earlier : List Step) → AcceptsAll (taken_after steps earlier) → AcceptsAll earlier
+accepted_before : (steps earlier : List Step) → AcceptsAll (steps_after steps earlier) → AcceptsAll earlier
 accepted_before [] earlier ok = ok
 accepted_before (s ∷ ss) earlier ok = (accepted_before ss (s ∷ earlier) ok).0
 
 -- a step of an accepted list is accepted after the steps before it
-pub accepted_at : (front : List Step) (step : Step) (following earlier : List Step) → AcceptsAll (taken_after (front ++ step ∷ following) earlier) → Accepts (ready_after (taken_after front earlier)) step
+pub accepted_at : (front : List Step) (step : Step) (following earlier : List Step) → AcceptsAll (steps_after (front ++ step ∷ following) earlier) → Accepts (ready_after (steps_after front earlier)) step
 accepted_at [] step following earlier ok = (accepted_before following (step ∷ earlier) ok).1
 accepted_at (s ∷ ss) step following earlier ok = accepted_at ss step following (s ∷ earlier) ok
 
 -- the steps of two lists are taken in order
-pub taken_append : (xs ys earlier : List Step) → taken_after (xs ++ ys) earlier ≡ taken_after ys (taken_after xs earlier)
+pub taken_append : (xs ys earlier : List Step) → steps_after (xs ++ ys) earlier ≡ steps_after ys (steps_after xs earlier)
 taken_append [] ys earlier = refl
 taken_append (x ∷ xs) ys earlier = taken_append xs ys (x ∷ earlier)
 

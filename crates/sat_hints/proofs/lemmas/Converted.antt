@@ -7,7 +7,7 @@ use Rattle.sat_base.specs.steps.StepText.{SpellsStep, SpellsSteps}
 use Rattle.sat_base.proofs.lemmas.steps.Prefixes.{no_whole, no_way}
 use Rattle.sat_base.proofs.lemmas.steps.StepReads.{one_step}
 use Rattle.sat_checker.specs.Accepts.{Accepts, AcceptsAll, ready_after}
-use Rattle.sat_checker.specs.ProofView.{taken_after}
+use Rattle.sat_checker.specs.ProofView.{steps_after}
 use Rattle.sat_checker.specs.declared.error.CheckerError.TheVariants as errors
 use Rattle.sat_hints.specs.Conversion.{hint_text}
 use Rattle.sat_hints.specs.Converts.{GaveAcceptedSteps}
@@ -47,8 +47,8 @@ module _ (steps : List Step) (text more : List ℕ) (from to : Reader) (cert : I
     whole : steps ++ End ∷ [] ≡ passed ++ (n.step ∷ n.following)
     whole = ap (λ x. x ++ End ∷ []) r.left.all ∙ append_assoc passed r.left.tail (End ∷ []) ∙ ap (λ x. passed ++ x) n.all
 
-    next_accepted : Accepts (ready_after (taken_after passed [])) n.step
-    next_accepted = accepted_at passed n.step n.following [] (subst (λ x. AcceptsAll (taken_after x [])) whole (subst AcceptsAll (sym (taken_append steps (End ∷ []) [])) cert.accepted))
+    next_accepted : Accepts (ready_after (steps_after passed [])) n.step
+    next_accepted = accepted_at passed n.step n.following [] (subst (λ x. AcceptsAll (steps_after x [])) whole (subst AcceptsAll (sym (taken_append steps (End ∷ []) [])) cert.accepted))
 
     -- the step that was read is the next one
     read_next : (step : Step) → last ≡ step ∷ [] → step ≡ n.step
@@ -56,8 +56,8 @@ module _ (steps : List Step) (text more : List ℕ) (from to : Reader) (cert : I
         let s = subst (λ x. SpellsSteps x r.second) is r.of_last in
         (one_step step n.step s.0 n.bytes (s.1 ++ (rest ++ r.to_come)) (n.others ++ more) s.2 n.spelt (sym (append_assoc s.0 s.1 (rest ++ r.to_come)) ∙ ap (λ x. x ++ (rest ++ r.to_come)) (sym s.4) ∙ next_bytes)).1
 
-    not_refused : (step : Step) → last ≡ step ∷ [] → Accepts (ready_after (taken_after passed [])) step
-    not_refused step is = subst (Accepts (ready_after (taken_after passed []))) (sym (read_next step is)) next_accepted
+    not_refused : (step : Step) → last ≡ step ∷ [] → Accepts (ready_after (steps_after passed [])) step
+    not_refused step is = subst (Accepts (ready_after (steps_after passed []))) (sym (read_next step is)) next_accepted
 
     -- after the end, no step is left
     all_passed : last ≡ End ∷ [] → steps ≡ passed
@@ -72,7 +72,7 @@ module _ (steps : List Step) (text more : List ℕ) (from to : Reader) (cert : I
 pub accepted_converts : AcceptedConverts
 accepted_converts steps text more (Ok x) from to old new cert text_is c =
     let r = read_of steps text more from to cert text_is c.0 (End ∷ []) c.1 c.2.gave in
-    subst (λ z. WriterAccepts old new (hint_text (End ∷ taken_after z []))) (sym (all_passed steps text more from to cert text_is c.0 (End ∷ []) c.1 r refl)) c.4
+    subst (λ z. WriterAccepts old new (hint_text (End ∷ steps_after z []))) (sym (all_passed steps text more from to cert text_is c.0 (End ∷ []) c.1 r refl)) c.4
 accepted_converts steps text more (Err HasDeleteVar) from to old new cert text_is c = c
 accepted_converts steps text more (Err (Refused errors.CheckFailed)) from to old new cert text_is c =
     let w = c.2 in

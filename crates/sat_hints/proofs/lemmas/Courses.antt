@@ -6,12 +6,12 @@ use Rattle.sat_base.specs.values.Literals.{negated}
 use Rattle.sat_checker.specs.LiteralSets.{is_among}
 use Rattle.sat_checker.specs.Propagation.{IsFalsified, IsUnit, UnitInTurn}
 use Rattle.sat_checker.specs.SortedSets.{NoRepeats}
-use Rattle.sat_checker.specs.inner.AssumedRoom.{AgreesOn, HasClauseRoom, HasClausesRoom}
+use Rattle.sat_checker.specs.inner.AssumedRoom.{AgreeWithinRoom, HasClauseRoom, HasClausesRoom}
 use Rattle.sat_checker.specs.ClauseStates.{ClauseState, falsified, becomes_unit, neither, clause_state, state_by_open, not_false}
 use Rattle.sat_hints.specs.Checks.{SomeIsNotUnit, LastIsNotFalsified}
 use Rattle.sat_hints.specs.declared.answer.HintWhy.{HintWhy}
 use Rattle.sat_hints.specs.declared.answer.HintWhy.TheVariants.{NotUnit, NotFalsified}
-use Rattle.sat_hints.specs.inner.Course.{falsified_failure, unit_failure, refutation_failure}
+use Rattle.sat_hints.specs.inner.Refutation.{last_clause_failure, unit_failure, refutation_failure}
 
 abbrev IsFalse : List ℕ → ℕ → Type 0
 IsFalse assumed l = is_among assumed (negated l) ≡ true
@@ -70,8 +70,8 @@ only_open assumed (l ∷ ls) o n h = go (only_open assumed ls o n.1 h.1) (is_amo
     go : (not_false assumed ls ≡ []) ⊎ (not_false assumed ls ≡ o ∷ []) → (b : Bool) → is_among assumed (negated l) ≡ b → (cond (not b) (l ∷ not_false assumed ls) (not_false assumed ls) ≡ []) ⊎ (cond (not b) (l ∷ not_false assumed ls) (not_false assumed ls) ≡ o ∷ [])
     go ih true e = ih
     go ih false e = elim h.0 [
-      | inl same ↦ let gone : is_among ls o ≡ false = subst (λ x. is_among ls x ≡ false) same n.0 in
-          inr (ap (λ ms. l ∷ ms) (all_false assumed ls (away assumed o ls gone h.1)) ∙ ap (λ x. x ∷ []) same)
+      | inl same ↦ let removed : is_among ls o ≡ false = subst (λ x. is_among ls x ≡ false) same n.0 in
+          inr (ap (λ ms. l ∷ ms) (all_false assumed ls (away assumed o ls removed h.1)) ∙ ap (λ x. x ∷ []) same)
       | inr f ↦ absurd (both_ways (is_among assumed (negated l)) e f)
     ]
 
@@ -146,7 +146,7 @@ pub course_says : (cs : List (List ℕ)) (assumed : List ℕ) → AllByRecursion
 course_says [] assumed n = tt
 course_says (c ∷ []) assumed n = go (clause_state assumed c) refl
   where
-    go : (v : ClauseState) → clause_state assumed c ≡ v → Says (falsified_failure v) assumed (c ∷ [])
+    go : (v : ClauseState) → clause_state assumed c ≡ v → Says (last_clause_failure v) assumed (c ∷ [])
     go falsified e = is_falsified assumed c e
     go (becomes_unit l) e = λ f. let g = falsifies assumed c f in absurd cc
     go neither e = λ f. let g = falsifies assumed c f in absurd cc
@@ -165,12 +165,12 @@ room_in room (x ∷ xs) l h m = elim (or_cases (eqb x l) (is_among xs l) m) [
   | inr k ↦ room_in room xs l h.1 k
 ]
 
-same_open : (room us vs clause : List ℕ) → HasClauseRoom room clause → AgreesOn room us vs → not_false us clause ≡ not_false vs clause
+same_open : (room us vs clause : List ℕ) → HasClauseRoom room clause → AgreeWithinRoom room us vs → not_false us clause ≡ not_false vs clause
 same_open room us vs [] h same = refl
 same_open room us vs (l ∷ ls) h same =
     ap (λ b. cond (not b) (l ∷ not_false us ls) (not_false us ls)) (same (negated l) h.0.1) ∙ ap (λ ms. cond (not (is_among vs (negated l))) (l ∷ ms) ms) (same_open room us vs ls h.1 same)
 
-same_verdict : (room us vs clause : List ℕ) → HasClauseRoom room clause → AgreesOn room us vs → clause_state us clause ≡ clause_state vs clause
+same_verdict : (room us vs clause : List ℕ) → HasClauseRoom room clause → AgreeWithinRoom room us vs → clause_state us clause ≡ clause_state vs clause
 same_verdict room us vs clause h same = ap (state_by_open us) (same_open room us vs clause h same) ∙ go (not_false vs clause) refl
   where
     go : (ns : List ℕ) → not_false vs clause ≡ ns → state_by_open us ns ≡ state_by_open vs ns
@@ -179,9 +179,9 @@ same_verdict room us vs clause h same = ap (state_by_open us) (same_open room us
     go (l ∷ m ∷ ls) e = refl
 
 -- literals that agree on the clauses' variables lead to the same result
-pub same_course : (cs : List (List ℕ)) (room us vs : List ℕ) → HasClausesRoom room cs → AgreesOn room us vs → refutation_failure us cs ≡ refutation_failure vs cs
+pub same_course : (cs : List (List ℕ)) (room us vs : List ℕ) → HasClausesRoom room cs → AgreeWithinRoom room us vs → refutation_failure us cs ≡ refutation_failure vs cs
 same_course [] room us vs h same = refl
-same_course (c ∷ []) room us vs h same = ap falsified_failure (same_verdict room us vs c h.0 same)
+same_course (c ∷ []) room us vs h same = ap last_clause_failure (same_verdict room us vs c h.0 same)
 same_course (c ∷ d ∷ ds) room us vs h same =
     ap (λ v. unit_failure v (λ l. refutation_failure (l ∷ us) (d ∷ ds))) (same_verdict room us vs c h.0 same) ∙ go (λ l. same_course (d ∷ ds) room (l ∷ us) (l ∷ vs) h.1 (λ m r. ap (λ b. eqb l m || b) (same m r))) (clause_state vs c)
   where

@@ -5,12 +5,12 @@ use Rattle.sat_checker.specs.LiteralSets.{is_among, is_tautology}
 use Rattle.sat_checker.specs.ClauseStates.{becomes_unit, clause_state, clause_state_of}
 use Rattle.sat_checker.specs.declared.units.assigned.Look.{Look}
 use Rattle.sat_checker.specs.declared.units.assigned.Look.TheVariants as look
-use Rattle.sat_checker.specs.inner.AssumedRoom.{AgreesOn, HasClauseRoom, HasClausesRoom, RoomStays}
+use Rattle.sat_checker.specs.inner.AssumedRoom.{AgreeWithinRoom, HasClauseRoom, HasClausesRoom, RoomIsKept}
 use Rattle.sat_hints.specs.Hints.{and_clauses}
 use Rattle.sat_hints.specs.declared.answer.HintWhy.{HintWhy}
 use Rattle.sat_hints.specs.declared.answer.HintWhy.TheVariants.{UnknownId, NotUnit}
 use Rattle.sat_hints.specs.declared.active_clauses.ActiveClauses.{ActiveClauses}
-use Rattle.sat_hints.specs.inner.Course.{unit_failure, refutation_failure}
+use Rattle.sat_hints.specs.inner.Refutation.{unit_failure, refutation_failure}
 use Rattle.sat_hints.specs.inner.LineChecking.{refutation_failure_of, WhyNotRefuted}
 use Rattle.sat_hints.specs.inner.ActiveClauses.{active_clause, active_clauses, HasRoomForPresent}
 use Rattle.sat_hints.proofs.lemmas.Courses.{same_course, is_unit, room_in}
@@ -54,12 +54,12 @@ module _ (s : ActiveClauses) (ids : List ℕ) (i id : ℕ) (inside : i < length 
 pub opens_in_room : (s : ActiveClauses) (room assumed c : List ℕ) (id l : ℕ) → HasRoomForPresent room s → active_clause s id ≡ Some c → clause_state assumed c ≡ becomes_unit l → (is_among room l ≡ true) × (is_among assumed l ≡ false)
 opens_in_room s room assumed c id l h e v = let u = is_unit assumed c l v in ((room_in room c l (h id c e) u.within).0, u.not_true)
 
-room_more : (xs ys c : List ℕ) → RoomStays xs ys → HasClauseRoom xs c → HasClauseRoom ys c
+room_more : (xs ys c : List ℕ) → RoomIsKept xs ys → HasClauseRoom xs c → HasClauseRoom ys c
 room_more xs ys [] s h = tt
 room_more xs ys (l ∷ ls) s h = ((s _ h.0.0, s _ h.0.1), room_more xs ys ls s h.1)
 
 -- there is still room for the present clauses if the room only grows
-pub room_still : (s : ActiveClauses) (xs ys : List ℕ) → RoomStays xs ys → HasRoomForPresent xs s → HasRoomForPresent ys s
+pub room_still : (s : ActiveClauses) (xs ys : List ℕ) → RoomIsKept xs ys → HasRoomForPresent xs s → HasRoomForPresent ys s
 room_still s xs ys k h id c e = room_more xs ys c k (h id c e)
 
 rooms : (s : ActiveClauses) (room : List ℕ) → HasRoomForPresent room s → (ids : List ℕ) (cs : List (List ℕ)) → active_clauses s ids ≡ Some cs → HasClausesRoom room cs
@@ -74,7 +74,7 @@ rooms s room h (id ∷ ids) cs e = go (λ ds. rooms s room h ids ds) (active_cla
 -- assuming only the literals for which there is room gives the same result
 module _ (s : ActiveClauses) (ls ids : List ℕ) (why : Option HintWhy) where
   -- the reason that the code finds is that of `WhyNotRefuted`
-  pub refuted_by : (room assumed : List ℕ) → HasRoomForPresent room s → is_tautology ls ≡ false → AgreesOn room assumed ls → why ≡ refutation_failure_of assumed (active_clauses s ids) → WhyNotRefuted s ls ids why
+  pub refuted_by : (room assumed : List ℕ) → HasRoomForPresent room s → is_tautology ls ≡ false → AgreeWithinRoom room assumed ls → why ≡ refutation_failure_of assumed (active_clauses s ids) → WhyNotRefuted s ls ids why
   refuted_by room assumed h t a w = go (active_clauses s ids) refl
     where
       go : (o : Option (List (List ℕ))) → active_clauses s ids ≡ o → WhyNotRefuted s ls ids why

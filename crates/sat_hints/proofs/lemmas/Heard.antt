@@ -7,8 +7,8 @@ use Rattle.sat_base.specs.steps.Steps.{Step}
 use Rattle.sat_base.proofs.lemmas.device.Sending.{sent_none, sent_more, sends_stops, sends_breaks}
 use Rattle.sat_checker.specs.announcements.Announcements.{Notice, notices_after, all_notices_after}
 use Rattle.sat_checker.specs.announcements.Transcripts.{Transcribed}
-use Rattle.sat_checker.specs.listeners.Hearing.{SameNotice, HearsSame, HearsAll, HearsUpTo, HearsSince, HearsSinceUpTo, HearsFirst, Hearers, notices_by}
-use Rattle.sat_checker.specs.listeners.ProcessingView.{listeners_of, HearsEach}
+use Rattle.sat_checker.specs.listeners.Receiving.{SameNotice, ReceivesSame, ReceivesAll, ReceivesUpToFault, ReceivesSince, ReceivesSinceUpToFault, OwnReceivesFirst, CallListeners, notices_made}
+use Rattle.sat_checker.specs.listeners.ProcessingView.{listeners_of, EachListenerReceives}
 use Rattle.sat_checker.specs.declared.processing.Processing.{Processing}
 use Rattle.sat_checker.specs.declared.processing.ProcessingError.{ProcessingError}
 use Rattle.sat_checker.specs.declared.processing.ProcessingError.TheVariants as faults
@@ -16,9 +16,9 @@ use Rattle.sat_checker.proofs.lemmas.listeners.Heard.{nobody_fails}
 use Rattle.sat_hints.specs.Lines.{Line, text_of, line_text}
 use Rattle.sat_hints.specs.Conversion.{announced_line, with_line, announced_lines, hint_text}
 use Rattle.sat_hints.specs.declared.line_writer.LineWriter.{LineWriter}
-use Rattle.sat_hints.specs.inner.LineWriting.{Outlet, outlet, PutsText, PutFrom, PutBy}
+use Rattle.sat_hints.specs.inner.LineWriting.{Outlet, outlet, PutsText, PutUnlessFailed, PutOrFailed}
 use Rattle.sat_hints.specs.inner.LinesWritten.{SentAll, SentPrefix}
-use Rattle.sat_hints.specs.inner.AnnouncedLines.{text_if, announced_text, AnswersIf, PutsAnnouncedLine}
+use Rattle.sat_hints.specs.inner.AnnouncedLines.{text_if, announced_text, FailsIf, PutsAnnouncedLine}
 
 -- THE TEXT OF ANNOUNCEMENTS
 abbrev pub texts : List Notice → List ℕ
@@ -45,29 +45,29 @@ same_text : (u t : Notice) → SameNotice u t → announced_text u ≡ announced
 same_text u t s = ap (λ a. text_if (announced_line a)) s.announcement
 
 -- ONE ANNOUNCEMENT
-ok_not_failed : (b : Bool) → AnswersIf b (Ok tt) → b ≡ false
+ok_not_failed : (b : Bool) → FailsIf b (Ok tt) → b ≡ false
 ok_not_failed false h = refl
 ok_not_failed true h = absurd h
 
-err_failed : (b : Bool) (e : Error) → AnswersIf b (Err e) → b ≡ true
+err_failed : (b : Bool) (e : Error) → FailsIf b (Err e) → b ≡ true
 err_failed false e h = absurd cc
 err_failed true e h = refl
 
 put_sent : (text : List ℕ) (a b : Outlet) → a.failed ≡ false → b.failed ≡ false → PutsText text a b → AddsToSink a.sink b.sink text
-put_sent text a b e d h = subst (λ f. PutBy f text a.sink b.sink) d (subst (λ f. PutFrom f text a b) e h)
+put_sent text a b e d h = subst (λ f. PutOrFailed f text a.sink b.sink) d (subst (λ f. PutUnlessFailed f text a b) e h)
 
 put_broken : (text : List ℕ) (a b : Outlet) → a.failed ≡ false → b.failed ≡ true → PutsText text a b → SinkFails a.sink b.sink text
-put_broken text a b e d h = subst (λ f. PutBy f text a.sink b.sink) d (subst (λ f. PutFrom f text a b) e h)
+put_broken text a b e d h = subst (λ f. PutOrFailed f text a.sink b.sink) d (subst (λ f. PutUnlessFailed f text a b) e h)
 
 module _ {W P T : Type 0} (seen : W → Writer) (Takes : P → Notice → Result Unit Error → P → Type 0) (Reads : T → Transcribed → Result Unit Error → T → Type 0) where
-  abbrev Hears : Hearers (LineWriter W) (Processing P T) → Notice → Result Unit ProcessingError → Hearers (LineWriter W) (Processing P T) → Type 0
-  Hears = HearsFirst (PutsAnnouncedLine seen) (HearsEach Takes Reads)
+  abbrev Receives : CallListeners (LineWriter W) (Processing P T) → Notice → Result Unit ProcessingError → CallListeners (LineWriter W) (Processing P T) → Type 0
+  Receives = OwnReceivesFirst (PutsAnnouncedLine seen) (EachListenerReceives Takes Reads)
 
-  abbrev sink_in : Hearers (LineWriter W) (Processing P T) → Sink
+  abbrev sink_in : CallListeners (LineWriter W) (Processing P T) → Sink
   sink_in a = (outlet seen a.own).sink
 
   -- an announcement that was received without a fault
-  one_sent : (t : Notice) (a b : Hearers (LineWriter W) (Processing P T)) → a.own.failed ≡ false → HearsSame Hears a t (Ok tt) b → (b.own.failed ≡ false) × AddsToSink (sink_in a) (sink_in b) (announced_text t)
+  one_sent : (t : Notice) (a b : CallListeners (LineWriter W) (Processing P T)) → a.own.failed ≡ false → ReceivesSame Receives a t (Ok tt) b → (b.own.failed ≡ false) × AddsToSink (sink_in a) (sink_in b) (announced_text t)
   one_sent t a b e h = elim h.2 [
     | inl k ↦
         let well = ok_not_failed b.own.failed k.0.answers in
@@ -76,7 +76,7 @@ module _ {W P T : Type 0} (seen : W → Writer) (Takes : P → Notice → Result
   ]
 
   -- a line writer that received all notices sent their texts
-  pub all_sent : (ts : List Notice) (a b : Hearers (LineWriter W) (Processing P T)) → a.own.failed ≡ false → HearsAll Hears ts a b → SentAll (outlet seen a.own) (outlet seen b.own) (texts ts)
+  pub all_sent : (ts : List Notice) (a b : CallListeners (LineWriter W) (Processing P T)) → a.own.failed ≡ false → ReceivesAll Receives ts a b → SentAll (outlet seen a.own) (outlet seen b.own) (texts ts)
   all_sent [] a b e h = subst (λ c. SentAll (outlet seen a.own) (outlet seen c.own) []) (sym h) (record { well = e; sent = sent_none (sink_in a) })
   all_sent (t ∷ ts) a b e h =
       let one = one_sent t a h.0 e h.1 in
@@ -84,13 +84,13 @@ module _ {W P T : Type 0} (seen : W → Writer) (Takes : P → Notice → Result
       record { well = more.well; sent = sent_more (sink_in a) (sink_in h.0) (sink_in b) (announced_text t) (texts ts) one.1 more.sent }
 
   -- `BreaksOr f ts a b` holds if the fault is a failed write, or comes from another listener.
-  abbrev BreaksOr : ProcessingError → List Notice → Hearers (LineWriter W) (Processing P T) → Hearers (LineWriter W) (Processing P T) → Type 0
-  BreaksOr f ts a b = ((cause : Error) × (f ≡ faults.ProofProcessorError cause) × SinkFails (sink_in a) (sink_in b) (texts ts)) ⊎ HearsUpTo (HearsEach Takes Reads) f ts a.others b.others
+  abbrev BreaksOr : ProcessingError → List Notice → CallListeners (LineWriter W) (Processing P T) → CallListeners (LineWriter W) (Processing P T) → Type 0
+  BreaksOr f ts a b = ((cause : Error) × (f ≡ faults.ProofProcessorError cause) × SinkFails (sink_in a) (sink_in b) (texts ts)) ⊎ ReceivesUpToFault (EachListenerReceives Takes Reads) f ts a.others b.others
 
   fault_of : (f g : ProcessingError) → ◌≡◌ {A = Result Unit ProcessingError} (Err f) (Err g) → f ≡ g
   fault_of f g e = cc
 
-  breaks_or : (f : ProcessingError) (ts : List Notice) (a b : Hearers (LineWriter W) (Processing P T)) → a.own.failed ≡ false → HearsUpTo Hears f ts a b → BreaksOr f ts a b
+  breaks_or : (f : ProcessingError) (ts : List Notice) (a b : CallListeners (LineWriter W) (Processing P T)) → a.own.failed ≡ false → ReceivesUpToFault Receives f ts a b → BreaksOr f ts a b
   breaks_or f [] a b e h = absurd h
   breaks_or f (t ∷ ts) a b e h = elim h [
     | inl x ↦ elim x.2 [
@@ -111,17 +111,17 @@ module _ {W P T : Type 0} (seen : W → Writer) (Takes : P → Notice → Result
   ]
 
   -- if the line writer is the only listener, a failure is that of a write, after a prefix of the texts
-  pub all_broken : (f : ProcessingError) (ts : List Notice) (a b : Hearers (LineWriter W) (Processing P T)) → a.own.failed ≡ false → listeners_of a.others ≡ record { processors = []; transcripts = [] } → HearsUpTo Hears f ts a b → (cause : Error) × (f ≡ faults.ProofProcessorError cause) × SinkFails (sink_in a) (sink_in b) (texts ts)
+  pub all_broken : (f : ProcessingError) (ts : List Notice) (a b : CallListeners (LineWriter W) (Processing P T)) → a.own.failed ≡ false → listeners_of a.others ≡ record { processors = []; transcripts = [] } → ReceivesUpToFault Receives f ts a b → (cause : Error) × (f ≡ faults.ProofProcessorError cause) × SinkFails (sink_in a) (sink_in b) (texts ts)
   all_broken f ts a b e none h = elim (breaks_or f ts a b e h) [
     | inl k ↦ k
     | inr k ↦ absurd (nobody_fails Takes Reads f ts a.others b.others none k)
   ]
 
   -- SINCE THE START
-  pub since_sent : (notices : List Notice) (a b : Hearers (LineWriter W) (Processing P T)) → a.own.failed ≡ false → HearsSince Hears [] notices a b → SentAll (outlet seen a.own) (outlet seen b.own) (texts notices)
+  pub since_sent : (notices : List Notice) (a b : CallListeners (LineWriter W) (Processing P T)) → a.own.failed ≡ false → ReceivesSince Receives [] notices a b → SentAll (outlet seen a.own) (outlet seen b.own) (texts notices)
   since_sent notices a b e h = subst (λ ts. SentAll (outlet seen a.own) (outlet seen b.own) (texts ts)) (sym h.1) (all_sent h.0 a b e h.2)
 
-  pub since_broken : (f : ProcessingError) (notices : List Notice) (a b : Hearers (LineWriter W) (Processing P T)) → a.own.failed ≡ false → listeners_of a.others ≡ record { processors = []; transcripts = [] } → HearsSinceUpTo Hears f [] notices a b → (cause : Error) × (f ≡ faults.ProofProcessorError cause) × SinkFails (sink_in a) (sink_in b) (texts notices)
+  pub since_broken : (f : ProcessingError) (notices : List Notice) (a b : CallListeners (LineWriter W) (Processing P T)) → a.own.failed ≡ false → listeners_of a.others ≡ record { processors = []; transcripts = [] } → ReceivesSinceUpToFault Receives f [] notices a b → (cause : Error) × (f ≡ faults.ProofProcessorError cause) × SinkFails (sink_in a) (sink_in b) (texts notices)
   since_broken f notices a b e none h = subst (λ ts. (cause : Error) × (f ≡ faults.ProofProcessorError cause) × SinkFails (sink_in a) (sink_in b) (texts ts)) (sym h.1) (all_broken f h.0 a b e none h.2)
 
 -- the text of all announcements, or of all but the pending ones
@@ -132,12 +132,12 @@ front_all old new steps s = record { front = texts (all_notices_after steps); fo
 pub front_reported : (old new : Outlet) (steps : List Step) → SentAll old new (texts (notices_after steps)) → SentPrefix old new (hint_text steps)
 front_reported old new steps s = record { front = texts (notices_after steps); following = _; whole = hint_texts steps ∙ texts-append (notices_after steps) _; sent = s }
 
-pub front_by : (old new : Outlet) (conflict : Option (ℕ × ℕ)) (steps : List Step) → SentAll old new (texts (notices_by conflict steps)) → SentPrefix old new (hint_text steps)
+pub front_by : (old new : Outlet) (conflict : Option (ℕ × ℕ)) (steps : List Step) → SentAll old new (texts (notices_made conflict steps)) → SentPrefix old new (hint_text steps)
 front_by old new (Some conflict) steps s = front_reported old new steps s
 front_by old new None steps s = front_all old new steps s
 
-pub all_by : (old new : Outlet) (conflict : Option (ℕ × ℕ)) (steps : List Step) → conflict ≡ None → SentAll old new (texts (notices_by conflict steps)) → SentAll old new (hint_text steps)
-all_by old new conflict steps e s = subst (SentAll old new) (sym (hint_texts steps)) (subst (λ k. SentAll old new (texts (notices_by k steps))) e s)
+pub all_by : (old new : Outlet) (conflict : Option (ℕ × ℕ)) (steps : List Step) → conflict ≡ None → SentAll old new (texts (notices_made conflict steps)) → SentAll old new (hint_text steps)
+all_by old new conflict steps e s = subst (SentAll old new) (sym (hint_texts steps)) (subst (λ k. SentAll old new (texts (notices_made k steps))) e s)
 
 -- a failed write of all notices' texts is one of the hint text
 pub broken_all : (s t : Sink) (steps : List Step) → SinkFails s t (texts (all_notices_after steps)) → SinkFails s t (hint_text steps)

@@ -6,10 +6,10 @@ use Rattle.std.specs.List.{AllByRecursion}
 use Rattle.std.specs.Str.Parse.{AllDigits}
 use Rattle.sat_base.specs.values.Literals.{variable, is_positive}
 use Rattle.sat_base.specs.dimacs.DimacsText.{number_text}
-use Rattle.sat_hints.specs.Lines.{Line, Input, Derived, Gone, Core, Fresh, IsLine, spaced_words, id_text, id_words, literal_words, line_text, HasNoEnd, SpellsLine}
+use Rattle.sat_hints.specs.Lines.{Line, Input, Derived, Removed, Core, Fresh, LineIsWithinLimits, spaced_words, id_text, id_words, literal_words, line_text, HasNoLf, SpellsLine}
 use Rattle.sat_hints.specs.Checks.{IsFaultOf, IsAtFault}
 use Rattle.sat_hints.specs.inner.LineReading.{IsId, IsLiteralCode, BeginsWithHintLine, BeginsWithNoLine}
-use Rattle.sat_hints.specs.inner.LineChecking.{HasTakenLines, TakesLine, TakesNext}
+use Rattle.sat_hints.specs.inner.LineChecking.{HasAcceptedLines, LineResultAfter, LineResult}
 use Rattle.sat_hints.specs.inner.Holding.{IsWholeLine, ChecksLineBytes, ReadsFurther}
 use Rattle.sat_hints.specs.declared.answer.HintWhy.{HintWhy}
 use Rattle.sat_hints.specs.declared.answer.HintWhy.TheVariants.{Syntax}
@@ -20,24 +20,24 @@ use Rattle.sat_hints.proofs.lemmas.Reaching.{reaches_none}
 use Rattle.sat_hints.proofs.lemmas.Holding.{no_end_both, whole_with, line_has_end, held_more, line_passes, line_faulty, reads_more, reads_after}
 
 -- A LINE'S TEXT HAS ONE LF, AT ITS END
-no_end_digits : (ds : List ℕ) → AllDigits 10 ds → HasNoEnd ds
+no_end_digits : (ds : List ℕ) → AllDigits 10 ds → HasNoLf ds
 no_end_digits [] d = tt
 no_end_digits (c ∷ cs) d = ((λ e. let r = digit_from_value c d.0 in omega arith), no_end_digits cs d.1)
 
-no_end_id : (id : ℕ) → IsId id → HasNoEnd (id_text id)
+no_end_id : (id : ℕ) → IsId id → HasNoLf (id_text id)
 no_end_id id p = no_end_digits (id_text id) (are_digits (id + 1) (omega arith))
 
-no_end_literal : (l : ℕ) → IsLiteralCode l → HasNoEnd (number_text l)
+no_end_literal : (l : ℕ) → IsLiteralCode l → HasNoLf (number_text l)
 no_end_literal l p = go (is_positive l) refl
   where
-    digits : HasNoEnd (id_text (variable l))
+    digits : HasNoLf (id_text (variable l))
     digits = no_end_digits (id_text (variable l)) (are_digits (variable l + 1) (omega arith))
 
-    go : (s : Bool) → is_positive l ≡ s → HasNoEnd (number_text l)
+    go : (s : Bool) → is_positive l ≡ s → HasNoLf (number_text l)
     go true e = rw e digits
     go false e = rw e ((λ f. omega arith), digits)
 
-no_end_words : (word : ℕ → List ℕ) (P : ℕ → Type 0) → ((x : ℕ) → P x → HasNoEnd (word x)) → (xs : List ℕ) → AllByRecursion P xs → HasNoEnd (spaced_words word xs)
+no_end_words : (word : ℕ → List ℕ) (P : ℕ → Type 0) → ((x : ℕ) → P x → HasNoLf (word x)) → (xs : List ℕ) → AllByRecursion P xs → HasNoLf (spaced_words word xs)
 no_end_words word P h [] p = tt
 no_end_words word P h (x ∷ xs) p = no_end_both (word x) (32 ∷ spaced_words word xs) (h x p.0) ((λ e. omega arith), no_end_words word P h xs p.1)
 
@@ -57,15 +57,15 @@ both_whole : (ls ids : List ℕ) → AllByRecursion IsLiteralCode ls → AllByRe
 both_whole ls ids p q = literals_whole ls _ p (after_letter 48 (id_words ids ++ (48 ∷ 10 ∷ [])) (omega arith) (ids_whole ids (48 ∷ 10 ∷ []) q end_whole))
 
 -- the text of a line has one LF, its last byte
-pub line_is_whole : (line : Line) → IsLine line → IsWholeLine (line_text line)
+pub line_is_whole : (line : Line) → LineIsWithinLimits line → IsWholeLine (line_text line)
 line_is_whole (Input id ls) p = after_letter 105 _ (omega arith) (ids_whole (id ∷ []) _ p.0 (literals_whole ls (48 ∷ 10 ∷ []) p.1 end_whole))
 line_is_whole (Derived id ls ids) p = after_letter 100 _ (omega arith) (ids_whole (id ∷ []) _ p.0 (both_whole ls ids p.1 p.2))
-line_is_whole (Gone id) p = after_letter 120 _ (omega arith) (ids_whole (id ∷ []) (48 ∷ 10 ∷ []) p end_whole)
+line_is_whole (Removed id) p = after_letter 120 _ (omega arith) (ids_whole (id ∷ []) (48 ∷ 10 ∷ []) p end_whole)
 line_is_whole (Core ls ids) p = after_letter 102 _ (omega arith) (both_whole ls ids p.0 p.1)
 line_is_whole (Fresh v) p = after_letter 101 _ (omega arith) (ids_whole (v ∷ []) (48 ∷ 10 ∷ []) (let k = p.0 in (omega arith, tt)) end_whole)
 
 -- if bytes whose only LF is the last byte begin with a line, they are that line
-only_front : (front xs rest : List ℕ) → HasNoEnd front → (HasNoEnd xs → ⊥) → front ++ (10 ∷ []) ≡ xs ++ rest → rest ≡ []
+only_front : (front xs rest : List ℕ) → HasNoLf front → (HasNoLf xs → ⊥) → front ++ (10 ∷ []) ≡ xs ++ rest → rest ≡ []
 only_front front [] rest h never e = absurd (never tt)
 only_front [] (x ∷ []) rest h never e = let r : rest ≡ [] = cc in r
 only_front [] (x ∷ y ∷ xs) rest h never e = absurd cc
@@ -89,18 +89,18 @@ at_fault : (why : HintWhy) (lines : List Line) (bytes : List ℕ) (line : Line) 
 at_fault Syntax lines bytes line s f = absurd f
 at_fault e lines bytes line s f = (line, s, f)
 
-judged : (why : Option HintWhy) (old new : LineChecker) (lines : List Line) (bytes : List ℕ) (line : Line) → SpellsLine bytes line → TakesLine why old new lines line → ChecksLineBytes why old new lines bytes
-judged None old new lines bytes line s t = (line, s, t.0, t.1)
-judged (Some why) old new lines bytes line s t = (at_fault why lines bytes line s t.0, t.1)
+on_error : (why : Option HintWhy) (old new : LineChecker) (lines : List Line) (bytes : List ℕ) (line : Line) → SpellsLine bytes line → LineResultAfter why old new lines line → ChecksLineBytes why old new lines bytes
+on_error None old new lines bytes line s t = (line, s, t.0, t.1)
+on_error (Some why) old new lines bytes line s t = (at_fault why lines bytes line s t.0, t.1)
 
-pub taken_whole : {E : Type 0} (r : Result (Option HintWhy) E) (old new : LineChecker) (bytes rest : List ℕ) (line : Line) → BeginsWithHintLine bytes line rest → IfOk r (λ why. TakesNext why old new line)
-    → IfOk r (λ why. IsWholeLine bytes → (lines : List Line) → HasTakenLines old lines → ChecksLineBytes why old new lines bytes)
-taken_whole (Ok why) old new bytes rest line read t = λ w lines taken. judged why old new lines bytes line (spells_whole bytes rest line w read) (t lines taken)
+pub taken_whole : {E : Type 0} (r : Result (Option HintWhy) E) (old new : LineChecker) (bytes rest : List ℕ) (line : Line) → BeginsWithHintLine bytes line rest → IfOk r (λ why. LineResult why old new line)
+    → IfOk r (λ why. IsWholeLine bytes → (lines : List Line) → HasAcceptedLines old lines → ChecksLineBytes why old new lines bytes)
+taken_whole (Ok why) old new bytes rest line read t = λ w lines taken. on_error why old new lines bytes line (spells_whole bytes rest line w read) (t lines taken)
 taken_whole (Err e) old new bytes rest line read t = tt
 
 -- a line that is read in place and checked is read as if it had been held
-pub reads_line : (why : Option HintWhy) (old new : Checking) (bytes rest : List ℕ) (line : Line) → old.held.items ≡ [] → new.held.items ≡ old.held.items → new.place ≡ old.place → BeginsWithHintLine bytes line rest → TakesNext why old.checker new.checker line → ReadsFurther why old (line_text line) new
-reads_line why old new bytes rest line none e at r t = line_passes old new (line_text line) (line_is_whole line r.0) why none e at (λ lines taken. judged why old.checker new.checker lines (line_text line) line (r.0, refl) (t lines taken))
+pub reads_line : (why : Option HintWhy) (old new : Checking) (bytes rest : List ℕ) (line : Line) → old.held.items ≡ [] → new.held.items ≡ old.held.items → new.place ≡ old.place → BeginsWithHintLine bytes line rest → LineResult why old.checker new.checker line → ReadsFurther why old (line_text line) new
+reads_line why old new bytes rest line none e at r t = line_passes old new (line_text line) (line_is_whole line r.0) why none e at (λ lines taken. on_error why old.checker new.checker lines (line_text line) line (r.0, refl) (t lines taken))
 
 -- PIECES
 -- a line is split off the start of a piece

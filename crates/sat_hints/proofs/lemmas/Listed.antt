@@ -7,8 +7,8 @@ use Rattle.std.proofs.lemmas.List.Sorted.{searched}
 use Rattle.std.specs.List.Sorted.{IsBinarySearchResult}
 use Rattle.std.specs.Ordering.{nat_cmp}
 use Rattle.sat_checker.specs.SortedSets.{IsIncreasing}
-use Rattle.sat_hints.specs.inner.Clauses.{FindsPresentClause, listed_clause, clause_in, present_clause_at, times_long, times_kept, occurrences_of, AllBelow, IsStore, AddsPresentClause, Loses, SamePresentClauses}
-use Rattle.sat_hints.proofs.lemmas.Counting.{times-snoc, times-gone, times-more, times_whole, set_at, sets-snoc}
+use Rattle.sat_hints.specs.inner.Clauses.{FindsPresentClause, listed_clause, clause_in, present_clause_at, count_in_long, count_in_kept, occurrences_of, IdsBelow, PresentInvariant, AddsPresentClause, RemovesPresentClause, SamePresentClauses}
+use Rattle.sat_hints.proofs.lemmas.Counting.{times-snoc, times-removed, times-more, times_whole, set_at, sets-snoc}
 
 -- different numbers
 pub apart : (x y : ℕ) → (x ≡ y → ⊥) → eqb x y ≡ false
@@ -18,11 +18,11 @@ apart x y never = go (eqb x y) refl
     go true e = absurd (never (eqb-true x y e))
     go false e = refl
 
-below_tail : (x : ℕ) (xs : List ℕ) (k : ℕ) → AllBelow (x ∷ xs) k → AllBelow xs k
+below_tail : (x : ℕ) (xs : List ℕ) (k : ℕ) → IdsBelow (x ∷ xs) k → IdsBelow xs k
 below_tail x xs k h = λ i l. h (suc i) (omega arith)
 
 -- one more id, clause and flag at the end
-pub listed-snoc : (id i : ℕ) (c : List ℕ) (g : Bool) (ids : List ℕ) (cs : List (List ℕ)) (gs : List Bool) → length cs ≡ length ids → length gs ≡ length ids → AllBelow ids i
+pub listed-snoc : (id i : ℕ) (c : List ℕ) (g : Bool) (ids : List ℕ) (cs : List (List ℕ)) (gs : List Bool) → length cs ≡ length ids → length gs ≡ length ids → IdsBelow ids i
     → listed_clause id (ids ++ (i ∷ [])) (cs ++ (c ∷ [])) (gs ++ (g ∷ [])) ≡ cond (eqb id i) (cond g None (Some c)) (listed_clause id ids cs gs)
 listed-snoc id i c g [] [] [] p q h = refl
 listed-snoc id i c g [] [] (b ∷ gs) p q h = absurd (omega arith)
@@ -69,17 +69,17 @@ listed-at (suc n) (x ∷ ids) (c ∷ cs) (g ∷ gs) p q r l =
     rw e (listed-at n ids cs gs (omega arith) (omega arith) (rises_tail x ids r) (omega arith))
 
 -- the clause at an index is removed
-pub listed-gone : (id place : ℕ) (ids : List ℕ) (cs : List (List ℕ)) (gs : List Bool) → length cs ≡ length ids → length gs ≡ length ids → Rises ids → place < length ids
+pub listed-removed : (id place : ℕ) (ids : List ℕ) (cs : List (List ℕ)) (gs : List Bool) → length cs ≡ length ids → length gs ≡ length ids → Rises ids → place < length ids
     → listed_clause id ids cs (set gs place true) ≡ cond (eqb id (get_or ids place 0)) None (listed_clause id ids cs gs)
-listed-gone id place [] cs gs p q r l = absurd (omega arith)
-listed-gone id place (x ∷ ids) [] gs p q r l = absurd (omega arith)
-listed-gone id place (x ∷ ids) (c ∷ cs) [] p q r l = absurd (omega arith)
-listed-gone id zero (x ∷ ids) (c ∷ cs) (g ∷ gs) p q r l = go (eqb id x)
+listed-removed id place [] cs gs p q r l = absurd (omega arith)
+listed-removed id place (x ∷ ids) [] gs p q r l = absurd (omega arith)
+listed-removed id place (x ∷ ids) (c ∷ cs) [] p q r l = absurd (omega arith)
+listed-removed id zero (x ∷ ids) (c ∷ cs) (g ∷ gs) p q r l = go (eqb id x)
   where
     go : (t : Bool) → cond t None (listed_clause id ids cs gs) ≡ cond t None (cond t (cond g None (Some c)) (listed_clause id ids cs gs))
     go true = refl
     go false = refl
-listed-gone id (suc n) (x ∷ ids) (c ∷ cs) (g ∷ gs) p q r l = go (eqb id x) refl (listed-gone id n ids cs gs (omega arith) (omega arith) (rises_tail x ids r) (omega arith))
+listed-removed id (suc n) (x ∷ ids) (c ∷ cs) (g ∷ gs) p q r l = go (eqb id x) refl (listed-removed id n ids cs gs (omega arith) (omega arith) (rises_tail x ids r) (omega arith))
   where
     go : (t : Bool) → eqb id x ≡ t → listed_clause id ids cs (set gs n true) ≡ cond (eqb id (get_or ids n 0)) None (listed_clause id ids cs gs)
         → cond t (cond g None (Some c)) (listed_clause id ids cs (set gs n true)) ≡ cond (eqb id (get_or ids n 0)) None (cond t (cond g None (Some c)) (listed_clause id ids cs gs))
@@ -91,7 +91,7 @@ listed-gone id (suc n) (x ∷ ids) (c ∷ cs) (g ∷ gs) p q r l = go (eqb id x)
     go false e ih = ih
 
 -- increasing ids, and one above all of them
-below-snoc : (xs : List ℕ) (x k : ℕ) → AllBelow xs x → x < k → AllBelow (xs ++ (x ∷ [])) k
+below-snoc : (xs : List ℕ) (x k : ℕ) → IdsBelow xs x → x < k → IdsBelow (xs ++ (x ∷ [])) k
 below-snoc [] x k h l = λ i m. elim i as (λ i. i < 1 → get_or (x ∷ []) i 0 < k) [ zero ↦ λ _. l | suc j ↦ λ n. absurd (omega arith) ] m
 below-snoc (y ∷ ys) x k h l =
     let first : y < k = (let n : y < x = h 0 (omega arith) in omega arith) in
@@ -106,7 +106,7 @@ rises-cons x xs above r = λ i j l m. go i j l m
     go zero (suc j) l m = above j (omega arith)
     go (suc i) (suc j) l m = r i j (omega arith) (omega arith)
 
-rises-snoc : (xs : List ℕ) (x : ℕ) → Rises xs → AllBelow xs x → Rises (xs ++ (x ∷ []))
+rises-snoc : (xs : List ℕ) (x : ℕ) → Rises xs → IdsBelow xs x → Rises (xs ++ (x ∷ []))
 rises-snoc [] x r h = λ i j l m. absurd (omega arith)
 rises-snoc (y ∷ ys) x r h = rises-cons y (ys ++ (x ∷ [])) (above ys (λ i l. r 0 (suc i) (omega arith) (omega arith)) (h 0 (omega arith))) (rises-snoc ys x (rises_tail y ys r) (below_tail y ys x h))
   where
@@ -121,17 +121,17 @@ length-snoc [] x = refl
 length-snoc (y ∷ ys) x = let e = length-snoc ys x in omega arith
 
 -- a clause is added
-pub adds : (old new : Present) (id : ℕ) (clause : List ℕ) → IsStore old → AllBelow old.ids.items id → IsIncreasing clause → new.ids.items ≡ old.ids.items ++ (id ∷ []) → new.gone.items ≡ old.gone.items ++ (false ∷ []) → new.clauses ≡ old.clauses ++ (clause ∷ []) → AddsPresentClause old new id clause
+pub adds : (old new : Present) (id : ℕ) (clause : List ℕ) → PresentInvariant old → IdsBelow old.ids.items id → IsIncreasing clause → new.ids.items ≡ old.ids.items ++ (id ∷ []) → new.removed.items ≡ old.removed.items ++ (false ∷ []) → new.clauses ≡ old.clauses ++ (clause ∷ []) → AddsPresentClause old new id clause
 adds old new id clause s h k i g c = record {
   store = record {
     clauses = rw (c, i) (length-snoc old.clauses clause ∙ ap (λ n. n + 1) s.clauses ∙ sym (length-snoc old.ids.items id));
-    gone = rw (g, i) (length-snoc old.gone.items false ∙ ap (λ n. n + 1) s.gone ∙ sym (length-snoc old.ids.items id));
+    removed = rw (g, i) (length-snoc old.removed.items false ∙ ap (λ n. n + 1) s.removed ∙ sym (length-snoc old.ids.items id));
     rises = rw i (rises-snoc old.ids.items id s.rises h);
     sets = rw c (sets-snoc old.clauses clause s.sets k);
   };
   below = rw i (λ k l. below-snoc old.ids.items id k h l);
-  clauses = rw (i, g, c) (λ j. listed-snoc j id clause false old.ids.items old.clauses old.gone.items s.clauses s.gone h);
-  times = rw (g, c) (λ l. times-snoc l old.clauses old.gone.items clause false (s.gone ∙ sym s.clauses));
+  clauses = rw (i, g, c) (λ j. listed-snoc j id clause false old.ids.items old.clauses old.removed.items s.clauses s.removed h);
+  times = rw (g, c) (λ l. times-snoc l old.clauses old.removed.items clause false (s.removed ∙ sym s.clauses));
   longer = rw i (length-snoc old.ids.items id);
 }
 
@@ -148,24 +148,24 @@ same_default [] i d e h = absurd (omega arith)
 same_default (x ∷ xs) zero d e h = refl
 same_default (x ∷ xs) (suc i) d e h = same_default xs i d e (omega arith)
 
-module _ (p : Present) (s : IsStore p) (id : ℕ) (xs : List ℕ) (is : xs ≡ p.ids.items) where
+module _ (p : Present) (s : PresentInvariant p) (id : ℕ) (xs : List ℕ) (is : xs ≡ p.ids.items) where
   at_place : (place : ℕ) → IsBinarySearchResult (λ y. nat_cmp y id) xs (Ok place) → (place < length p.ids.items) × (get_or p.ids.items place 0 ≡ id)
   at_place place h = subst (λ ys. (place < length ys) × (get_or ys place 0 ≡ id)) is (searched xs id (Ok place) h (subst (λ ys. (i j : ℕ) → i ≤ j → j < length ys → get_or ys i 0 ≤ get_or ys j 0) (sym is) (in_order p.ids.items s.rises)))
 
-  mark_at : (place : ℕ) (b : Bool) → place < length p.ids.items → b ≡ get_or p.gone.items place b → get_or p.gone.items place false ≡ b
-  mark_at place b l e = same_default p.gone.items place false b (subst (λ n. place < n) (sym s.gone) l) ∙ sym e
+  mark_at : (place : ℕ) (b : Bool) → place < length p.ids.items → b ≡ get_or p.removed.items place b → get_or p.removed.items place false ≡ b
+  mark_at place b l e = same_default p.removed.items place false b (subst (λ n. place < n) (sym s.removed) l) ∙ sym e
 
-  listed_as : (place : ℕ) (b : Bool) → (place < length p.ids.items) × (get_or p.ids.items place 0 ≡ id) → get_or p.gone.items place false ≡ b → clause_in p id ≡ cond b None (Some (present_clause_at p place))
-  listed_as place b a g = subst (λ i. clause_in p i ≡ cond b None (Some (present_clause_at p place))) a.1 (listed-at place p.ids.items p.clauses p.gone.items s.clauses s.gone s.rises a.0 ∙ ap (λ b. cond b None (Some (present_clause_at p place))) g)
+  listed_as : (place : ℕ) (b : Bool) → (place < length p.ids.items) × (get_or p.ids.items place 0 ≡ id) → get_or p.removed.items place false ≡ b → clause_in p id ≡ cond b None (Some (present_clause_at p place))
+  listed_as place b a g = subst (λ i. clause_in p i ≡ cond b None (Some (present_clause_at p place))) a.1 (listed-at place p.ids.items p.clauses p.removed.items s.clauses s.removed s.rises a.0 ∙ ap (λ b. cond b None (Some (present_clause_at p place))) g)
 
   -- a clause that the search finds, and that is not removed, is in the store
-  pub found_at : (place : ℕ) (b : Bool) → IsBinarySearchResult (λ y. nat_cmp y id) xs (Ok place) → b ≡ get_or p.gone.items place b → b ≡ false → FindsPresentClause p id place
+  pub found_at : (place : ℕ) (b : Bool) → IsBinarySearchResult (λ y. nat_cmp y id) xs (Ok place) → b ≡ get_or p.removed.items place b → b ≡ false → FindsPresentClause p id place
   found_at place b h e f =
       let a = at_place place h in
       record { within = subst (λ n. place < n) (sym s.clauses) a.0; named = a.1; clause = listed_as place false a (mark_at place b a.0 e ∙ f) }
 
   -- a clause that the search finds, but that is removed, is not in the store
-  pub gone_at : (place : ℕ) (b : Bool) → IsBinarySearchResult (λ y. nat_cmp y id) xs (Ok place) → b ≡ get_or p.gone.items place b → b ≡ true → clause_in p id ≡ None
+  pub gone_at : (place : ℕ) (b : Bool) → IsBinarySearchResult (λ y. nat_cmp y id) xs (Ok place) → b ≡ get_or p.removed.items place b → b ≡ true → clause_in p id ≡ None
   gone_at place b h e f = let a = at_place place h in listed_as place true a (mark_at place b a.0 e ∙ f)
 
   -- an id that the search does not find has no clause
@@ -174,70 +174,70 @@ module _ (p : Present) (s : IsStore p) (id : ℕ) (xs : List ℕ) (is : xs ≡ p
       let a = searched xs id (Err at) h (subst (λ ys. (i j : ℕ) → i ≤ j → j < length ys → get_or ys i 0 ≤ get_or ys j 0) (sym is) (in_order p.ids.items s.rises)) in
       let low : (k : ℕ) → k < at → get_or p.ids.items k 0 < id = subst (λ ys. (k : ℕ) → k < at → get_or ys k 0 < id) is a.1 in
       let high : (k : ℕ) → at ≤ k → k < length p.ids.items → id < get_or p.ids.items k 0 = subst (λ ys. (k : ℕ) → at ≤ k → k < length ys → id < get_or ys k 0) is a.2 in
-      listed-none id p.ids.items p.clauses p.gone.items (λ i l e. elim (cases_lt i at) [
+      listed-none id p.ids.items p.clauses p.removed.items (λ i l e. elim (cases_lt i at) [
         | inl b ↦ let k = low i b in omega arith
         | inr b ↦ let k = high i b l in omega arith
       ])
 
 -- a clause is removed
-pub loses : (old new : Present) (place : ℕ) → IsStore old → place < length old.clauses → new.ids.items ≡ old.ids.items → new.gone.items ≡ set old.gone.items place true → new.clauses ≡ old.clauses → Loses old new (get_or old.ids.items place 0)
+pub loses : (old new : Present) (place : ℕ) → PresentInvariant old → place < length old.clauses → new.ids.items ≡ old.ids.items → new.removed.items ≡ set old.removed.items place true → new.clauses ≡ old.clauses → RemovesPresentClause old new (get_or old.ids.items place 0)
 loses old new place s l i g c =
     let within : place < length old.ids.items = subst (λ n. place < n) s.clauses l in
     record {
       store = record {
         clauses = rw (c, i) s.clauses;
-        gone = rw (g, i) (simp length-set s.gone);
+        removed = rw (g, i) (simp length-set s.removed);
         rises = rw i s.rises;
         sets = rw c s.sets;
       };
       below = rw i (λ k h. h);
-      clauses = rw (i, g, c) (λ j. listed-gone j place old.ids.items old.clauses old.gone.items s.clauses s.gone s.rises within);
-      times = rw (g, c) (λ d e. there d (get_or old.gone.items place false) refl (sym (listed-at place old.ids.items old.clauses old.gone.items s.clauses s.gone s.rises within) ∙ e));
+      clauses = rw (i, g, c) (λ j. listed-removed j place old.ids.items old.clauses old.removed.items s.clauses s.removed s.rises within);
+      times = rw (g, c) (λ d e. there d (get_or old.removed.items place false) refl (sym (listed-at place old.ids.items old.clauses old.removed.items s.clauses s.removed s.rises within) ∙ e));
     }
   where
-    there : (d : List ℕ) (b : Bool) → get_or old.gone.items place false ≡ b → cond b None (Some (get_or old.clauses place [])) ≡ Some d → (m : ℕ) → times_kept m old.clauses (set old.gone.items place true) + times_long m d ≡ times_kept m old.clauses old.gone.items
+    there : (d : List ℕ) (b : Bool) → get_or old.removed.items place false ≡ b → cond b None (Some (get_or old.clauses place [])) ≡ Some d → (m : ℕ) → count_in_kept m old.clauses (set old.removed.items place true) + count_in_long m d ≡ count_in_kept m old.clauses old.removed.items
     there d true f e = absurd cc
     there d false f e = λ m.
         let is : get_or old.clauses place [] ≡ d = cc in
-        subst (λ x. times_kept m old.clauses (set old.gone.items place true) + times_long m x ≡ times_kept m old.clauses old.gone.items) is (times-gone m old.clauses old.gone.items place (s.gone ∙ sym s.clauses) l f)
+        subst (λ x. count_in_kept m old.clauses (set old.removed.items place true) + count_in_long m x ≡ count_in_kept m old.clauses old.removed.items) is (times-removed m old.clauses old.removed.items place (s.removed ∙ sym s.clauses) l f)
 
-pub loses_further : (old mid new : Present) (id : ℕ) → Loses old mid id → SamePresentClauses mid new → Loses old new id
-loses_further old mid new id l k = record { store = k.store; below = λ b h. k.below b (l.below b h); clauses = λ j. k.clauses j ∙ l.clauses j; times = λ c e m. ap (λ n. n + times_long m c) (k.times m) ∙ l.times c e m }
+pub loses_further : (old mid new : Present) (id : ℕ) → RemovesPresentClause old mid id → SamePresentClauses mid new → RemovesPresentClause old new id
+loses_further old mid new id l k = record { store = k.store; below = λ b h. k.below b (l.below b h); clauses = λ j. k.clauses j ∙ l.clauses j; times = λ c e m. ap (λ n. n + count_in_long m c) (k.times m) ∙ l.times c e m }
 
 -- `KeepsFirst p count kept` holds if `kept` has the first `count` clauses, except for removed ones.
 pub record KeepsFirst (p : Present) (count : ℕ) (kept : Present) : Type 0 where
-  pub store : IsStore kept
-  pub below : (k : ℕ) → AllBelow (take count p.ids.items) k → AllBelow kept.ids.items k
-  pub clauses : (id : ℕ) → clause_in kept id ≡ listed_clause id (take count p.ids.items) (take count p.clauses) (take count p.gone.items)
-  pub times : (l : ℕ) → occurrences_of kept l ≡ times_kept l (take count p.clauses) (take count p.gone.items)
+  pub store : PresentInvariant kept
+  pub below : (k : ℕ) → IdsBelow (take count p.ids.items) k → IdsBelow kept.ids.items k
+  pub clauses : (id : ℕ) → clause_in kept id ≡ listed_clause id (take count p.ids.items) (take count p.clauses) (take count p.removed.items)
+  pub times : (l : ℕ) → occurrences_of kept l ≡ count_in_kept l (take count p.clauses) (take count p.removed.items)
 
-pub keeps_none : (p kept : Present) → IsStore kept → kept.ids.items ≡ [] → ((id : ℕ) → clause_in kept id ≡ None) → ((l : ℕ) → occurrences_of kept l ≡ 0) → KeepsFirst p 0 kept
+pub keeps_none : (p kept : Present) → PresentInvariant kept → kept.ids.items ≡ [] → ((id : ℕ) → clause_in kept id ≡ None) → ((l : ℕ) → occurrences_of kept l ≡ 0) → KeepsFirst p 0 kept
 keeps_none p kept s e n t = record { store = s; below = λ k h. rw e (λ i l. absurd (omega arith)); clauses = λ id. n id; times = λ l. t l }
 
-module _ (p : Present) (s : IsStore p) (i : ℕ) (inside : i < length p.ids.items) where
-  first_below : AllBelow (take i p.ids.items) (get_or p.ids.items i 0)
+module _ (p : Present) (s : PresentInvariant p) (i : ℕ) (inside : i < length p.ids.items) where
+  first_below : IdsBelow (take i p.ids.items) (get_or p.ids.items i 0)
   first_below = λ k l.
       let e : length (take i p.ids.items) ≡ i = length-take-le i p.ids.items (omega arith) in
       let m : k < i = omega arith in
       subst (λ x. x < get_or p.ids.items i 0) (sym (get_or-take i p.ids.items k 0 m)) (s.rises k i m inside)
 
   -- the ids of the clauses kept so far are below the next id
-  pub next_below : (kept : Present) → KeepsFirst p i kept → AllBelow kept.ids.items (get_or p.ids.items i 0)
+  pub next_below : (kept : Present) → KeepsFirst p i kept → IdsBelow kept.ids.items (get_or p.ids.items i 0)
   next_below kept k = k.below (get_or p.ids.items i 0) first_below
 
   lengths : (A : Type 0) (xs : List A) → length xs ≡ length p.ids.items → length (take i xs) ≡ length (take i p.ids.items)
   lengths A xs e = length-take-le i xs (omega arith) ∙ sym (length-take-le i p.ids.items (omega arith))
 
   -- the clauses with one more
-  listed_more : (id : ℕ) → listed_clause id (take (i + 1) p.ids.items) (take (i + 1) p.clauses) (take (i + 1) p.gone.items)
-      ≡ cond (eqb id (get_or p.ids.items i 0)) (cond (get_or p.gone.items i false) None (Some (get_or p.clauses i []))) (listed_clause id (take i p.ids.items) (take i p.clauses) (take i p.gone.items))
+  listed_more : (id : ℕ) → listed_clause id (take (i + 1) p.ids.items) (take (i + 1) p.clauses) (take (i + 1) p.removed.items)
+      ≡ cond (eqb id (get_or p.ids.items i 0)) (cond (get_or p.removed.items i false) None (Some (get_or p.clauses i []))) (listed_clause id (take i p.ids.items) (take i p.clauses) (take i p.removed.items))
   listed_more id =
       let a = take_more p.ids.items i 0 inside in
       let b = take_more p.clauses i [] (subst (λ n. i < n) (sym s.clauses) inside) in
-      let c = take_more p.gone.items i false (subst (λ n. i < n) (sym s.gone) inside) in
-      rw (a, b, c) (listed-snoc id (get_or p.ids.items i 0) (get_or p.clauses i []) (get_or p.gone.items i false) (take i p.ids.items) (take i p.clauses) (take i p.gone.items) (lengths (List ℕ) p.clauses s.clauses) (lengths Bool p.gone.items s.gone) first_below)
+      let c = take_more p.removed.items i false (subst (λ n. i < n) (sym s.removed) inside) in
+      rw (a, b, c) (listed-snoc id (get_or p.ids.items i 0) (get_or p.clauses i []) (get_or p.removed.items i false) (take i p.ids.items) (take i p.clauses) (take i p.removed.items) (lengths (List ℕ) p.clauses s.clauses) (lengths Bool p.removed.items s.removed) first_below)
 
-  below_fewer : (k : ℕ) → AllBelow (take (i + 1) p.ids.items) k → (get_or p.ids.items i 0 < k) × AllBelow (take i p.ids.items) k
+  below_fewer : (k : ℕ) → IdsBelow (take (i + 1) p.ids.items) k → (get_or p.ids.items i 0 < k) × IdsBelow (take i p.ids.items) k
   below_fewer k h =
       let e : length (take (i + 1) p.ids.items) ≡ i + 1 = length-take-le (i + 1) p.ids.items (omega arith) in
       let f : length (take i p.ids.items) ≡ i = length-take-le i p.ids.items (omega arith) in (
@@ -251,46 +251,46 @@ module _ (p : Present) (s : IsStore p) (i : ℕ) (inside : i < length p.ids.item
   pub next_set : (clause : List ℕ) → clause ≡ get_or p.clauses i [] → IsIncreasing clause
   next_set clause e = subst IsIncreasing (sym e) (set_at p.clauses i s.sets within)
 
-  counted_more : (l : ℕ) → times_kept l (take (i + 1) p.clauses) (take (i + 1) p.gone.items) ≡ times_kept l (take i p.clauses) (take i p.gone.items) + cond (get_or p.gone.items i false) 0 (times_long l (get_or p.clauses i []))
-  counted_more l = times-more l p.clauses p.gone.items i (s.gone ∙ sym s.clauses) within
+  counted_more : (l : ℕ) → count_in_kept l (take (i + 1) p.clauses) (take (i + 1) p.removed.items) ≡ count_in_kept l (take i p.clauses) (take i p.removed.items) + cond (get_or p.removed.items i false) 0 (count_in_long l (get_or p.clauses i []))
+  counted_more l = times-more l p.clauses p.removed.items i (s.removed ∙ sym s.clauses) within
 
-  mark : {b : Bool} → b ≡ get_or p.gone.items i b → get_or p.gone.items i false ≡ b
-  mark {b} m = same_default p.gone.items i false b (subst (λ n. i < n) (sym s.gone) inside) ∙ sym m
+  mark : {b : Bool} → b ≡ get_or p.removed.items i b → get_or p.removed.items i false ≡ b
+  mark {b} m = same_default p.removed.items i false b (subst (λ n. i < n) (sym s.removed) inside) ∙ sym m
 
   -- a clause that is not removed is kept
-  pub keeps_one : (kept new : Present) (id : ℕ) (clause : List ℕ) (b : Bool) → KeepsFirst p i kept → AddsPresentClause kept new id clause → b ≡ get_or p.gone.items i b → b ≡ false → id ≡ get_or p.ids.items i 0 → clause ≡ get_or p.clauses i [] → KeepsFirst p (i + 1) new
+  pub keeps_one : (kept new : Present) (id : ℕ) (clause : List ℕ) (b : Bool) → KeepsFirst p i kept → AddsPresentClause kept new id clause → b ≡ get_or p.removed.items i b → b ≡ false → id ≡ get_or p.ids.items i 0 → clause ≡ get_or p.clauses i [] → KeepsFirst p (i + 1) new
   keeps_one kept new id clause t k a m f d c = let g = mark m ∙ f in record {
     store = a.store;
     below = λ b h. let f = below_fewer b h in a.below b (subst (λ x. x < b) (sym d) f.0);
-    clauses = λ j. a.clauses j ∙ (rw (d, c) (ap (λ o. cond (eqb j (get_or p.ids.items i 0)) (Some (get_or p.clauses i [])) o) (k.clauses j)) ∙ ap (λ b. cond (eqb j (get_or p.ids.items i 0)) (cond b None (Some (get_or p.clauses i []))) (listed_clause j (take i p.ids.items) (take i p.clauses) (take i p.gone.items))) (sym g)) ∙ sym (listed_more j);
-    times = λ m. a.times m ∙ ap (λ n. n + times_long m clause) (k.times m) ∙ ap (λ x. times_kept m (take i p.clauses) (take i p.gone.items) + times_long m x) c
-        ∙ ap (λ b. times_kept m (take i p.clauses) (take i p.gone.items) + cond b 0 (times_long m (get_or p.clauses i []))) (sym g) ∙ sym (counted_more m);
+    clauses = λ j. a.clauses j ∙ (rw (d, c) (ap (λ o. cond (eqb j (get_or p.ids.items i 0)) (Some (get_or p.clauses i [])) o) (k.clauses j)) ∙ ap (λ b. cond (eqb j (get_or p.ids.items i 0)) (cond b None (Some (get_or p.clauses i []))) (listed_clause j (take i p.ids.items) (take i p.clauses) (take i p.removed.items))) (sym g)) ∙ sym (listed_more j);
+    times = λ m. a.times m ∙ ap (λ n. n + count_in_long m clause) (k.times m) ∙ ap (λ x. count_in_kept m (take i p.clauses) (take i p.removed.items) + count_in_long m x) c
+        ∙ ap (λ b. count_in_kept m (take i p.clauses) (take i p.removed.items) + cond b 0 (count_in_long m (get_or p.clauses i []))) (sym g) ∙ sym (counted_more m);
   }
 
   -- a removed clause is not kept
-  pub keeps_not : (kept : Present) (b : Bool) → KeepsFirst p i kept → b ≡ get_or p.gone.items i b → b ≡ true → KeepsFirst p (i + 1) kept
+  pub keeps_not : (kept : Present) (b : Bool) → KeepsFirst p i kept → b ≡ get_or p.removed.items i b → b ≡ true → KeepsFirst p (i + 1) kept
   keeps_not kept t k m f = let g = mark m ∙ f in record {
     store = k.store;
     below = λ b h. k.below b (below_fewer b h).1;
-    clauses = λ j. k.clauses j ∙ gone j (eqb j (get_or p.ids.items i 0)) refl ∙ ap (λ b. cond (eqb j (get_or p.ids.items i 0)) (cond b None (Some (get_or p.clauses i []))) (listed_clause j (take i p.ids.items) (take i p.clauses) (take i p.gone.items))) (sym g) ∙ sym (listed_more j);
-    times = λ m. k.times m ∙ (let z : times_kept m (take i p.clauses) (take i p.gone.items) ≡ times_kept m (take i p.clauses) (take i p.gone.items) + 0 = omega arith in z)
-        ∙ ap (λ b. times_kept m (take i p.clauses) (take i p.gone.items) + cond b 0 (times_long m (get_or p.clauses i []))) (sym g) ∙ sym (counted_more m);
+    clauses = λ j. k.clauses j ∙ removed j (eqb j (get_or p.ids.items i 0)) refl ∙ ap (λ b. cond (eqb j (get_or p.ids.items i 0)) (cond b None (Some (get_or p.clauses i []))) (listed_clause j (take i p.ids.items) (take i p.clauses) (take i p.removed.items))) (sym g) ∙ sym (listed_more j);
+    times = λ m. k.times m ∙ (let z : count_in_kept m (take i p.clauses) (take i p.removed.items) ≡ count_in_kept m (take i p.clauses) (take i p.removed.items) + 0 = omega arith in z)
+        ∙ ap (λ b. count_in_kept m (take i p.clauses) (take i p.removed.items) + cond b 0 (count_in_long m (get_or p.clauses i []))) (sym g) ∙ sym (counted_more m);
   }
     where
-      gone : (j : ℕ) (b : Bool) → eqb j (get_or p.ids.items i 0) ≡ b → listed_clause j (take i p.ids.items) (take i p.clauses) (take i p.gone.items) ≡ cond (eqb j (get_or p.ids.items i 0)) None (listed_clause j (take i p.ids.items) (take i p.clauses) (take i p.gone.items))
-      gone j true e =
+      removed : (j : ℕ) (b : Bool) → eqb j (get_or p.ids.items i 0) ≡ b → listed_clause j (take i p.ids.items) (take i p.clauses) (take i p.removed.items) ≡ cond (eqb j (get_or p.ids.items i 0)) None (listed_clause j (take i p.ids.items) (take i p.clauses) (take i p.removed.items))
+      removed j true e =
           let same = eqb-true j (get_or p.ids.items i 0) e in
-          let none : listed_clause j (take i p.ids.items) (take i p.clauses) (take i p.gone.items) ≡ None = listed-none j (take i p.ids.items) (take i p.clauses) (take i p.gone.items) (λ n l f. let b = first_below n l in omega arith) in
-          none ∙ sym (ap (λ b. cond b None (listed_clause j (take i p.ids.items) (take i p.clauses) (take i p.gone.items))) e)
-      gone j false e = sym (ap (λ b. cond b None (listed_clause j (take i p.ids.items) (take i p.clauses) (take i p.gone.items))) e)
+          let none : listed_clause j (take i p.ids.items) (take i p.clauses) (take i p.removed.items) ≡ None = listed-none j (take i p.ids.items) (take i p.clauses) (take i p.removed.items) (λ n l f. let b = first_below n l in omega arith) in
+          none ∙ sym (ap (λ b. cond b None (listed_clause j (take i p.ids.items) (take i p.clauses) (take i p.removed.items))) e)
+      removed j false e = sym (ap (λ b. cond b None (listed_clause j (take i p.ids.items) (take i p.clauses) (take i p.removed.items))) e)
 
 -- once all clauses were seen, the kept clauses are those present
-pub keeps_all : (p kept : Present) (i : ℕ) → IsStore p → length p.ids.items ≤ i → KeepsFirst p i kept → SamePresentClauses p kept
+pub keeps_all : (p kept : Present) (i : ℕ) → PresentInvariant p → length p.ids.items ≤ i → KeepsFirst p i kept → SamePresentClauses p kept
 keeps_all p kept i s h k =
     let a : take i p.ids.items ≡ p.ids.items = take_all i p.ids.items h in
     let b : take i p.clauses ≡ p.clauses = take_all i p.clauses (subst (λ n. n ≤ i) (sym s.clauses) h) in
-    let c : take i p.gone.items ≡ p.gone.items = take_all i p.gone.items (subst (λ n. n ≤ i) (sym s.gone) h) in
-    record { store = k.store; below = subst (λ xs. (b : ℕ) → AllBelow xs b → AllBelow kept.ids.items b) a k.below; clauses = λ id. k.clauses id ∙ rw (a, b, c) refl; times = λ l. k.times l ∙ times_whole l p.clauses p.gone.items i (s.gone ∙ sym s.clauses) (subst (λ n. n ≤ i) (sym s.clauses) h) }
+    let c : take i p.removed.items ≡ p.removed.items = take_all i p.removed.items (subst (λ n. n ≤ i) (sym s.removed) h) in
+    record { store = k.store; below = subst (λ xs. (b : ℕ) → IdsBelow xs b → IdsBelow kept.ids.items b) a k.below; clauses = λ id. k.clauses id ∙ rw (a, b, c) refl; times = λ l. k.times l ∙ times_whole l p.clauses p.removed.items i (s.removed ∙ sym s.clauses) (subst (λ n. n ≤ i) (sym s.clauses) h) }
 
 -- `IsStoredAt id c ids cs gs` holds if the clause `c` is stored under `id`, at some index.
 pub record IsStoredAt (id : ℕ) (c : List ℕ) (ids : List ℕ) (cs : List (List ℕ)) (gs : List Bool) : Type 0 where

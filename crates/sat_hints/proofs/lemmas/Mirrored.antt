@@ -5,11 +5,11 @@ use Rattle.std.specs.List.{AllByRecursion}
 use Rattle.sat_base.specs.values.Literals.{negated}
 use Rattle.sat_checker.specs.LiteralSets.{is_among, canonical, same_literals}
 use Rattle.sat_checker.specs.Stored.{StoredClause, StoredUnit, Stored, is_unit}
-use Rattle.sat_checker.specs.Storing.{with_count, with_stored_clause, clause_with, unit_id, first_conflict, with_contradiction, with_new_unit, with_long, with_set, new_clause}
-use Rattle.sat_checker.specs.announcements.Announcements.{Announcement, id_of, id_of_set, Notice, notices_over}
+use Rattle.sat_checker.specs.Storing.{with_count, with_stored_clause, clause_with, unit_id, first_conflict, with_contradiction, with_new_unit, with_long_clause, with_sorted_set, new_clause}
+use Rattle.sat_checker.specs.announcements.Announcements.{Announcement, id_of, id_of_set, Notice, notices_of}
 use Rattle.sat_checker.specs.announcements.Promises.{IsOneOf}
 use Rattle.sat_checker.proofs.lemmas.propagation.Soundness.{negated-negated}
-use Rattle.sat_hints.specs.Lines.{Line, Input, Derived, Gone, Core, Fresh}
+use Rattle.sat_hints.specs.Lines.{Line, Input, Derived, Removed, Core, Fresh}
 use Rattle.sat_hints.specs.Hints.{clause_under, least_id, is_long, FollowsLines, IsHintDerivation}
 use Rattle.sat_hints.specs.Conversion.{announced_line, with_line, announced_lines}
 use Rattle.sat_hints.proofs.lemmas.Sound.{still}
@@ -21,7 +21,7 @@ lines_by [] earlier = earlier
 lines_by (a ∷ more) earlier = lines_by more (with_line (announced_line a) earlier)
 
 -- the lines of notices are those of their announcements
-pub reported_lines : (f : Stored) (xs : List Announcement) (earlier : List Line) → announced_lines (notices_over f xs) earlier ≡ lines_by xs earlier
+pub reported_lines : (f : Stored) (xs : List Announcement) (earlier : List Line) → announced_lines (notices_of f xs) earlier ≡ lines_by xs earlier
 reported_lines f [] earlier = refl
 reported_lines f (a ∷ xs) earlier = reported_lines f xs (with_line (announced_line a) earlier)
 
@@ -92,7 +92,7 @@ under_below (Derived i ls ids ∷ lines) d id c e = go (eqb id i) refl (under_be
     go : (b : Bool) → eqb id i ≡ b → (clause_under id lines ≡ Some c → id < least_id lines) → cond b (Some (canonical ls)) (clause_under id lines) ≡ Some c → id < i + 1
     go true s ih e = let k = eqb-true id i s in omega (arith, k)
     go false s ih e = let k = ih e in let o = d.1.in_order in omega (arith, k, o)
-under_below (Gone i ∷ lines) d id c e = go (eqb id i) (under_below lines d.0 id c) e
+under_below (Removed i ∷ lines) d id c e = go (eqb id i) (under_below lines d.0 id c) e
   where
     go : (b : Bool) → (clause_under id lines ≡ Some c → id < least_id lines) → cond b None (clause_under id lines) ≡ Some c → id < least_id lines
     go true ih e = absurd cc
@@ -193,7 +193,7 @@ module _ (lines : List Line) where
       go ih false k = (h.0, ih k)
 
 -- storing a clause again does not change what is present
-long_same : (r : Bool) (ls : List ℕ) (f : Stored) (lines : List Line) (id : ℕ) → id_of (clause_with ls f.clauses) ≡ Some id → Mirrors f lines → Mirrors (with_long r ls f) lines
+long_same : (r : Bool) (ls : List ℕ) (f : Stored) (lines : List Line) (id : ℕ) → id_of (clause_with ls f.clauses) ≡ Some id → Mirrors f lines → Mirrors (with_long_clause r ls f) lines
 long_same r ls f lines id e m = record {
   derivation = m.derivation;
   clauses = under_with lines r f.next_id ls f.clauses (λ n. absurd (let k : ◌≡◌ {A = Option ℕ} None (Some id) = ap id_of (sym n) ∙ e in cc)) m.clauses;
@@ -208,7 +208,7 @@ long_same r ls f lines id e m = record {
     go false k = omega (arith, k)
 
 -- lines and store still agree after a clause that is stored already
-pub set_same : (r : Bool) (ls : List ℕ) (f : Stored) (lines : List Line) (id : ℕ) → id_of_set ls f ≡ Some id → Mirrors f lines → Mirrors (with_set r ls f) lines
+pub set_same : (r : Bool) (ls : List ℕ) (f : Stored) (lines : List Line) (id : ℕ) → id_of_set ls f ≡ Some id → Mirrors f lines → Mirrors (with_sorted_set r ls f) lines
 set_same r [] f lines id e m = absurd cc
 set_same r (l ∷ []) f lines id e m = subst (λ b. Mirrors (cond b f (cond (is_unit f (negated l)) (with_contradiction l f) (with_new_unit l f))) lines) (sym (unit_there l id f.units e)) m
 set_same r (l ∷ k ∷ ls) f lines id e m = long_same r (l ∷ k ∷ ls) f lines id e m
@@ -288,7 +288,7 @@ module _ (line : Line) (set : List ℕ) (f : Stored) (lines : List Line) (new : 
     conflict = conflict_kept;
   }
 
-  long_new : (r : Bool) → clause_with set f.clauses ≡ None → Mirrors (with_long r set f) (line ∷ lines)
+  long_new : (r : Bool) → clause_with set f.clauses ≡ None → Mirrors (with_long_clause r set f) (line ∷ lines)
   long_new r e = record {
     derivation = (m.derivation, new.follows);
     clauses = under_with (line ∷ lines) r f.next_id set f.clauses (λ n. here) clauses_kept;
@@ -302,8 +302,8 @@ module _ (line : Line) (set : List ℕ) (f : Stored) (lines : List Line) (new : 
   }
 
 -- lines and store still agree after a new clause and its line
-pub set_new : (r : Bool) (set : List ℕ) (f : Stored) (lines : List Line) (line : Line) → id_of_set set f ≡ None → NewLine line f.next_id set lines → Mirrors f lines → Mirrors (with_set r set f) (line ∷ lines)
-set_new r [] f lines line e new m = empty_new line [] f lines new m refl (with_set r [] f) refl refl refl refl
+pub set_new : (r : Bool) (set : List ℕ) (f : Stored) (lines : List Line) (line : Line) → id_of_set set f ≡ None → NewLine line f.next_id set lines → Mirrors f lines → Mirrors (with_sorted_set r set f) (line ∷ lines)
+set_new r [] f lines line e new m = empty_new line [] f lines new m refl (with_sorted_set r [] f) refl refl refl refl
 set_new r (l ∷ []) f lines line e new m = subst (λ b. Mirrors (cond b f (cond (is_unit f (negated l)) (with_contradiction l f) (with_new_unit l f))) (line ∷ lines)) (sym (unit_absent l f.units e)) (go (is_unit f (negated l)))
   where
     go : (b : Bool) → Mirrors (cond b (with_contradiction l f) (with_new_unit l f)) (line ∷ lines)

@@ -2,9 +2,9 @@
 use Rattle.std.proofs.Common.{ℕ, ◌+◌, ◌≡◌, Bool, List, [], ◌∷◌, ◌++◌, length, Option, None, Some, refl, sym, ◌∙◌, ap, subst, inl, inr, append-nil}
 use Rattle.sat_base.specs.text.Text.{lines}
 use Rattle.sat_base.specs.text.Tokenizing.{capped}
-use Rattle.sat_hints.specs.Lines.{Line, AreLines, SpellsLine, text_of}
-use Rattle.sat_hints.specs.Hints.{clauses_under, IsInOrder, named_ids, UsesVariable, derives_empty, count_of_cores}
-use Rattle.sat_hints.specs.Checks.{SomeIsNotUnit, LastIsNotFalsified, TriesLine, IsFaultOf, IsAtFault, IsBadAt, IsProof}
+use Rattle.sat_hints.specs.Lines.{Line, LinesAreWithinLimits, SpellsLine, text_of}
+use Rattle.sat_hints.specs.Hints.{clauses_under, IsInOrder, named_ids, RenewsUsedVariable, derives_empty, core_count}
+use Rattle.sat_hints.specs.Checks.{SomeIsNotUnit, LastIsNotFalsified, RefutationFails, IsFaultOf, IsAtFault, IsBadAt, IsProof}
 use Rattle.sat_hints.specs.Laws.{OneVerdict}
 use Rattle.sat_hints.specs.declared.answer.HintVerdict.TheVariants.{Proved, Bad}
 use Rattle.sat_hints.specs.declared.answer.HintWhy.{HintWhy}
@@ -22,10 +22,10 @@ fails_once (c ∷ d ∷ ds) assumed s t = elim s [
 ]
 
 module _ (earlier : List Line) (line : Line) where
-  present_or_not : {F : List ℕ → List (List ℕ) → Type 0} → clauses_under (named_ids line) earlier ≡ None → TriesLine earlier line F → ⊥
+  present_or_not : {F : List ℕ → List (List ℕ) → Type 0} → clauses_under (named_ids line) earlier ≡ None → RefutationFails earlier line F → ⊥
   present_or_not e t = let f : ◌≡◌ {A = Option (List (List ℕ))} None (Some t.clauses) = sym e ∙ t.present in cc
 
-  not_both : TriesLine earlier line SomeIsNotUnit → TriesLine earlier line LastIsNotFalsified → ⊥
+  not_both : RefutationFails earlier line SomeIsNotUnit → RefutationFails earlier line LastIsNotFalsified → ⊥
   not_both s t =
       let f : Some s.clauses ≡ Some t.clauses = sym s.present ∙ t.present in
       let g : Some s.assumed ≡ Some t.assumed = sym s.assumes ∙ t.assumes in
@@ -33,13 +33,13 @@ module _ (earlier : List Line) (line : Line) where
       let under : s.assumed ≡ t.assumed = cc in
       fails_once t.clauses t.assumed (subst (λ a. SomeIsNotUnit a t.clauses) under (subst (SomeIsNotUnit s.assumed) same s.fails)) t.fails
 
-  unused_order : UsesVariable earlier line → (IsInOrder earlier line → ⊥) → ⊥
+  unused_order : RenewsUsedVariable earlier line → (IsInOrder earlier line → ⊥) → ⊥
   unused_order u h = h (uses_in_order earlier line u)
 
-  unused_present : UsesVariable earlier line → clauses_under (named_ids line) earlier ≡ None → ⊥
+  unused_present : RenewsUsedVariable earlier line → clauses_under (named_ids line) earlier ≡ None → ⊥
   unused_present u e = let f : ◌≡◌ {A = Option (List (List ℕ))} None (Some []) = sym e ∙ uses_none earlier line u in cc
 
-  unused_tries : {F : List ℕ → List (List ℕ) → Type 0} → UsesVariable earlier line → TriesLine earlier line F → ⊥
+  unused_tries : {F : List ℕ → List (List ℕ) → Type 0} → RenewsUsedVariable earlier line → RefutationFails earlier line F → ⊥
   unused_tries u t = let f : ◌≡◌ {A = Option (List ℕ)} None (Some t.assumed) = sym (uses_nothing earlier line u) ∙ t.assumes in cc
 
   one_reason : (w v : HintWhy) → IsFaultOf earlier line w → IsFaultOf earlier line v → w ≡ v
@@ -117,7 +117,7 @@ no_texts [] e = refl
 no_texts (l ∷ ls) e = absurd (ends_in (texts_in ls) _ (sym (texts_in-cons l ls) ∙ e))
 
 -- lines with the same texts are equal
-same_lines : (ks ls : List Line) → AreLines ks → AreLines ls → texts_in ks ≡ texts_in ls → ls ≡ ks
+same_lines : (ks ls : List Line) → LinesAreWithinLimits ks → LinesAreWithinLimits ls → texts_in ks ≡ texts_in ls → ls ≡ ks
 same_lines ks ls p q e =
     let a = later_than ks ls [] p q (sym e ∙ sym (append-nil (texts_in ks))) in
     a.are ∙ ap (λ x. x ++ ks) (no_texts a.later a.others)
@@ -146,7 +146,7 @@ module _ (text : List ℕ) (k l : ℕ) (w v : HintWhy) (p : IsBadAt text k w) (q
       at_one_place (beside (texts_in p.earlier) (texts_in q.earlier) p.bytes q.bytes b.0 d.0 (sym b.1 ∙ ap lines (sym p.whole ∙ q.whole) ∙ d.1))
 
 -- EQUAL PROOFS
-texts_of : (text : List ℕ) (ls : List Line) → AreLines ls → text ≡ text_of ls → lines text ≡ texts_in ls
+texts_of : (text : List ℕ) (ls : List Line) → LinesAreWithinLimits ls → text ≡ text_of ls → lines text ≡ texts_in ls
 texts_of text ls p e =
     ap lines (e ∙ sym (append-nil (text_of ls))) ∙ lines_of_text ls [] p ∙ ap (λ x. texts_in ls ++ x) lines_none ∙ append-nil (texts_in ls)
 
@@ -154,7 +154,7 @@ same_proof : (text : List ℕ) (d e : Bool) (c b m n : ℕ) → IsProof text d c
 same_proof text d e c b m n p q =
     let f : q.all ≡ p.all = same_lines p.all q.all p.are q.are (sym (texts_of text p.all p.are p.whole) ∙ texts_of text q.all q.are q.whole) in
     let g : d ≡ e = p.says_empty ∙ ap derives_empty (sym f) ∙ sym q.says_empty in
-    let h : c ≡ b = p.counts_cores ∙ ap (λ (ls : List Line). capped (count_of_cores ls)) (sym f) ∙ sym q.counts_cores in
+    let h : c ≡ b = p.counts_cores ∙ ap (λ (ls : List Line). capped (core_count ls)) (sym f) ∙ sym q.counts_cores in
     let i : m ≡ n = p.counts_lines ∙ ap (λ (ls : List Line). capped (length ls)) (sym f) ∙ sym q.counts_lines in
     ap (λ x. Proved x c m) g ∙ ap (λ x. Proved e x m) h ∙ ap (λ x. Proved e b x) i
 

@@ -9,12 +9,12 @@ use Rattle.sat_base.specs.text.Text.{lines, prepend_to_first}
 use Rattle.sat_base.specs.dimacs.DimacsText.{number_text}
 use Rattle.sat_checker.specs.LiteralSets.{is_among, is_tautology}
 use Rattle.sat_checker.specs.Propagation.{IsUnit, UnitInTurn}
-use Rattle.sat_hints.specs.Lines.{Line, Input, Derived, Gone, Core, Fresh, AreIds, AreLiteralCodes, IsLine, AreLines, spaced_words, id_text, id_words, literal_words, line_text, text_of, HasNoEnd, BeginsWithLine, ended, cut_off}
+use Rattle.sat_hints.specs.Lines.{Line, Input, Derived, Removed, Core, Fresh, AreIds, AreLiteralCodes, LineIsWithinLimits, LinesAreWithinLimits, spaced_words, id_text, id_words, literal_words, line_text, text_of, HasNoLf, BeginsWithLine, ended, cut_off}
 use Rattle.sat_hints.specs.Hints.{named_ids, clauses_under, assumed_by, Conflicts, ConflictsIf, FollowsLines, IsHintDerivation}
 use Rattle.sat_hints.specs.Checks.{SomeIsNotUnit, LastIsNotFalsified, IsFaultOf, IsAtFault}
 use Rattle.sat_hints.specs.Laws.{ProvedIsNotBad}
 use Rattle.sat_hints.specs.inner.LineReading.{IsId, IsLiteralCode}
-use Rattle.sat_base.specs.text.NumberWords.{NoWord}
+use Rattle.sat_base.specs.text.NumberWords.{BeginsWithNoWord}
 use Rattle.sat_hints.specs.declared.answer.HintWhy.{HintWhy}
 use Rattle.sat_hints.specs.declared.answer.HintWhy.TheVariants.{Syntax, IdOrder, UnknownId, NotUnit, NotFalsified, VarInUse}
 use Rattle.sat_base.proofs.lemmas.text.NumberWords.{are_digits}
@@ -70,10 +70,10 @@ module _ (earlier : List Line) (line : Line) (f : FollowsLines earlier line) whe
   never_at_fault NotFalsified h = turn_not_last h.clauses h.assumed (conflict_at h.assumed h.clauses h.assumes h.present h.consistent) h.fails
   never_at_fault VarInUse h = f.unused h
 
-no_literal : (rest : List ℕ) → NoWord number_text IsLiteralCode (48 ∷ rest)
+no_literal : (rest : List ℕ) → BeginsWithNoWord number_text IsLiteralCode (48 ∷ rest)
 no_literal rest x t p f = literals_are_words.no_zero x rest t p f
 
-no_id : (rest : List ℕ) → NoWord id_text IsId (48 ∷ rest)
+no_id : (rest : List ℕ) → BeginsWithNoWord id_text IsId (48 ∷ rest)
 no_id rest x t p f = ids_are_words.no_zero x rest t p f
 
 same_first : (x y : ℕ) (r s : List ℕ) → IsId x → IsId y → id_words (x ∷ []) ++ r ≡ id_words (y ∷ []) ++ s → (x ≡ y) × (r ≡ s)
@@ -97,7 +97,7 @@ same_both ls ks is js a b c d e =
 other_kind : {A : Type 0} (x y : ℕ) (xs ys : List ℕ) → (x ≡ y → ⊥) → x ∷ xs ≡ y ∷ ys → A
 other_kind x y xs ys differ e = absurd (differ (let f : x ≡ y = cc in f))
 
-pub one_line : (k l : Line) → IsLine k → IsLine l → line_text k ≡ line_text l → k ≡ l
+pub one_line : (k l : Line) → LineIsWithinLimits k → LineIsWithinLimits l → line_text k ≡ line_text l → k ≡ l
 one_line (Input i ls) (Input j ks) p q e =
     let f : id_words (i ∷ []) ++ (literal_words ls ++ (48 ∷ 10 ∷ [])) ≡ id_words (j ∷ []) ++ (literal_words ks ++ (48 ∷ 10 ∷ [])) = cc in
     let g = same_first i j _ _ p.0.0 q.0.0 f in
@@ -108,9 +108,9 @@ one_line (Derived i ls is) (Derived j ks js) p q e =
     let g = same_first i j _ _ p.0.0 q.0.0 f in
     let w = same_both ls ks is js p.1 q.1 p.2 q.2 g.1 in
     ap (λ x. Derived x ls is) g.0 ∙ ap (λ x. Derived j x is) w.literals ∙ ap (Derived j ks) w.ids
-one_line (Gone i) (Gone j) p q e =
+one_line (Removed i) (Removed j) p q e =
     let f : id_words (i ∷ []) ++ (48 ∷ 10 ∷ []) ≡ id_words (j ∷ []) ++ (48 ∷ 10 ∷ []) = cc in
-    ap Gone (same_first i j _ _ p.0 q.0 f).0
+    ap Removed (same_first i j _ _ p.0 q.0 f).0
 one_line (Core ls is) (Core ks js) p q e =
     let f : literal_words ls ++ (48 ∷ 32 ∷ (id_words is ++ (48 ∷ 10 ∷ []))) ≡ literal_words ks ++ (48 ∷ 32 ∷ (id_words js ++ (48 ∷ 10 ∷ []))) = cc in
     let w = same_both ls ks is js p.0 q.0 p.1 q.1 f in
@@ -119,61 +119,61 @@ one_line (Fresh v) (Fresh w) p q e =
     let f : id_words (v ∷ []) ++ (48 ∷ 10 ∷ []) ≡ id_words (w ∷ []) ++ (48 ∷ 10 ∷ []) = cc in
     ap Fresh (same_first v w _ _ (omega arith) (omega arith) f).0
 one_line (Input i ls) (Derived j ks js) p q e = other_kind 105 100 _ _ (λ f. omega arith) e
-one_line (Input i ls) (Gone j) p q e = other_kind 105 120 _ _ (λ f. omega arith) e
+one_line (Input i ls) (Removed j) p q e = other_kind 105 120 _ _ (λ f. omega arith) e
 one_line (Input i ls) (Core ks js) p q e = other_kind 105 102 _ _ (λ f. omega arith) e
 one_line (Derived i ls is) (Input j ks) p q e = other_kind 100 105 _ _ (λ f. omega arith) e
-one_line (Derived i ls is) (Gone j) p q e = other_kind 100 120 _ _ (λ f. omega arith) e
+one_line (Derived i ls is) (Removed j) p q e = other_kind 100 120 _ _ (λ f. omega arith) e
 one_line (Derived i ls is) (Core ks js) p q e = other_kind 100 102 _ _ (λ f. omega arith) e
-one_line (Gone i) (Input j ks) p q e = other_kind 120 105 _ _ (λ f. omega arith) e
-one_line (Gone i) (Derived j ks js) p q e = other_kind 120 100 _ _ (λ f. omega arith) e
-one_line (Gone i) (Core ks js) p q e = other_kind 120 102 _ _ (λ f. omega arith) e
+one_line (Removed i) (Input j ks) p q e = other_kind 120 105 _ _ (λ f. omega arith) e
+one_line (Removed i) (Derived j ks js) p q e = other_kind 120 100 _ _ (λ f. omega arith) e
+one_line (Removed i) (Core ks js) p q e = other_kind 120 102 _ _ (λ f. omega arith) e
 one_line (Core ls is) (Input j ks) p q e = other_kind 102 105 _ _ (λ f. omega arith) e
 one_line (Core ls is) (Derived j ks js) p q e = other_kind 102 100 _ _ (λ f. omega arith) e
-one_line (Core ls is) (Gone j) p q e = other_kind 102 120 _ _ (λ f. omega arith) e
+one_line (Core ls is) (Removed j) p q e = other_kind 102 120 _ _ (λ f. omega arith) e
 one_line (Input i ls) (Fresh w) p q e = other_kind 105 101 _ _ (λ f. omega arith) e
 one_line (Derived i ls is) (Fresh w) p q e = other_kind 100 101 _ _ (λ f. omega arith) e
-one_line (Gone i) (Fresh w) p q e = other_kind 120 101 _ _ (λ f. omega arith) e
+one_line (Removed i) (Fresh w) p q e = other_kind 120 101 _ _ (λ f. omega arith) e
 one_line (Core ls is) (Fresh w) p q e = other_kind 102 101 _ _ (λ f. omega arith) e
 one_line (Fresh v) (Input j ks) p q e = other_kind 101 105 _ _ (λ f. omega arith) e
 one_line (Fresh v) (Derived j ks js) p q e = other_kind 101 100 _ _ (λ f. omega arith) e
-one_line (Fresh v) (Gone j) p q e = other_kind 101 120 _ _ (λ f. omega arith) e
+one_line (Fresh v) (Removed j) p q e = other_kind 101 120 _ _ (λ f. omega arith) e
 one_line (Fresh v) (Core ks js) p q e = other_kind 101 102 _ _ (λ f. omega arith) e
 
 -- THE LINES OF A TEXT
-digits_no_end : (ds : List ℕ) → AllDigits 10 ds → HasNoEnd ds
+digits_no_end : (ds : List ℕ) → AllDigits 10 ds → HasNoLf ds
 digits_no_end [] d = tt
 digits_no_end (c ∷ cs) d = ((λ e. let r = digit_from_value c d.0 in omega arith), digits_no_end cs d.1)
 
-words_no_end : (word : ℕ → List ℕ) (P : ℕ → Type 0) → ((x : ℕ) → P x → HasNoEnd (word x)) → (xs : List ℕ) → AllByRecursion P xs → HasNoEnd (spaced_words word xs)
+words_no_end : (word : ℕ → List ℕ) (P : ℕ → Type 0) → ((x : ℕ) → P x → HasNoLf (word x)) → (xs : List ℕ) → AllByRecursion P xs → HasNoLf (spaced_words word xs)
 words_no_end word P each [] h = tt
 words_no_end word P each (x ∷ xs) h = no_end_both (word x) (32 ∷ spaced_words word xs) (each x h.0) ((λ e. omega arith), words_no_end word P each xs h.1)
 
-ids_no_end : (ids : List ℕ) → AreIds ids → HasNoEnd (id_words ids)
+ids_no_end : (ids : List ℕ) → AreIds ids → HasNoLf (id_words ids)
 ids_no_end = words_no_end id_text IsId (λ x p. digits_no_end (decimal (x + 1)) (are_digits (x + 1) (omega arith)))
 
-signed_no_end : (s : Bool) (n : ℕ) → n < 2 ^ 64 → HasNoEnd (cond s [] (45 ∷ []) ++ decimal n)
+signed_no_end : (s : Bool) (n : ℕ) → n < 2 ^ 64 → HasNoLf (cond s [] (45 ∷ []) ++ decimal n)
 signed_no_end true n h = digits_no_end (decimal n) (are_digits n h)
 signed_no_end false n h = ((λ e. omega arith), digits_no_end (decimal n) (are_digits n h))
 
-literals_no_end : (ls : List ℕ) → AreLiteralCodes ls → HasNoEnd (literal_words ls)
+literals_no_end : (ls : List ℕ) → AreLiteralCodes ls → HasNoLf (literal_words ls)
 literals_no_end = words_no_end number_text IsLiteralCode (λ l p. signed_no_end (is_positive l) (variable l + 1) (omega arith))
 
-zero_no_end : HasNoEnd (48 ∷ [])
+zero_no_end : HasNoLf (48 ∷ [])
 zero_no_end = ((λ e. omega arith), tt)
 
-space_no_end : HasNoEnd (48 ∷ 32 ∷ [])
+space_no_end : HasNoLf (48 ∷ 32 ∷ [])
 space_no_end = ((λ e. omega arith), ((λ e. omega arith), tt))
 
 -- so every line is complete
 record Ended (bytes : List ℕ) : Type 0 where
   front : List ℕ
-  inside : HasNoEnd front
+  inside : HasNoLf front
   ended : bytes ≡ front ++ (10 ∷ [])
 
 ended_end : Ended (48 ∷ 10 ∷ [])
 ended_end = record { front = 48 ∷ []; inside = zero_no_end; ended = refl }
 
-ended_following : (xs ys : List ℕ) → HasNoEnd xs → Ended ys → Ended (xs ++ ys)
+ended_following : (xs ys : List ℕ) → HasNoLf xs → Ended ys → Ended (xs ++ ys)
 ended_following xs ys h w = record { front = xs ++ w.front; inside = no_end_both xs w.front h w.inside; ended = ap (λ t. xs ++ t) w.ended ∙ sym (append_assoc xs w.front (10 ∷ [])) }
 
 ended_both : (ls ids : List ℕ) → AreLiteralCodes ls → AreIds ids → Ended (literal_words ls ++ (48 ∷ 32 ∷ (id_words ids ++ (48 ∷ 10 ∷ []))))
@@ -181,15 +181,15 @@ ended_both ls ids p q =
     ended_following (literal_words ls) (48 ∷ 32 ∷ (id_words ids ++ (48 ∷ 10 ∷ []))) (literals_no_end ls p)
     (ended_following (48 ∷ 32 ∷ []) (id_words ids ++ (48 ∷ 10 ∷ [])) space_no_end (ended_following (id_words ids) (48 ∷ 10 ∷ []) (ids_no_end ids q) ended_end))
 
-kind_no_end : (k : ℕ) → (k ≡ 10 → ⊥) → HasNoEnd (k ∷ 32 ∷ [])
+kind_no_end : (k : ℕ) → (k ≡ 10 → ⊥) → HasNoLf (k ∷ 32 ∷ [])
 kind_no_end k h = (h, ((λ e. omega arith), tt))
 
-line_ended : (l : Line) → IsLine l → Ended (line_text l)
+line_ended : (l : Line) → LineIsWithinLimits l → Ended (line_text l)
 line_ended (Input id ls) p =
     ended_following (105 ∷ 32 ∷ []) _ (kind_no_end 105 (λ e. omega arith)) (ended_following (id_words (id ∷ [])) _ (ids_no_end (id ∷ []) p.0) (ended_following (literal_words ls) (48 ∷ 10 ∷ []) (literals_no_end ls p.1) ended_end))
 line_ended (Derived id ls ids) p =
     ended_following (100 ∷ 32 ∷ []) _ (kind_no_end 100 (λ e. omega arith)) (ended_following (id_words (id ∷ [])) _ (ids_no_end (id ∷ []) p.0) (ended_both ls ids p.1 p.2))
-line_ended (Gone id) p = ended_following (120 ∷ 32 ∷ []) _ (kind_no_end 120 (λ e. omega arith)) (ended_following (id_words (id ∷ [])) (48 ∷ 10 ∷ []) (ids_no_end (id ∷ []) p) ended_end)
+line_ended (Removed id) p = ended_following (120 ∷ 32 ∷ []) _ (kind_no_end 120 (λ e. omega arith)) (ended_following (id_words (id ∷ [])) (48 ∷ 10 ∷ []) (ids_no_end (id ∷ []) p) ended_end)
 line_ended (Core ls ids) p = ended_following (102 ∷ 32 ∷ []) _ (kind_no_end 102 (λ e. omega arith)) (ended_both ls ids p.0 p.1)
 line_ended (Fresh v) p = ended_following (101 ∷ 32 ∷ []) _ (kind_no_end 101 (λ e. omega arith)) (ended_following (id_words (v ∷ [])) (48 ∷ 10 ∷ []) (ids_no_end (v ∷ []) (omega arith, tt)) ended_end)
 
@@ -200,7 +200,7 @@ not_ten b h = go (nat_eq b 10) refl
     go true e = absurd (h (eqb-true b 10 e))
     go false e = refl
 
-split_front : (front more : List ℕ) → HasNoEnd front → lines ((front ++ (10 ∷ [])) ++ more) ≡ (front ++ (10 ∷ [])) ∷ lines more
+split_front : (front more : List ℕ) → HasNoLf front → lines ((front ++ (10 ∷ [])) ++ more) ≡ (front ++ (10 ∷ [])) ∷ lines more
 unfolding lines
 split_front [] more h = refl
 split_front (b ∷ bs) more h = rw (not_ten b h.0) (ap (prepend_to_first b) (split_front bs more h.1))
@@ -208,7 +208,7 @@ split_front (b ∷ bs) more h = rw (not_ten b h.0) (ap (prepend_to_first b) (spl
 split_ended : (bytes more : List ℕ) → Ended bytes → lines (bytes ++ more) ≡ bytes ∷ lines more
 split_ended bytes more w = ap (λ t. lines (t ++ more)) w.ended ∙ split_front w.front more w.inside ∙ ap (λ t. t ∷ lines more) (sym w.ended)
 
-split_last : (bytes : List ℕ) → HasNoEnd bytes → (bytes ≡ [] → ⊥) → lines bytes ≡ bytes ∷ []
+split_last : (bytes : List ℕ) → HasNoLf bytes → (bytes ≡ [] → ⊥) → lines bytes ≡ bytes ∷ []
 unfolding lines
 split_last [] h some = absurd (some refl)
 split_last (b ∷ []) h some = rw (not_ten b h.0) refl
@@ -232,7 +232,7 @@ unfolding texts_in
 texts_in-none = refl
 
 -- a text that begins with lines is split at these lines first
-pub lines_of_text : (ls : List Line) (more : List ℕ) → AreLines ls → lines (text_of ls ++ more) ≡ texts_in ls ++ lines more
+pub lines_of_text : (ls : List Line) (more : List ℕ) → LinesAreWithinLimits ls → lines (text_of ls ++ more) ≡ texts_in ls ++ lines more
 lines_of_text [] more h = sym (ap (λ t. t ++ lines more) texts_in-none)
 lines_of_text (l ∷ ls) more h =
     ap lines (append_assoc (text_of ls) (line_text l) more) ∙ lines_of_text ls (line_text l ++ more) h.1 ∙ ap (λ t. texts_in ls ++ t) (split_ended (line_text l) more (line_ended l h.0))
@@ -277,13 +277,13 @@ pub record Later (all earlier : List Line) (more : List (List ℕ)) : Type 0 whe
   pub others : texts_in later ≡ more
 
 -- a text that begins with that of earlier lines has these lines as its earlier ones
-pub later_than : (earlier all : List Line) (more : List (List ℕ)) → AreLines earlier → AreLines all → texts_in all ≡ texts_in earlier ++ more → Later all earlier more
+pub later_than : (earlier all : List Line) (more : List (List ℕ)) → LinesAreWithinLimits earlier → LinesAreWithinLimits all → texts_in all ≡ texts_in earlier ++ more → Later all earlier more
 later_than [] all more p q e = record { later = all; are = sym (append-nil all); others = e ∙ ap (λ x. x ++ more) texts_in-none }
 later_than (l ∷ ls) all more p q e =
     let a = later_than ls all (line_text l ∷ more) p.1 q (e ∙ ap (λ x. x ++ more) (texts_in-cons l ls) ∙ append_assoc (texts_in ls) (line_text l ∷ []) more) in
     let o = oldest a.later (line_text l) more a.others in
     let f : all ≡ o.later ++ (o.line ∷ ls) = a.are ∙ ap (λ x. x ++ ls) o.are ∙ append_assoc o.later (o.line ∷ []) ls in
-    let r : AreLines (o.line ∷ ls) = all_second IsLine o.later (o.line ∷ ls) (subst AreLines f q) in
+    let r : LinesAreWithinLimits (o.line ∷ ls) = all_second LineIsWithinLimits o.later (o.line ∷ ls) (subst LinesAreWithinLimits f q) in
     let same : o.line ≡ l = one_line o.line l r.0 p.0 (sym o.text) in
     record { later = o.later; are = f ∙ ap (λ x. o.later ++ (x ∷ ls)) same; others = o.others }
 
@@ -292,22 +292,22 @@ derived_second [] ys h = h
 derived_second (x ∷ xs) ys h = derived_second xs ys h.0
 
 -- the lines of a text that begins with the earlier ones and these bytes
-pub bad_lines : (earlier : List Line) (bytes rest : List ℕ) → AreLines earlier → BeginsWithLine bytes rest → (more : List (List ℕ)) × (lines (text_of earlier ++ (bytes ++ rest)) ≡ texts_in earlier ++ (bytes ∷ more))
+pub bad_lines : (earlier : List Line) (bytes rest : List ℕ) → LinesAreWithinLimits earlier → BeginsWithLine bytes rest → (more : List (List ℕ)) × (lines (text_of earlier ++ (bytes ++ rest)) ≡ texts_in earlier ++ (bytes ∷ more))
 bad_lines earlier bytes rest p (ended front inside e) = (lines rest, lines_of_text earlier (bytes ++ rest) p ∙ ap (λ x. texts_in earlier ++ x) (split_ended bytes rest (record { front = front; inside = inside; ended = e })))
 bad_lines earlier bytes rest p (cut_off inside some e) = ([], lines_of_text earlier (bytes ++ rest) p ∙ ap (λ x. texts_in earlier ++ x) (ap lines (ap (λ x. bytes ++ x) e ∙ append-nil bytes) ∙ split_last bytes inside some))
 
 -- the bytes of a line that follows the earlier ones are at no fault
-at_no_fault : (earlier : List Line) (bytes : List ℕ) (why : HintWhy) (l : Line) → bytes ≡ line_text l → IsLine l → FollowsLines earlier l → IsAtFault earlier bytes why → ⊥
+at_no_fault : (earlier : List Line) (bytes : List ℕ) (why : HintWhy) (l : Line) → bytes ≡ line_text l → LineIsWithinLimits l → FollowsLines earlier l → IsAtFault earlier bytes why → ⊥
 at_no_fault earlier bytes Syntax l e p f h = h l (p, e)
 at_no_fault earlier bytes z l e p f h = never_at_fault earlier l f z (subst (λ x. IsFaultOf earlier x z) (one_line h.0 l h.1.0 p (sym h.1.1 ∙ e)) h.2)
 
 -- so a derivation has no line at fault
-pub derivation_has_none : (all earlier : List Line) (bytes : List ℕ) (more : List (List ℕ)) (why : HintWhy) → AreLines all → IsHintDerivation all → AreLines earlier → texts_in all ≡ texts_in earlier ++ (bytes ∷ more) → IsAtFault earlier bytes why → ⊥
+pub derivation_has_none : (all earlier : List Line) (bytes : List ℕ) (more : List (List ℕ)) (why : HintWhy) → LinesAreWithinLimits all → IsHintDerivation all → LinesAreWithinLimits earlier → texts_in all ≡ texts_in earlier ++ (bytes ∷ more) → IsAtFault earlier bytes why → ⊥
 derivation_has_none all earlier bytes more why p d q e h =
     let a = later_than earlier all (bytes ∷ more) q p e in
     let o = oldest a.later bytes more a.others in
     let f : all ≡ o.later ++ (o.line ∷ earlier) = a.are ∙ ap (λ x. x ++ earlier) o.are ∙ append_assoc o.later (o.line ∷ []) earlier in
-    let r : AreLines (o.line ∷ earlier) = all_second IsLine o.later (o.line ∷ earlier) (subst AreLines f p) in
+    let r : LinesAreWithinLimits (o.line ∷ earlier) = all_second LineIsWithinLimits o.later (o.line ∷ earlier) (subst LinesAreWithinLimits f p) in
     let g : IsHintDerivation (o.line ∷ earlier) = derived_second o.later (o.line ∷ earlier) (subst IsHintDerivation f d) in
     at_no_fault earlier bytes why o.line o.text r.0 g.1 h
 

@@ -3,10 +3,10 @@ use Rattle.std.proofs.Common.{ℕ, ◌+◌, ◌/◌, ◌^◌, ◌<◌, ◌≡◌
 use Rattle.std.proofs.lemmas.Fmt.{decimal_nonempty, first_decimal}
 use Rattle.sat_base.specs.values.Literals.{var_limit, is_positive}
 use Rattle.sat_base.specs.dimacs.DimacsText.{number_text}
-use Rattle.sat_hints.specs.Lines.{HasNoEnd, id_text, id_words, literal_words}
+use Rattle.sat_hints.specs.Lines.{HasNoLf, id_text, id_words, literal_words}
 use Rattle.sat_hints.specs.inner.LineReading.{IsLiteralCode}
-use Rattle.sat_base.specs.text.NumberWords.{IsNumberUpTo, NoDigit, digits_so_far}
-use Rattle.sat_hints.specs.inner.Prefixes.{limit_of, next_of, zero_place, sign_place, Numbered, IsPartOfLine, IsRestOfLine, IsLeftIf, LeadsToPlace}
+use Rattle.sat_base.specs.text.NumberWords.{IsNumberUpTo, NoNumberContinues, digits_so_far}
+use Rattle.sat_hints.specs.inner.Prefixes.{limit_of, next_of, zero_place, sign_place, IsNumberThen, IsPartOfLine, IsRestOfLine, IsRestOfLineFrom, LeadsToPlace}
 use Rattle.sat_hints.specs.declared.prefixes.Part.{Part}
 use Rattle.sat_hints.specs.declared.prefixes.Part.TheVariants.{Clause, Lists, Ids, End}
 use Rattle.sat_hints.specs.declared.prefixes.Place.{Place}
@@ -25,14 +25,14 @@ limit_fits e = omega arith
 
 -- `Turn part bytes` holds if the part begins with a number, with `-` and a number, or with `0`.
 data Turn (part : Part) (bytes : List ℕ) : Type 0 where
-  begun : Numbered (limit_of part) (IsPartOfLine (next_of part)) 0 bytes → Turn part bytes
-  negative : (rest : List ℕ) → bytes ≡ 45 ∷ rest → IsLeftIf (sign_place part) rest → Turn part bytes
-  last : (rest : List ℕ) → bytes ≡ 48 ∷ rest → IsLeftIf (zero_place part) rest → Turn part bytes
+  begun : IsNumberThen (limit_of part) (IsPartOfLine (next_of part)) 0 bytes → Turn part bytes
+  negative : (rest : List ℕ) → bytes ≡ 45 ∷ rest → IsRestOfLineFrom (sign_place part) rest → Turn part bytes
+  last : (rest : List ℕ) → bytes ≡ 48 ∷ rest → IsRestOfLineFrom (zero_place part) rest → Turn part bytes
 
 -- `Signed Rest bytes` holds if the bytes begin with a literal and a space, and `Rest` holds of what follows.
 data Signed (Rest : List ℕ → Type 0) (bytes : List ℕ) : Type 0 where
-  plain : Numbered var_limit Rest 0 bytes → Signed Rest bytes
-  minus : (rest : List ℕ) → bytes ≡ 45 ∷ rest → Numbered var_limit Rest 0 rest → Signed Rest bytes
+  plain : IsNumberThen var_limit Rest 0 bytes → Signed Rest bytes
+  minus : (rest : List ℕ) → bytes ≡ 45 ∷ rest → IsNumberThen var_limit Rest 0 rest → Signed Rest bytes
 
 signed : (Rest : List ℕ → Type 0) (l : ℕ) (rest bytes : List ℕ) → IsLiteralCode l → bytes ≡ number_text l ++ (32 ∷ rest) → Rest rest → Signed Rest bytes
 signed Rest l rest bytes p e r = go (is_positive l) e
@@ -62,7 +62,7 @@ turn End bytes e = last (10 ∷ []) e refl
 turn x bytes h = begun h
 
 -- no number begins with `0`
-not_zero : (part : Part) (Rest : List ℕ → Type 0) (more : List ℕ) → Numbered (limit_of part) Rest 0 (48 ∷ more) → ⊥
+not_zero : (part : Part) (Rest : List ℕ → Type 0) (more : List ℕ) → IsNumberThen (limit_of part) Rest 0 (48 ∷ more) → ⊥
 not_zero part Rest more w =
     let f = limit_fits part in
     let k = w.within in
@@ -72,24 +72,24 @@ not_zero part Rest more w =
 pub leads_zero : (part : Part) → LeadsToPlace (Item part) (48 ∷ []) (zero_place part)
 leads_zero part more h = go (turn part (48 ∷ more) h)
   where
-    go : Turn part (48 ∷ more) → IsLeftIf (zero_place part) more
+    go : Turn part (48 ∷ more) → IsRestOfLineFrom (zero_place part) more
     go (begun w) = absurd (not_zero part (IsPartOfLine (next_of part)) more w)
     go (negative rest e w) = absurd (let r : ◌≡◌ {A = ℕ} 48 45 = cc in omega arith)
-    go (last rest e w) = let r : rest ≡ more = cc in subst (IsLeftIf (zero_place part)) r w
+    go (last rest e w) = let r : rest ≡ more = cc in subst (IsRestOfLineFrom (zero_place part)) r w
 
 pub leads_sign : (part : Part) → LeadsToPlace (Item part) (45 ∷ []) (sign_place part)
 leads_sign part more h = go (turn part (45 ∷ more) h)
   where
-    go : Turn part (45 ∷ more) → IsLeftIf (sign_place part) more
+    go : Turn part (45 ∷ more) → IsRestOfLineFrom (sign_place part) more
     go (begun w) = absurd (let f = limit_fits part in let k = w.within in no_sign w.value w.rest more (omega arith) (sym w.whole))
-    go (negative rest e w) = let r : rest ≡ more = cc in subst (IsLeftIf (sign_place part)) r w
+    go (negative rest e w) = let r : rest ≡ more = cc in subst (IsRestOfLineFrom (sign_place part)) r w
     go (last rest e w) = absurd (let r : ◌≡◌ {A = ℕ} 45 48 = cc in omega arith)
 
 -- any other byte begins a number
 pub leads_digit : (part : Part) (b : ℕ) (to : Option Place) → (b ≡ 48 → ⊥) → (b ≡ 45 → ⊥) → LeadsToPlace (Digits part 0) (b ∷ []) to → LeadsToPlace (Item part) (b ∷ []) to
 leads_digit part b to no_zero no_minus leads more h = go (turn part (b ∷ more) h)
   where
-    go : Turn part (b ∷ more) → IsLeftIf to more
+    go : Turn part (b ∷ more) → IsRestOfLineFrom to more
     go (begun w) = leads more w
     go (negative rest e w) = absurd (no_minus (let r : b ≡ 45 = cc in r))
     go (last rest e w) = absurd (no_zero (let r : b ≡ 48 = cc in r))
@@ -113,7 +113,7 @@ number_goes part number b m within e more w = record {
 }
 
 -- no line continues with a byte that neither continues nor ends the number
-pub number_stops : (part : Part) (number b : ℕ) → number < 2 ^ 64 → (b ≡ 32 → number ≡ 0) → NoDigit (limit_of part) number b → LeadsToPlace (Digits part number) (b ∷ []) None
+pub number_stops : (part : Part) (number b : ℕ) → number < 2 ^ 64 → (b ≡ 32 → number ≡ 0) → NoNumberContinues (limit_of part) number b → LeadsToPlace (Digits part number) (b ∷ []) None
 number_stops part number b small space none more w =
     let r = number_goes_on (limit_of part) (limit_fits part) number b more w.value w.rest small space w.within w.whole in
     none w.value r.0 w.within r.1
@@ -121,5 +121,5 @@ number_stops part number b small space none more w =
 -- `LeadsSoFar from bytes here rest` holds if the bytes read so far lead from one place to another, and `rest` was not
 -- read yet.
 pub record LeadsSoFar (from : Place) (bytes : List ℕ) (here : Place) (rest : List ℕ) : Type 0 where
-  pub inside : HasNoEnd rest
+  pub inside : HasNoLf rest
   pub leads : (more : List ℕ) → IsRestOfLine from (bytes ++ more) → IsRestOfLine here (rest ++ more)

@@ -7,30 +7,30 @@ use Rattle.sat_base.specs.device.Device.{Writer}
 use Rattle.sat_base.specs.device.Sink.{Sink, AddsToSink}
 use Rattle.sat_base.proofs.lemmas.device.Sending.{sent_none, sent_more, sends_stops, sends_breaks, piece_waits}
 use Rattle.sat_hints.specs.Lines.{spaced_words}
-use Rattle.sat_hints.specs.inner.LineWriting.{Outlet, PutBy, PutFrom, PutsText}
+use Rattle.sat_hints.specs.inner.LineWriting.{Outlet, PutOrFailed, PutUnlessFailed, PutsText}
 
-put_none_from : (b : Bool) (a : Outlet) → a.failed ≡ b → PutFrom b [] a a
+put_none_from : (b : Bool) (a : Outlet) → a.failed ≡ b → PutUnlessFailed b [] a a
 put_none_from true a e = refl
-put_none_from false a e = subst (λ f. PutBy f [] a.sink a.sink) (sym e) (sent_none a.sink)
+put_none_from false a e = subst (λ f. PutOrFailed f [] a.sink a.sink) (sym e) (sent_none a.sink)
 
 pub put_none : (a : Outlet) → PutsText [] a a
 put_none a = put_none_from a.failed a refl
 
 -- one text, and then another
-write_out_and_put_sent : (b c : Bool) (xs ys : List ℕ) (s t u : Sink) → AddsToSink s t xs → PutBy c ys t u → PutBy c (xs ++ ys) s u
+write_out_and_put_sent : (b c : Bool) (xs ys : List ℕ) (s t u : Sink) → AddsToSink s t xs → PutOrFailed c ys t u → PutOrFailed c (xs ++ ys) s u
 write_out_and_put_sent b false xs ys s t u h k = sent_more s t u xs ys h k
 write_out_and_put_sent b true xs ys s t u h k = sends_breaks s t u xs ys h k
 
 pub put_more : (xs ys : List ℕ) (a b c : Outlet) → PutsText xs a b → PutsText ys b c → PutsText (xs ++ ys) a c
 put_more xs ys a b c h k = go a.failed b.failed refl refl h k
   where
-    go : (f g : Bool) → a.failed ≡ f → b.failed ≡ g → PutFrom f xs a b → PutFrom g ys b c → PutFrom f (xs ++ ys) a c
+    go : (f g : Bool) → a.failed ≡ f → b.failed ≡ g → PutUnlessFailed f xs a b → PutUnlessFailed g ys b c → PutUnlessFailed f (xs ++ ys) a c
     go true true e d h k = k ∙ h
     go true false e d h k = absurd (let z : true ≡ false = sym e ∙ ap (λ o. o.failed) (sym h) ∙ d in cc)
     go false true e d h k =
-        let broken = subst (λ f. PutBy f xs a.sink b.sink) d h in
-        subst (λ z. PutBy z.failed (xs ++ ys) a.sink z.sink) (sym k) (subst (λ f. PutBy f (xs ++ ys) a.sink b.sink) (sym d) (sends_stops a.sink b.sink xs ys broken))
-    go false false e d h k = write_out_and_put_sent false c.failed xs ys a.sink b.sink c.sink (subst (λ f. PutBy f xs a.sink b.sink) d h) k
+        let broken = subst (λ f. PutOrFailed f xs a.sink b.sink) d h in
+        subst (λ z. PutOrFailed z.failed (xs ++ ys) a.sink z.sink) (sym k) (subst (λ f. PutOrFailed f (xs ++ ys) a.sink b.sink) (sym d) (sends_stops a.sink b.sink xs ys broken))
+    go false false e d h k = write_out_and_put_sent false c.failed xs ys a.sink b.sink c.sink (subst (λ f. PutOrFailed f xs a.sink b.sink) d h) k
 
 pub put_same : (xs ys : List ℕ) (a b : Outlet) → xs ≡ ys → PutsText xs a b → PutsText ys a b
 put_same xs ys a b e h = subst (λ t. PutsText t a b) e h

@@ -6,10 +6,10 @@ use Rattle.sat_base.specs.values.Literals.{var_limit, is_positive}
 use Rattle.sat_base.specs.dimacs.DimacsText.{number_text}
 use Rattle.sat_base.specs.text.NumberWords.{IsNumberUpTo, digits_so_far}
 use Rattle.sat_base.proofs.lemmas.text.NumberWords.{so_far}
-use Rattle.sat_hints.specs.Lines.{Line, Input, Derived, Gone, Core, Fresh, SpellsLine, id_text, id_words, literal_words}
-use Rattle.sat_hints.specs.inner.Prefixes.{limit_of, next_of, letter_place, zero_place, sign_place, Numbered, IsPartOfLine, IsRestOfLine, IsWithinLimit, ReachesPlace}
+use Rattle.sat_hints.specs.Lines.{Line, Input, Derived, Removed, Core, Fresh, SpellsLine, id_text, id_words, literal_words}
+use Rattle.sat_hints.specs.inner.Prefixes.{limit_of, next_of, letter_place, zero_place, sign_place, IsNumberThen, IsPartOfLine, IsRestOfLine, IsWithinLimit, ReachesPlace}
 use Rattle.sat_hints.specs.declared.prefixes.Part.{Part}
-use Rattle.sat_hints.specs.declared.prefixes.Part.TheVariants.{InputId, DerivedId, GoneId, FreshVar, Clause, Lists, Ids, End}
+use Rattle.sat_hints.specs.declared.prefixes.Part.TheVariants.{InputId, DerivedId, RemovedId, FreshVar, Clause, Lists, Ids, End}
 use Rattle.sat_hints.specs.declared.prefixes.Place.{Place}
 use Rattle.sat_hints.specs.declared.prefixes.Place.TheVariants.{Letter, Space, Item, Digits, Over}
 
@@ -65,10 +65,10 @@ lists_of l text rest bytes p e f (ls, ids, o) = (l ∷ ls, ids, ((p, o.0), o.1, 
 ids_of : (v : ℕ) (rest bytes : List ℕ) → IsNumberUpTo (2 ^ 64 - 1) v → bytes ≡ decimal v ++ (32 ∷ rest) → IsPartOfLine Ids rest → IsPartOfLine Ids bytes
 ids_of v rest bytes w f (ids, are, e) = ((v - 1) ∷ ids, ((let a = w.0 in let b = w.1 in omega arith), are), f ∙ id_first_of v ids rest end w.0 e)
 
-number_first : (part : Part) (bytes : List ℕ) → (part ≡ End → ⊥) → Numbered (limit_of part) (IsPartOfLine (next_of part)) 0 bytes → IsPartOfLine part bytes
+number_first : (part : Part) (bytes : List ℕ) → (part ≡ End → ⊥) → IsNumberThen (limit_of part) (IsPartOfLine (next_of part)) 0 bytes → IsPartOfLine part bytes
 number_first InputId bytes h n = n
 number_first DerivedId bytes h n = n
-number_first GoneId bytes h n = n
+number_first RemovedId bytes h n = n
 number_first FreshVar bytes h n = n
 number_first Clause bytes h n = let w = n.within in let a = w.0 in let b = w.1 in clause_of (positive n.value) (decimal n.value) n.rest bytes (omega arith) (positive_text n.value a) n.whole n.following
 number_first Lists bytes h n = let w = n.within in let a = w.0 in let b = w.1 in lists_of (positive n.value) (decimal n.value) n.rest bytes (omega arith) (positive_text n.value a) n.whole n.following
@@ -79,7 +79,7 @@ number_first End bytes h n = absurd (h refl)
 pub reaches_zero : (part : Part) → ReachesPlace (Item part) (48 ∷ []) (zero_place part)
 reaches_zero InputId = tt
 reaches_zero DerivedId = tt
-reaches_zero GoneId = tt
+reaches_zero RemovedId = tt
 reaches_zero FreshVar = tt
 reaches_zero Clause = λ w. (tt, λ more e. ([], (tt, ap (λ t. 48 ∷ t) e)))
 reaches_zero Lists = λ w. (tt, λ more r. go more r.0 r.1 r.2)
@@ -92,7 +92,7 @@ reaches_zero End = λ w. (tt, λ more e. ap (λ t. 48 ∷ t) e)
 pub reaches_sign : (part : Part) → ReachesPlace (Item part) (45 ∷ []) (sign_place part)
 reaches_sign InputId = tt
 reaches_sign DerivedId = tt
-reaches_sign GoneId = tt
+reaches_sign RemovedId = tt
 reaches_sign FreshVar = tt
 reaches_sign Clause = λ w. (omega arith, λ more n. let k = n.within in let a = k.0 in let b = k.1 in clause_of (negative n.value) (45 ∷ decimal n.value) n.rest (45 ∷ more) (omega arith) (negative_text n.value a) (ap (λ t. 45 ∷ t) n.whole) n.following)
 reaches_sign Lists = λ w. (omega arith, λ more n. let k = n.within in let a = k.0 in let b = k.1 in lists_of (negative n.value) (45 ∷ decimal n.value) n.rest (45 ∷ more) (omega arith) (negative_text n.value a) (ap (λ t. 45 ∷ t) n.whole) n.following)
@@ -154,11 +154,11 @@ input_line bytes n = go n.following
         let b = n.within.1 in
         (Input (n.value - 1) ls, (((omega arith, tt), o.0), ap (λ t. 105 ∷ 32 ∷ t) (n.whole ∙ id_then n.value n.rest (literal_words ls ++ end) a o.1)))
 
-gone_line : (bytes : List ℕ) → IsPartOfLine GoneId bytes → (line : Line) × SpellsLine (120 ∷ 32 ∷ bytes) line
+gone_line : (bytes : List ℕ) → IsPartOfLine RemovedId bytes → (line : Line) × SpellsLine (120 ∷ 32 ∷ bytes) line
 gone_line bytes n =
     let a = n.within.0 in
     let b = n.within.1 in
-    (Gone (n.value - 1), ((omega arith, tt), ap (λ t. 120 ∷ 32 ∷ t) (n.whole ∙ id_then n.value n.rest end a n.following)))
+    (Removed (n.value - 1), ((omega arith, tt), ap (λ t. 120 ∷ 32 ∷ t) (n.whole ∙ id_then n.value n.rest end a n.following)))
 
 fresh_line : (bytes : List ℕ) → IsPartOfLine FreshVar bytes → (line : Line) × SpellsLine (101 ∷ 32 ∷ bytes) line
 fresh_line bytes n =
@@ -179,7 +179,7 @@ choose false b letter p q e h k = k
 pub reaches_letter : (b : ℕ) → ReachesPlace Letter (b ∷ []) (letter_place b)
 reaches_letter b =
     choose (eqb b 100) b 100 _ _ refl (reaches_space 100 DerivedId derived_line)
-    (choose (eqb b 120) b 120 _ _ refl (reaches_space 120 GoneId gone_line)
+    (choose (eqb b 120) b 120 _ _ refl (reaches_space 120 RemovedId gone_line)
     (choose (eqb b 105) b 105 _ _ refl (reaches_space 105 InputId input_line)
     (choose (eqb b 102) b 102 _ _ refl (reaches_space 102 Lists core_line)
     (choose (eqb b 101) b 101 _ _ refl (reaches_space 101 FreshVar fresh_line) tt))))
@@ -195,13 +195,13 @@ one_text : decimal 1 ≡ 49 ∷ []
 one_text = decimal_digit 1 (omega arith)
 
 -- the number 1, and then the rest of the part
-one_more : (limit : ℕ) (Rest : List ℕ → Type 0) (b : ℕ) (more : List ℕ) → 1 ≤ limit → Rest (b ∷ more) → Numbered limit Rest 0 (49 ∷ 32 ∷ b ∷ more)
+one_more : (limit : ℕ) (Rest : List ℕ → Type 0) (b : ℕ) (more : List ℕ) → 1 ≤ limit → Rest (b ∷ more) → IsNumberThen limit Rest 0 (49 ∷ 32 ∷ b ∷ more)
 one_more limit Rest b more h r = record { value = 1; rest = b ∷ more; within = (omega arith, h); whole = ap (λ ds. ds ++ (32 ∷ b ∷ more)) (sym one_text); following = r }
 
 part_completes : (part : Part) → CompletesPart part
 part_completes InputId = (49, 32 ∷ end, one_more _ _ 48 (10 ∷ []) (omega arith) ([], (tt, refl)))
 part_completes DerivedId = (49, 32 ∷ 48 ∷ 32 ∷ end, one_more _ _ 48 (32 ∷ end) (omega arith) ([], [], (tt, tt, refl)))
-part_completes GoneId = (49, 32 ∷ end, one_more _ _ 48 (10 ∷ []) (omega arith) refl)
+part_completes RemovedId = (49, 32 ∷ end, one_more _ _ 48 (10 ∷ []) (omega arith) refl)
 part_completes FreshVar = (49, 32 ∷ end, one_more _ _ 48 (10 ∷ []) (omega arith) refl)
 part_completes Clause = (48, 10 ∷ [], ([], (tt, refl)))
 part_completes Lists = (48, 32 ∷ end, ([], [], (tt, tt, refl)))
@@ -218,7 +218,7 @@ digits_complete part (suc n) w = let c = part_completes (next_of part) in (32, c
 
 -- every place within its limit is completed by some bytes
 pub completes : (place : Place) → IsWithinLimit place → Completes place
-completes Letter w = (120, 32 ∷ 49 ∷ 32 ∷ end, (Gone 0, ((omega arith, tt), ap (λ ds. 120 ∷ 32 ∷ ((ds ++ (32 ∷ [])) ++ end)) (sym one_text))))
+completes Letter w = (120, 32 ∷ 49 ∷ 32 ∷ end, (Removed 0, ((omega arith, tt), ap (λ ds. 120 ∷ 32 ∷ ((ds ++ (32 ∷ [])) ++ end)) (sym one_text))))
 completes (Space part) w = let c = part_completes part in (32, c.0 ∷ c.1, (c.0 ∷ c.1, refl, c.2))
 completes (Item part) w = part_completes part
 completes (Digits part number) w = digits_complete part number w

@@ -18,5 +18,5 @@ pub proof_is_proved : ProofIsProved
 proof_is_proved text empty cores lines (Err fault) from to p text_is g = tt
 proof_is_proved text empty cores lines (Ok verdict) from to p text_is g =
     let t = reported_left text from.to_come to.to_come g.text text_is g.front.known_bytes in
-    let judged : VerdictHolds verdict (g.text ++ t.0) = g.holds t.0 (λ called ended. subst IsAtEnd t.1 (g.over called ended)) in
-    one_verdict text verdict (Proved empty cores lines) (subst (VerdictHolds verdict) (sym t.2) judged) p
+    let on_error : VerdictHolds verdict (g.text ++ t.0) = g.holds t.0 (λ called ended. subst IsAtEnd t.1 (g.over called ended)) in
+    one_verdict text verdict (Proved empty cores lines) (subst (VerdictHolds verdict) (sym t.2) on_error) p

@@ -4,10 +4,10 @@ use Rattle.std.proofs.lemmas.Bool.{or_cases, or_left, or_right, both_ways, eqb-t
 use Rattle.std.proofs.lemmas.List.{take_more, take_all, take-append-drop, get_or-map, length-map}
 use Rattle.sat_base.specs.values.Literals.{negated, negated_if}
 use Rattle.sat_checker.specs.LiteralSets.{is_among, is_tautology}
-use Rattle.sat_checker.specs.inner.AssumedRoom.{AgreesOn, signed}
+use Rattle.sat_checker.specs.inner.AssumedRoom.{AgreeWithinRoom, signed}
 use Rattle.sat_checker.proofs.lemmas.sets.Canonical.{tautology_from, both_signs}
 use Rattle.sat_checker.proofs.lemmas.sets.Order.{among-append}
-use Rattle.sat_hints.specs.inner.Course.{AreJustAssumed}
+use Rattle.sat_hints.specs.inner.Refutation.{AreExactlyAssumed}
 
 -- `OneSign ls` holds if no literal is in the list together with its negation.
 abbrev pub OneSign : List ℕ → Type 0
@@ -15,7 +15,7 @@ OneSign ls = (l : ℕ) → is_among ls l ≡ true → is_among ls (negated l) �
 
 -- `AssumesFirst ls count assumed` holds if the first `count` literals are assumed, none together with its negation.
 pub record AssumesFirst (ls : List ℕ) (count : ℕ) (assumed : List ℕ) : Type 0 where
-  pub are : AreJustAssumed (take count ls) assumed
+  pub are : AreExactlyAssumed (take count ls) assumed
   pub one_sign : OneSign (take count ls)
 
 pub assumes_none : (ls assumed : List ℕ) → assumed ≡ [] → AssumesFirst ls 0 assumed
@@ -128,22 +128,22 @@ no_both ls one = go (is_tautology ls) refl
 -- `AssumesAll ls assumed` holds if all literals are assumed, and none is together with its negation.
 pub record AssumesAll (ls assumed : List ℕ) : Type 0 where
   pub consistent : is_tautology ls ≡ false
-  pub are : AreJustAssumed ls assumed
+  pub are : AreExactlyAssumed ls assumed
 
 pub assumes_all : (ls assumed : List ℕ) (i : ℕ) → length ls ≤ i → AssumesFirst ls i assumed → AssumesAll ls assumed
 assumes_all ls assumed i h so_far =
     let e : take i ls ≡ ls = take_all i ls h in
-    record { consistent = no_both ls (subst OneSign e so_far.one_sign); are = subst (λ xs. AreJustAssumed xs assumed) e so_far.are }
+    record { consistent = no_both ls (subst OneSign e so_far.one_sign); are = subst (λ xs. AreExactlyAssumed xs assumed) e so_far.are }
 
 -- AS FAR AS THERE IS ROOM
 -- one more literal is assumed, if there is room for it
-pub agrees_more : (negate : Bool) (ls : List ℕ) (i item next : ℕ) (room assumed new : List ℕ) → i < length ls → item ≡ get_or ls i item → next ≡ negated_if negate item → AgreesOn room assumed (take i (signed negate ls))
-    → AgreesOn room new (next ∷ assumed) → AgreesOn room new (take (i + 1) (signed negate ls))
+pub agrees_more : (negate : Bool) (ls : List ℕ) (i item next : ℕ) (room assumed new : List ℕ) → i < length ls → item ≡ get_or ls i item → next ≡ negated_if negate item → AgreeWithinRoom room assumed (take i (signed negate ls))
+    → AgreeWithinRoom room new (next ∷ assumed) → AgreeWithinRoom room new (take (i + 1) (signed negate ls))
 agrees_more negate ls i item next room assumed new inside is x so_far a =
     let inner : i < length (signed negate ls) = subst (λ n. i < n) (sym (length-signed negate ls)) inside in
     λ m r. a m r ∙ ap (λ b. eqb next m || b) (so_far m r) ∙ ap (λ y. eqb y m || is_among (take i (signed negate ls)) m) (lit_at negate ls i item next inside is x) ∙ among_last (signed negate ls) i inner m
 
 -- once all literals were seen, those assumed agree with them, as far as there is room
-pub agrees_all : (negate : Bool) (ls : List ℕ) (i : ℕ) (room assumed : List ℕ) → length ls ≤ i → AgreesOn room assumed (take i (signed negate ls)) → AgreesOn room assumed (signed negate ls)
+pub agrees_all : (negate : Bool) (ls : List ℕ) (i : ℕ) (room assumed : List ℕ) → length ls ≤ i → AgreeWithinRoom room assumed (take i (signed negate ls)) → AgreeWithinRoom room assumed (signed negate ls)
 agrees_all negate ls i room assumed h so_far =
-    subst (λ xs. AgreesOn room assumed xs) (take_all i (signed negate ls) (subst (λ n. n ≤ i) (sym (length-signed negate ls)) h)) so_far
+    subst (λ xs. AgreeWithinRoom room assumed xs) (take_all i (signed negate ls) (subst (λ n. n ≤ i) (sym (length-signed negate ls)) h)) so_far

@@ -7,16 +7,16 @@ use Rattle.sat_base.specs.values.Literals.{negated}
 use Rattle.sat_base.specs.values.Tables.{value_at}
 use Rattle.sat_checker.specs.LiteralSets.{canonical, is_tautology}
 use Rattle.sat_checker.specs.SortedSets.{NoRepeats}
-use Rattle.sat_checker.specs.inner.AssumedRoom.{HasClauseRoom, RoomStays, signed}
+use Rattle.sat_checker.specs.inner.AssumedRoom.{HasClauseRoom, RoomIsKept, signed}
 use Rattle.sat_checker.proofs.lemmas.sets.Canonical.{canonical_increasing}
 use Rattle.sat_checker.proofs.lemmas.sets.Marks.{once}
-use Rattle.sat_hints.specs.Lines.{Line, Input, Derived, Gone, Core, Fresh}
-use Rattle.sat_hints.specs.Hints.{and_clauses, clause_under, clauses_under, IsInOrder, named_ids, assumed_by, ConflictsIf, Conflicts, FollowsLines, is_empty, derives_empty, count_of_cores}
+use Rattle.sat_hints.specs.Lines.{Line, Input, Derived, Removed, Core, Fresh}
+use Rattle.sat_hints.specs.Hints.{and_clauses, clause_under, clauses_under, IsInOrder, named_ids, assumed_by, ConflictsIf, Conflicts, FollowsLines, is_empty, derives_empty, core_count}
 use Rattle.sat_hints.specs.Checks.{IsFaultOf}
-use Rattle.sat_hints.specs.inner.Clauses.{AllBelow}
-use Rattle.sat_hints.specs.inner.ActiveClauses.{active_clause, active_clauses, AddsActiveClause, DropsClause, HasRoomForPresent, ActiveClausesInvariant, IsUsed, SinceWithin}
-use Rattle.sat_hints.specs.inner.Course.{refutation_failure, WhyNoConflict}
-use Rattle.sat_hints.specs.inner.LineChecking.{IsReadyChecker, HasTakenLines, IsSame, MayFollow, WhyNotRefuted, StoresClause, TakesOne}
+use Rattle.sat_hints.specs.inner.Clauses.{IdsBelow}
+use Rattle.sat_hints.specs.inner.ActiveClauses.{active_clause, active_clauses, AddsActiveClause, RemovesActiveClause, HasRoomForPresent, ActiveClausesInvariant, IsUsed, UnitBoundsWithin}
+use Rattle.sat_hints.specs.inner.Refutation.{refutation_failure, WhyNoConflict}
+use Rattle.sat_hints.specs.inner.LineChecking.{IsReadyChecker, HasAcceptedLines, SameExceptRoom, FollowsAccepted, WhyNotRefuted, StoresClause, UncountedLineResult}
 use Rattle.sat_hints.specs.declared.answer.HintWhy.{HintWhy}
 use Rattle.sat_hints.specs.declared.answer.HintWhy.TheVariants.{NotUnit, NotFalsified, VarInUse}
 use Rattle.sat_hints.specs.declared.line_checking.LineChecker.{LineChecker}
@@ -47,7 +47,7 @@ one_once id (Derived i ls ids ∷ lines) c e = go (eqb id i) (one_once id lines 
     go : (b : Bool) → (clause_under id lines ≡ Some c → NoRepeats c) → cond b (Some (canonical ls)) (clause_under id lines) ≡ Some c → NoRepeats c
     go true ih e = set_once ls c e
     go false ih e = ih e
-one_once id (Gone i ∷ lines) c e = go (eqb id i) (one_once id lines c) e
+one_once id (Removed i ∷ lines) c e = go (eqb id i) (one_once id lines c) e
   where
     go : (b : Bool) → (clause_under id lines ≡ Some c → NoRepeats c) → cond b None (clause_under id lines) ≡ Some c → NoRepeats c
     go true ih e = absurd cc
@@ -91,45 +91,45 @@ module _ (lines : List Line) (line : Line) (assumed : List ℕ) (in_order : IsIn
       go (inl r) = subst (λ w. Says_of w lines line) (sym r.1) (record { in_order = in_order; clauses = h.0; present = present; conflict = conflict_of (assumed_by line) assumed h.0 assumes (inl r.0); unused = unused_assuming lines line assumed assumes })
       go (inr r) = subst (λ w. Says_of w lines line) (sym r.1) (by_course h.0 present r.0 (refutation_failure assumed h.0) (course_says h.0 assumed (sets_once (named_ids line) lines h.0 present)))
 
-stored_ready : (old new : LineChecker) (id : ℕ) (clause : List ℕ) → SinceWithin old.standing id → StoresClause old new id clause → IsReadyChecker new
+stored_ready : (old new : LineChecker) (id : ℕ) (clause : List ℕ) → UnitBoundsWithin old.active id → StoresClause old new id clause → IsReadyChecker new
 stored_ready old new id clause w s = record {
-  standing = s.adds.standing;
-  below = subst (AllBelow new.standing.present.ids.items) (sym s.least) (s.adds.below (id + 1) (omega arith));
-  since = subst (SinceWithin new.standing) (sym s.least) (λ v. subst (λ x. value_at 0 x v ≤ id + 1) (sym s.adds.since) (let k = w v in omega (arith, k)));
+  active = s.adds.active;
+  below = subst (IdsBelow new.active.present.ids.items) (sym s.least) (s.adds.below (id + 1) (omega arith));
+  unit_bounds = subst (UnitBoundsWithin new.active) (sym s.least) (λ v. subst (λ x. value_at 0 x v ≤ id + 1) (sym s.adds.unit_bounds) (let k = w v in omega (arith, k)));
   nothing = s.nothing;
   room = s.room;
 }
 
 -- a checker is still ready after a call that kept its state
-pub same_ready : (old new : LineChecker) → IsReadyChecker old → IsSame old new → IsReadyChecker new
+pub same_ready : (old new : LineChecker) → IsReadyChecker old → SameExceptRoom old new → IsReadyChecker new
 same_ready old new r m = record {
-  standing = subst ActiveClausesInvariant (sym m.standing) r.standing;
-  below = subst (λ p. AllBelow p.present.ids.items new.least_id) (sym m.standing) (subst (AllBelow old.standing.present.ids.items) (sym m.least) r.below);
-  since = subst (λ p. SinceWithin p new.least_id) (sym m.standing) (subst (SinceWithin old.standing) (sym m.least) r.since);
+  active = subst ActiveClausesInvariant (sym m.active) r.active;
+  below = subst (λ p. IdsBelow p.present.ids.items new.least_id) (sym m.active) (subst (IdsBelow old.active.present.ids.items) (sym m.least) r.below);
+  unit_bounds = subst (λ p. UnitBoundsWithin p new.least_id) (sym m.active) (subst (UnitBoundsWithin old.active) (sym m.least) r.unit_bounds);
   nothing = m.nothing;
-  room = subst (HasRoomForPresent new.assumed.room) (sym m.standing) (room_still old.standing old.assumed.room new.assumed.room m.room r.room);
+  room = subst (HasRoomForPresent new.assumed.room) (sym m.active) (room_still old.active old.assumed.room new.assumed.room m.room r.room);
 }
 
-since_later : (old : LineChecker) (id : ℕ) → IsReadyChecker old → old.least_id ≤ id → SinceWithin old.standing id
-since_later old id r l = λ v. let k = r.since v in omega (arith, k, l)
+since_later : (old : LineChecker) (id : ℕ) → IsReadyChecker old → old.least_id ≤ id → UnitBoundsWithin old.active id
+since_later old id r l = λ v. let k = r.unit_bounds v in omega (arith, k, l)
 
-derived_refuted : (old : LineChecker) (id : ℕ) (clause ids : List ℕ) (why : Option HintWhy) → old.least_id ≤ id → WhyNotRefuted old.standing (signed true clause) ids why → (lines : List Line) → HasTakenLines old lines → Says_of why lines (Derived id clause ids)
+derived_refuted : (old : LineChecker) (id : ℕ) (clause ids : List ℕ) (why : Option HintWhy) → old.least_id ≤ id → WhyNotRefuted old.active (signed true clause) ids why → (lines : List Line) → HasAcceptedLines old lines → Says_of why lines (Derived id clause ids)
 derived_refuted old id clause ids why l r lines t =
-    refuted lines (Derived id clause ids) (map negated clause) (subst (λ n. n ≤ id) t.least l) refl old.standing why t.clauses r
+    refuted lines (Derived id clause ids) (map negated clause) (subst (λ n. n ≤ id) t.least l) refl old.active why t.clauses r
 
 -- a derived clause whose clauses lead to a conflict may follow
-pub derived_may : (old : LineChecker) (id : ℕ) (clause ids : List ℕ) → old.least_id ≤ id → WhyNotRefuted old.standing (signed true clause) ids None → MayFollow old (Derived id clause ids)
+pub derived_may : (old : LineChecker) (id : ℕ) (clause ids : List ℕ) → old.least_id ≤ id → WhyNotRefuted old.active (signed true clause) ids None → FollowsAccepted old (Derived id clause ids)
 derived_may old id clause ids l r lines t = derived_refuted old id clause ids None l r lines t
 
 -- there is room for the literals of one more clause
-pub room_stored : (old new : ActiveClauses) (id : ℕ) (clause xs ys : List ℕ) → AddsActiveClause old new id clause → HasRoomForPresent xs old → RoomStays xs ys → HasClauseRoom ys clause → HasRoomForPresent ys new
+pub room_stored : (old new : ActiveClauses) (id : ℕ) (clause xs ys : List ℕ) → AddsActiveClause old new id clause → HasRoomForPresent xs old → RoomIsKept xs ys → HasClauseRoom ys clause → HasRoomForPresent ys new
 room_stored old new id clause xs ys a h k m j c e = go (eqb j id) (sym (a.clauses j) ∙ e)
   where
     go : (b : Bool) → cond b (Some clause) (active_clause old j) ≡ Some c → HasClauseRoom ys c
     go true f = let g : clause ≡ c = cc in subst (HasClauseRoom ys) g m
     go false f = room_still old xs ys k h j c f
 
-pub derived_faulty : (old new : LineChecker) (id : ℕ) (clause ids : List ℕ) (why : HintWhy) → old.least_id ≤ id → WhyNotRefuted old.standing (signed true clause) ids (Some why) → IsSame old new → TakesOne (Some why) old new (Derived id clause ids)
+pub derived_faulty : (old new : LineChecker) (id : ℕ) (clause ids : List ℕ) (why : HintWhy) → old.least_id ≤ id → WhyNotRefuted old.active (signed true clause) ids (Some why) → SameExceptRoom old new → UncountedLineResult (Some why) old new (Derived id clause ids)
 derived_faulty old new id clause ids why l r s = (s.lines, derived_refuted old id clause ids (Some why) l r)
 
 empty_length : (ls : List ℕ) → is_empty ls ≡ eqb (length ls) 0
@@ -140,13 +140,13 @@ empty_length (l ∷ ls) = sym (never (eqb (length (l ∷ ls)) 0) refl)
     never true e = absurd (let f : length (l ∷ ls) ≡ 0 = eqb-true (length (l ∷ ls)) 0 e in omega arith)
     never false e = e
 
-pub derived_taken : (old mid last new : LineChecker) (id : ℕ) (clause ids : List ℕ) (e : Bool) → IsReadyChecker old → old.least_id ≤ id → WhyNotRefuted old.standing (signed true clause) ids None → IsSame old mid → StoresClause mid last id clause → e ≡ (eqb (length clause) 0 || last.empty) → new ≡ record last { empty = e } → TakesOne None old new (Derived id clause ids)
+pub derived_taken : (old mid last new : LineChecker) (id : ℕ) (clause ids : List ℕ) (e : Bool) → IsReadyChecker old → old.least_id ≤ id → WhyNotRefuted old.active (signed true clause) ids None → SameExceptRoom old mid → StoresClause mid last id clause → e ≡ (eqb (length clause) 0 || last.empty) → new ≡ record last { empty = e } → UncountedLineResult None old new (Derived id clause ids)
 derived_taken old mid last new id clause ids e y l r m s f n = (
-  subst IsReadyChecker (sym n) (let k = stored_ready mid last id clause (subst (λ x. SinceWithin x id) (sym m.standing) (since_later old id y l)) s in record { standing = k.standing; below = k.below; since = k.since; nothing = k.nothing; room = k.room }),
+  subst IsReadyChecker (sym n) (let k = stored_ready mid last id clause (subst (λ x. UnitBoundsWithin x id) (sym m.active) (since_later old id y l)) s in record { active = k.active; below = k.below; unit_bounds = k.unit_bounds; nothing = k.nothing; room = k.room }),
   ap (λ j. j.lines) n ∙ s.lines ∙ m.lines,
   λ lines t. record {
     follows = derived_refuted old id clause ids None l r lines t;
-    clauses = λ j. ap (λ k. active_clause k.standing j) n ∙ s.adds.clauses j ∙ ap (λ o. cond (eqb j id) (Some (canonical clause)) o) (ap (λ p. active_clause p j) m.standing ∙ t.clauses j);
+    clauses = λ j. ap (λ k. active_clause k.active j) n ∙ s.adds.clauses j ∙ ap (λ o. cond (eqb j id) (Some (canonical clause)) o) (ap (λ p. active_clause p j) m.active ∙ t.clauses j);
     least = ap (λ j. j.least_id) n ∙ s.least;
     says_empty = ap (λ j. j.empty) n ∙ f ∙ ap (λ b. eqb (length clause) 0 || b) (s.empty ∙ m.empty ∙ t.says_empty) ∙ ap (λ b. b || derives_empty lines) (sym (empty_length clause));
     counts_cores = ap (λ j. j.cores) n ∙ s.cores ∙ m.cores ∙ t.counts_cores;
@@ -158,14 +158,14 @@ some_clause : (o : Option (List ℕ)) → o ≢ None → (c : List ℕ) × (o �
 some_clause None h = absurd (h refl)
 some_clause (Some c) h = (c, refl)
 
-gone_follows : (s : ActiveClauses) (id : ℕ) (lines : List Line) → ((j : ℕ) → active_clause s j ≡ clause_under j lines) → active_clause s id ≢ None → FollowsLines lines (Gone id)
+gone_follows : (s : ActiveClauses) (id : ℕ) (lines : List Line) → ((j : ℕ) → active_clause s j ≡ clause_under j lines) → active_clause s id ≢ None → FollowsLines lines (Removed id)
 gone_follows s id lines same h =
     let c = some_clause (active_clause s id) h in
     record { in_order = tt; clauses = c.0 ∷ []; present = ap (λ o. and_clauses o (Some [])) (sym (same id) ∙ c.1); conflict = tt; unused = λ u. u }
 
 -- a line that removes a present clause may follow
-pub gone_may : (old : LineChecker) (id : ℕ) → active_clause old.standing id ≢ None → MayFollow old (Gone id)
-gone_may old id h lines t = gone_follows old.standing id lines t.clauses h
+pub gone_may : (old : LineChecker) (id : ℕ) → active_clause old.active id ≢ None → FollowsAccepted old (Removed id)
+gone_may old id h lines t = gone_follows old.active id lines t.clauses h
 
 room_less : (s p : ActiveClauses) (id : ℕ) (room : List ℕ) → ((j : ℕ) → active_clause p j ≡ cond (eqb j id) None (active_clause s j)) → HasRoomForPresent room s → HasRoomForPresent room p
 room_less s p id room same h j c e = go (eqb j id) (sym (same j) ∙ e)
@@ -174,13 +174,13 @@ room_less s p id room same h j c e = go (eqb j id) (sym (same j) ∙ e)
     go true f = absurd cc
     go false f = h j c f
 
-pub gone_taken : (old new : LineChecker) (id : ℕ) (p : ActiveClauses) → IsReadyChecker old → active_clause old.standing id ≢ None → DropsClause old.standing p id → new ≡ record old { standing = p } → TakesOne None old new (Gone id)
+pub gone_taken : (old new : LineChecker) (id : ℕ) (p : ActiveClauses) → IsReadyChecker old → active_clause old.active id ≢ None → RemovesActiveClause old.active p id → new ≡ record old { active = p } → UncountedLineResult None old new (Removed id)
 gone_taken old new id p r h l n = (
-  subst IsReadyChecker (sym n) (record { standing = l.standing; below = l.below old.least_id r.below; since = λ v. subst (λ x. value_at 0 x v ≤ old.least_id) (sym l.since) (r.since v); nothing = r.nothing; room = room_less old.standing p id old.assumed.room l.clauses r.room }),
+  subst IsReadyChecker (sym n) (record { active = l.active; below = l.below old.least_id r.below; unit_bounds = λ v. subst (λ x. value_at 0 x v ≤ old.least_id) (sym l.unit_bounds) (r.unit_bounds v); nothing = r.nothing; room = room_less old.active p id old.assumed.room l.clauses r.room }),
   ap (λ j. j.lines) n,
   λ lines t. record {
-    follows = gone_follows old.standing id lines t.clauses h;
-    clauses = λ j. ap (λ k. active_clause k.standing j) n ∙ l.clauses j ∙ ap (λ o. cond (eqb j id) None o) (t.clauses j);
+    follows = gone_follows old.active id lines t.clauses h;
+    clauses = λ j. ap (λ k. active_clause k.active j) n ∙ l.clauses j ∙ ap (λ o. cond (eqb j id) None o) (t.clauses j);
     least = ap (λ j. j.least_id) n ∙ t.least;
     says_empty = ap (λ j. j.empty) n ∙ t.says_empty;
     counts_cores = ap (λ j. j.cores) n ∙ t.counts_cores;
@@ -188,27 +188,27 @@ gone_taken old new id p r h l n = (
 )
 
 -- CORES
-core_refuted : (old : LineChecker) (core ids : List ℕ) (why : Option HintWhy) → WhyNotRefuted old.standing (signed false core) ids why → (lines : List Line) → HasTakenLines old lines → Says_of why lines (Core core ids)
-core_refuted old core ids why r lines t = refuted lines (Core core ids) core tt refl old.standing why t.clauses r
+core_refuted : (old : LineChecker) (core ids : List ℕ) (why : Option HintWhy) → WhyNotRefuted old.active (signed false core) ids why → (lines : List Line) → HasAcceptedLines old lines → Says_of why lines (Core core ids)
+core_refuted old core ids why r lines t = refuted lines (Core core ids) core tt refl old.active why t.clauses r
 
-pub core_faulty : (old new : LineChecker) (core ids : List ℕ) (why : HintWhy) → WhyNotRefuted old.standing (signed false core) ids (Some why) → IsSame old new → TakesOne (Some why) old new (Core core ids)
+pub core_faulty : (old new : LineChecker) (core ids : List ℕ) (why : HintWhy) → WhyNotRefuted old.active (signed false core) ids (Some why) → SameExceptRoom old new → UncountedLineResult (Some why) old new (Core core ids)
 core_faulty old new core ids why r s = (s.lines, core_refuted old core ids (Some why) r)
 
 one_more : (n count m : ℕ) → n ≡ capped count → m ≡ min (n + 1) (2 ^ 64 - 1) → m ≡ capped (1 + count)
 one_more n count m e f = omega arith
 
-pub core_taken : (old mid new : LineChecker) (core ids : List ℕ) (n : ℕ) → IsReadyChecker old → WhyNotRefuted old.standing (signed false core) ids None → IsSame old mid → n ≡ min (mid.cores + 1) (2 ^ 64 - 1) → new ≡ record mid { cores = n } → TakesOne None old new (Core core ids)
+pub core_taken : (old mid new : LineChecker) (core ids : List ℕ) (n : ℕ) → IsReadyChecker old → WhyNotRefuted old.active (signed false core) ids None → SameExceptRoom old mid → n ≡ min (mid.cores + 1) (2 ^ 64 - 1) → new ≡ record mid { cores = n } → UncountedLineResult None old new (Core core ids)
 core_taken old mid new core ids n r h m f e = (
-  subst IsReadyChecker (sym e) (let k = same_ready old mid r m in record { standing = k.standing; below = k.below; since = k.since; nothing = k.nothing; room = k.room }),
+  subst IsReadyChecker (sym e) (let k = same_ready old mid r m in record { active = k.active; below = k.below; unit_bounds = k.unit_bounds; nothing = k.nothing; room = k.room }),
   ap (λ j. j.lines) e ∙ m.lines,
   λ lines t. record {
     follows = core_refuted old core ids None h lines t;
-    clauses = λ j. ap (λ k. active_clause k.standing j) e ∙ ap (λ p. active_clause p j) m.standing ∙ t.clauses j;
+    clauses = λ j. ap (λ k. active_clause k.active j) e ∙ ap (λ p. active_clause p j) m.active ∙ t.clauses j;
     least = ap (λ j. j.least_id) e ∙ m.least ∙ t.least;
     says_empty = ap (λ j. j.empty) e ∙ m.empty ∙ t.says_empty;
-    counts_cores = ap (λ j. j.cores) e ∙ one_more mid.cores (count_of_cores lines) n (m.cores ∙ t.counts_cores) f;
+    counts_cores = ap (λ j. j.cores) e ∙ one_more mid.cores (core_count lines) n (m.cores ∙ t.counts_cores) f;
   },
 )
 
-pub fresh_faulty : (old new : LineChecker) (v : ℕ) → IsUsed old.standing v → new.lines ≡ old.lines → TakesOne (Some VarInUse) old new (Fresh v)
+pub fresh_faulty : (old new : LineChecker) (v : ℕ) → IsUsed old.active v → new.lines ≡ old.lines → UncountedLineResult (Some VarInUse) old new (Fresh v)
 fresh_faulty old new v u n = (n, λ lines t. record { id = u.id; clause = u.clause; present = sym (t.clauses u.id) ∙ u.present; long = u.long; within = u.within })

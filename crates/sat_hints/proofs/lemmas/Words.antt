@@ -9,7 +9,7 @@ use Rattle.sat_base.specs.values.Literals.{variable, is_positive}
 use Rattle.sat_base.specs.dimacs.DimacsText.{number_text}
 use Rattle.sat_hints.specs.Lines.{spaced_words, id_text}
 use Rattle.sat_hints.specs.inner.LineReading.{IsId, IsVariableIndex, IsLiteralCode, BeginsWithWords}
-use Rattle.sat_base.specs.text.NumberWords.{IsNumberUpTo, EndsNone, NoWord, BeginsWithWord, digits_so_far}
+use Rattle.sat_base.specs.text.NumberWords.{IsNumberUpTo, EndsNoNumber, BeginsWithNoWord, BeginsWithWord, digits_so_far}
 use Rattle.sat_base.proofs.lemmas.text.NumberWords.{Plain, at_space, id_first, plain_number, are_digits}
 
 -- `AreWords word P` holds if no word has a space or begins with `0`, and every word has one value.
@@ -24,7 +24,7 @@ pub record SameWords (xs ys r s : List ℕ) : Type 0 where
 
 module _ (word : ℕ → List ℕ) (P : ℕ → Type 0) (w : AreWords word P) where
   -- reading as many words as possible has one result
-  pub same_words : (xs ys r s : List ℕ) → AllByRecursion P xs → AllByRecursion P ys → NoWord word P r → NoWord word P s → spaced_words word xs ++ r ≡ spaced_words word ys ++ s → SameWords xs ys r s
+  pub same_words : (xs ys r s : List ℕ) → AllByRecursion P xs → AllByRecursion P ys → BeginsWithNoWord word P r → BeginsWithNoWord word P s → spaced_words word xs ++ r ≡ spaced_words word ys ++ s → SameWords xs ys r s
   same_words [] [] r s p q m n e = record { items = refl; rests = e }
   same_words [] (y ∷ ys) r s p q m n e = absurd (m y (spaced_words word ys ++ s) q.0 (e ∙ append_assoc (word y) (32 ∷ spaced_words word ys) s))
   same_words (x ∷ xs) [] r s p q m n e = absurd (n x (spaced_words word xs ++ r) p.0 (sym e ∙ append_assoc (word x) (32 ∷ spaced_words word xs) r))
@@ -135,7 +135,7 @@ no_sign n x y h e = go (decimal n) (are_digits n h) (decimal_nonempty n h) e
     go [] d k e = omega arith
     go (c ∷ cs) d k e = let r = digit_from_value c d.0 in let s : c ≡ 45 = cc in omega arith
 
-pub no_negative_word : (bytes following : List ℕ) → bytes ≡ 45 ∷ following → NoWord id_text IsVariableIndex following → NoWord number_text IsLiteralCode bytes
+pub no_negative_word : (bytes following : List ℕ) → bytes ≡ 45 ∷ following → BeginsWithNoWord id_text IsVariableIndex following → BeginsWithNoWord number_text IsLiteralCode bytes
 no_negative_word bytes following e none l tail p f = go (is_positive l) f
   where
     go : (s : Bool) → bytes ≡ (cond s [] (45 ∷ []) ++ decimal (l / 2 + 1)) ++ (32 ∷ tail) → ⊥

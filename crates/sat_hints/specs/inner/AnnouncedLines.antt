@@ -17,14 +17,14 @@ text_if (Some line) = line_text line
 abbrev pub announced_text : Notice → List ℕ
 announced_text t = text_if (announced_line t.announcement)
 
--- `AnswersIf failed result` holds if the result is an error exactly if `failed` is true.
-abbrev pub AnswersIf : Bool → Result (Unit {0}) Error → Type 0
-AnswersIf false result = result ≡ Ok tt
-AnswersIf true (Ok x) = ⊥
-AnswersIf true (Err e) = Unit {0}
+-- `FailsIf failed result` holds if the result is an error exactly if `failed` is true.
+abbrev pub FailsIf : Bool → Result (Unit {0}) Error → Type 0
+FailsIf false result = result ≡ Ok tt
+FailsIf true (Ok x) = ⊥
+FailsIf true (Err e) = Unit {0}
 
--- `PutsAnnouncedLine seen old t result new` holds if the line for the announcement was written, or a write has failed,
--- now or before; exactly then the result is an error.
+-- `PutsAnnouncedLine seen old t result new` holds if the text of the announcement's line, if any, was appended to the
+-- pending bytes, or a write has failed, now or before; exactly then the result is an error.
 pub record PutsAnnouncedLine {W : Type 0} (seen : W → Writer) (old : LineWriter W) (t : Notice) (result : Result (Unit {0}) Error) (new : LineWriter W) : Type 0 where
   pub puts : PutsText (announced_text t) (outlet seen old) (outlet seen new)
-  pub answers : AnswersIf new.failed result
+  pub answers : FailsIf new.failed result

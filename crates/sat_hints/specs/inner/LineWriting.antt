@@ -15,26 +15,26 @@ pub record Outlet : Type 0 where
 abbrev pub outlet : {W : Type 0} → (W → Writer) → LineWriter W → Outlet
 outlet seen w = record { sink = record { writer = seen w.writer; waiting = take w.len w.bytes }; failed = w.failed }
 
--- `PutBy failed text old new` holds if the text was appended to the pending bytes, or, if `failed` is true, a write
--- failed instead.
-abbrev pub PutBy : Bool → List ℕ → Sink → Sink → Type 0
-PutBy false text old new = AddsToSink old new text
-PutBy true text old new = SinkFails old new text
+-- `PutOrFailed failed text old new` holds if the text was appended to the pending bytes, or, if `failed` is true, a
+-- write failed instead.
+abbrev pub PutOrFailed : Bool → List ℕ → Sink → Sink → Type 0
+PutOrFailed false text old new = AddsToSink old new text
+PutOrFailed true text old new = SinkFails old new text
 
--- `PutFrom failed text old new` holds if the text was appended or a write failed, or, if `failed` is true because a
--- write failed before, nothing changed.
-abbrev pub PutFrom : Bool → List ℕ → Outlet → Outlet → Type 0
-PutFrom true text old new = new ≡ old
-PutFrom false text old new = PutBy new.failed text old.sink new.sink
+-- `PutUnlessFailed failed text old new` holds if nothing changed when `failed` is true, since a write failed before;
+-- when it is false, the text was appended to the pending bytes or a write failed, as `new` says.
+abbrev pub PutUnlessFailed : Bool → List ℕ → Outlet → Outlet → Type 0
+PutUnlessFailed true text old new = new ≡ old
+PutUnlessFailed false text old new = PutOrFailed new.failed text old.sink new.sink
 
 -- the sign of a literal's number: `-` if it is negative
 abbrev pub sign_text : ℕ → List ℕ
 sign_text l = if is_positive l then [] else codes "-"
 
 -- the text of two lists: `LITS 0 IDS 0` and LF
-abbrev pub both_words : List ℕ → List ℕ → List ℕ
-both_words literals ids = literal_words literals ++ (codes "0 " ++ (id_words ids ++ codes "0\n"))
+abbrev pub lists_text : List ℕ → List ℕ → List ℕ
+lists_text literals ids = literal_words literals ++ (codes "0 " ++ (id_words ids ++ codes "0\n"))
 
 -- `PutsText text old new` holds if the text was appended to the pending bytes, or a write failed, now or before.
 abbrev pub PutsText : List ℕ → Outlet → Outlet → Type 0
-PutsText text old new = PutFrom old.failed text old new
+PutsText text old new = PutUnlessFailed old.failed text old new

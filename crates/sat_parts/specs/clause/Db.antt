@@ -2,7 +2,7 @@
 use Rattle.std.specs.Prelude.{ℕ, ◌≡◌, ◌≢◌, ◌+◌, ◌-◌, ◌^◌, ◌<◌, ◌≤◌, ◌==◌, min, true, Bool, not, ◌&&◌, List, [], ◌∷◌, ◌++◌, length, slice_index_or as get_or, slice_set as set, take, Option, if◌then◌else◌, count_by}
 use Rattle.std.specs.List.{Contains, filter, sum_by}
 use Rattle.sat_store.specs.clause.Buffer.{IsClause, HoldsClauses, SameClauseAt, AppendsClause, header_at, lits_at}
-use Rattle.sat_store.specs.clause.Header.{Header, index_of}
+use Rattle.sat_store.specs.clause.Header.{Header, tier_index}
 use Rattle.sat_store.specs.declared.clause.tier.Tier.{Tier}
 use Rattle.sat_base.specs.values.Literals.{variable}
 use Rattle.sat_parts.specs.declared.prop.graph.ImplNode.{ImplNode}
@@ -10,8 +10,8 @@ use Rattle.sat_parts.specs.declared.prop.graph.Reason.TheVariants.{Long}
 use Rattle.sat_parts.specs.prop.Values.{IsTrueLit}
 use Rattle.sat_parts.specs.prop.Graphs.{node_of}
 
--- the list of long clauses: their references in order of addition, the number of live clauses of every tier, and the
--- number of words of deleted clauses
+-- the list of long clauses: their offsets in the buffer in order of addition, with deleted clauses until they are
+-- collected; the number of live clauses of each of the four tiers; and the number of words of deleted clauses
 pub record Db : Type 0 where
   pub refs : List ℕ
   pub counts : List ℕ
@@ -25,17 +25,17 @@ no_clauses = record { refs = []; counts = 0 ∷ 0 ∷ 0 ∷ 0 ∷ []; garbage = 
 abbrev pub is_live : List ℕ → ℕ → Bool
 is_live words o = not (header_at words o).deleted
 
--- the live clauses of the list, in order
+-- the offsets of `refs`, in order, whose clauses in the buffer `words` are not marked as deleted
 abbrev pub live_refs : List ℕ → List ℕ → List ℕ
 live_refs words refs = filter (is_live words) refs
 
 -- `is_live_in_tier words tier o` is true if the clause at `o` is live and in `tier`.
 abbrev pub is_live_in_tier : List ℕ → Tier → ℕ → Bool
-is_live_in_tier words tier o = is_live words o && (index_of (header_at words o).tier == index_of tier)
+is_live_in_tier words tier o = is_live words o && (tier_index (header_at words o).tier == tier_index tier)
 
--- `AreClausePlaces words refs` holds if there is a clause at every offset of `refs`.
-abbrev pub AreClausePlaces : List ℕ → List ℕ → Type 0
-AreClausePlaces words refs = (o : ℕ) → Contains refs o → IsClause words o
+-- `AreClauseOffsets words refs` holds if there is a clause at every offset of `refs`.
+abbrev pub AreClauseOffsets : List ℕ → List ℕ → Type 0
+AreClauseOffsets words refs = (o : ℕ) → Contains refs o → IsClause words o
 
 -- the number of words of the clause at o, header included, if it is deleted, otherwise 0
 abbrev pub garbage_of : List ℕ → ℕ → ℕ
@@ -52,22 +52,22 @@ pub record DbMatchesBuffer (words : List ℕ) (db : Db) : Type 0 where
   pub holds_clauses : HoldsClauses words db.refs
   pub rising : AreStrictlyIncreasing db.refs
   pub tiers : length db.counts ≡ 4
-  pub counts : (tier : Tier) → get_or db.counts (index_of tier) 0 ≡ count_by (is_live_in_tier words tier) db.refs
+  pub counts : (tier : Tier) → get_or db.counts (tier_index tier) 0 ≡ count_by (is_live_in_tier words tier) db.refs
   pub garbage : db.garbage ≡ min (sum_by (garbage_of words) db.refs) (2 ^ 64 - 1)
   pub few : length db.refs < 2 ^ 64
   pub long : (o : ℕ) → Contains db.refs o → 3 ≤ length (lits_at words o)
 
 -- the numbers of clauses by tier, with one more clause of `tier`
 abbrev pub tier_count_more : Tier → List ℕ → List ℕ
-tier_count_more tier counts = set counts (index_of tier) (get_or counts (index_of tier) 0 + 1)
+tier_count_more tier counts = set counts (tier_index tier) (get_or counts (tier_index tier) 0 + 1)
 
 -- the numbers of clauses by tier, with one fewer clause of `tier`
 abbrev pub tier_count_less : Tier → List ℕ → List ℕ
-tier_count_less tier counts = set counts (index_of tier) (get_or counts (index_of tier) 0 - 1)
+tier_count_less tier counts = set counts (tier_index tier) (get_or counts (tier_index tier) 0 - 1)
 
 -- the list of references without that of the clause at o
-abbrev pub without : ℕ → List ℕ → List ℕ
-without o refs = filter (λ p. not (p == o)) refs
+abbrev pub without_ref : ℕ → List ℕ → List ℕ
+without_ref o refs = filter (λ p. not (p == o)) refs
 
 -- `AddsLongClause words db words' db' o header lits` holds if a clause with the literals `lits` and this header, except
 -- for its length, was appended at `o`, to the buffer and to the list.
@@ -91,17 +91,18 @@ pub record DeletesClause (words : List ℕ) (db : Db) (words' : List ℕ) (db' :
   pub put : PutsHeader words words' db.refs o (record (header_at words o) { deleted = true })
   pub holds : DbMatchesBuffer words' db'
   pub refs : db'.refs ≡ db.refs
-  pub live : live_refs words' db'.refs ≡ without o (live_refs words db.refs)
+  pub live : live_refs words' db'.refs ≡ without_ref o (live_refs words db.refs)
 
--- `MovesClause words db words' db' o tier` holds if the clause at `o` was moved to `tier`, and no other clause changed.
-pub record MovesClause (words : List ℕ) (db : Db) (words' : List ℕ) (db' : Db) (o : ℕ) (tier : Tier) : Type 0 where
+-- `MovesClauseToTier words db words' db' o tier` holds if the clause at `o` was moved to `tier`, and no other clause
+-- changed.
+pub record MovesClauseToTier (words : List ℕ) (db : Db) (words' : List ℕ) (db' : Db) (o : ℕ) (tier : Tier) : Type 0 where
   pub put : PutsHeader words words' db.refs o (record (header_at words o) { tier = tier })
   pub holds : DbMatchesBuffer words' db'
   pub refs : db'.refs ≡ db.refs
   pub live : live_refs words' db'.refs ≡ live_refs words db.refs
 
--- `ShortensClause words db words' o len` holds if the clause at `o` lost its literals from position `len` on, and no
--- other clause changed.
+-- `ShortensClause words db words' o len` holds if the clause at offset `o` was cut down to its first `len` literals in
+-- the buffer `words'`, no other clause of the list changed, and the list `db` still describes the buffer.
 pub record ShortensClause (words : List ℕ) (db : Db) (words' : List ℕ) (o len : ℕ) : Type 0 where
   pub size : length words' ≡ length words
   pub header_there : header_at words' o ≡ record (header_at words o) { len = len }

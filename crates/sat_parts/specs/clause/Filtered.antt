@@ -7,14 +7,14 @@ use Rattle.std.specs.List.Retain.{ReturnsInTurn}
 use Rattle.sat_store.specs.clause.Buffer.{SameClauseAt}
 use Rattle.sat_parts.specs.clause.Db.{is_live, live_refs}
 
--- `TakesEach g words live` holds if the test `g` can be called, in any state, with every clause of `live`, whose header
--- and literals it sees as they are in `words`.
-abbrev pub TakesEach : {F : Type 0} → Mut F (Bor (List ℕ) × (ℕ × Unit {0})) Bool → (words live : List ℕ) → Type 0
-TakesEach {F} g words live = (f : F) (shown : Bor (List ℕ)) (o : ℕ) → Contains live o → SameClauseAt words shown.now o → Takes g f (shown, (o, tt))
+-- `AcceptsEachClause g words live` holds if the test `g` can be called, in any state, with every clause of `live`,
+-- whose header and literals it sees as they are in `words`.
+abbrev pub AcceptsEachClause : {F : Type 0} → Mut F (Bor (List ℕ) × (ℕ × Unit {0})) Bool → (words live : List ℕ) → Type 0
+AcceptsEachClause {F} g words live = (f : F) (shown : Bor (List ℕ)) (o : ℕ) → Contains live o → SameClauseAt words shown.now o → Takes g f (shown, (o, tt))
 
--- `AnswersAt g words f o r f'` holds if a call of the test `g` in state `f` with the clause at `o`, whose header and
--- literals it sees as they are in `words`, may return `r` and leave the state `f'`.
-pub record AnswersAt {F : Type 0} (g : Mut F (Bor (List ℕ) × (ℕ × Unit {0})) Bool) (words : List ℕ) (f : F) (o : ℕ) (r : Bool) (f' : F) : Type 0 where
+-- `ReturnsForClause g words f o r f'` holds if a call of the test `g` in state `f` with the clause at `o`, whose header
+-- and literals it sees as they are in `words`, may return `r` and leave the state `f'`.
+pub record ReturnsForClause {F : Type 0} (g : Mut F (Bor (List ℕ) × (ℕ × Unit {0})) Bool) (words : List ℕ) (f : F) (o : ℕ) (r : Bool) (f' : F) : Type 0 where
   pub shown : Bor (List ℕ)
   pub same : SameClauseAt words shown.now o
   pub called : Called g f (shown, (o, tt)) r f'
@@ -30,7 +30,7 @@ SameClausesAt old new live = (o : ℕ) → Contains live o → SameClauseAt old 
 pub record FilterInvariant {F : Type 0} (R : F → ℕ → Bool → F → Type 0) (f : F) (old new refs : List ℕ) (at : ℕ) (f' : F) : Type 0 where
   pub answers : List Bool
   pub size : length answers ≡ length (live_refs old (take at refs))
-  pub asked : ReturnsInTurn R f answers (live_refs old (take at refs)) f'
+  pub returned_in_turn : ReturnsInTurn R f answers (live_refs old (take at refs)) f'
   pub live : live_refs new (take at refs) ≡ items_where_true answers (live_refs old (take at refs))
   pub front : (k : ℕ) → k < at → k < length refs → is_live new (get_or refs k 0) ≡ true → SameClauseAt old new (get_or refs k 0)
   pub rest : (k : ℕ) → at ≤ k → k < length refs → SameClauseAt old new (get_or refs k 0)

@@ -6,7 +6,7 @@ use Rattle.sat_base.specs.values.Literals.{variable}
 use Rattle.sat_parts.specs.declared.prop.graph.ImplNode.{ImplNode}
 use Rattle.sat_parts.specs.prop.Graphs.{node_of}
 
--- the levels of the literals, in order
+-- the decision levels of the literals `ls`, in order, as their variables' nodes record them
 abbrev pub levels_of : List ImplNode → List ℕ → List ℕ
 levels_of nodes ls = map (λ l. (node_of nodes (variable l)).level) ls
 
@@ -18,18 +18,18 @@ count_distinct xs = distinct_count nat_eq xs
 abbrev pub VariablesBelow : List ℕ → ℕ → Type 0
 VariablesBelow ls n = (k : ℕ) → k < length ls → variable (get_or ls k 0) < n
 
--- `HaveNodes nodes ls` holds if the variable of every literal of `ls` has a node in `nodes`.
-abbrev pub HaveNodes : List ImplNode → List ℕ → Type 0
-HaveNodes nodes ls = VariablesBelow ls (length nodes)
+-- `LitsHaveNodes nodes ls` holds if the variable of every literal of `ls` has a node in `nodes`.
+abbrev pub LitsHaveNodes : List ImplNode → List ℕ → Type 0
+LitsHaveNodes nodes ls = VariablesBelow ls (length nodes)
 
--- `HaveFlags nodes flags ls` holds if the level of every literal of `ls` has a flag in `flags`.
-abbrev pub HaveFlags : List ImplNode → List Bool → List ℕ → Type 0
-HaveFlags nodes flags ls = (k : ℕ) → k < length ls → (node_of nodes (variable (get_or ls k 0))).level < length flags
+-- `LevelsHaveFlags nodes flags ls` holds if the level of every literal of `ls` has a flag in `flags`.
+abbrev pub LevelsHaveFlags : List ImplNode → List Bool → List ℕ → Type 0
+LevelsHaveFlags nodes flags ls = (k : ℕ) → k < length ls → (node_of nodes (variable (get_or ls k 0))).level < length flags
 
--- `AreClear flags` holds if all flags are false.
-abbrev pub AreClear : List Bool → Type 0
-AreClear flags = (k : ℕ) → get_or flags k false ≡ false
+-- `FlagsAreClear flags` holds if all flags are false.
+abbrev pub FlagsAreClear : List Bool → Type 0
+FlagsAreClear flags = (k : ℕ) → get_or flags k false ≡ false
 
--- `MarksLevels flags levels` holds if a flag is true exactly if its index is one of `levels`.
-abbrev pub MarksLevels : List Bool → List ℕ → Type 0
-MarksLevels flags levels = (k : ℕ) → k < length flags → get_or flags k false ≡ list_any (λ x. k == x) levels
+-- `FlagsMarkLevels flags levels` holds if a flag is true exactly if its index is one of `levels`.
+abbrev pub FlagsMarkLevels : List Bool → List ℕ → Type 0
+FlagsMarkLevels flags levels = (k : ℕ) → k < length flags → get_or flags k false ≡ list_any (λ x. k == x) levels

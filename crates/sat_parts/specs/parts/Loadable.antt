@@ -3,7 +3,7 @@ use Rattle.std.specs.Prelude.{ℕ, ◌≡◌, ◌≤◌, ◌*◌, ◌<◌, Bool,
 use Rattle.sat_base.specs.values.Literals.{variable, negated, is_positive}
 use Rattle.sat_store.specs.heap.Vsids.{Queue, is_available}
 use Rattle.sat_parts.specs.clause.Orders.{AreDistinct}
-use Rattle.sat_parts.specs.prop.Values.{value_of, seen_from, IsTrueLit, IsFalseLit, IsUnassignedLit}
+use Rattle.sat_parts.specs.prop.Values.{value_of, lit_value_from, IsTrueLit, IsFalseLit, IsUnassignedLit}
 use Rattle.sat_parts.specs.prop.State.{PropagationState, HasLeftQueue}
 
 -- `IsLoadable s q ls` holds if the literals are different and have known variables, the negations of the first two have
@@ -16,59 +16,59 @@ pub record IsLoadable (s : PropagationState) (q : Queue) (ls : List ℕ) : Type 
 
 -- the value of a literal, or `None` if it is unassigned
 abbrev pub lit_value : List (Option Bool) → ℕ → Option Bool
-lit_value values l = seen_from (is_positive l) (value_of values (variable l))
+lit_value values l = lit_value_from (is_positive l) (value_of values (variable l))
 
 -- the result of `without_false` for l followed by ls, given the value of l and the result for ls
-abbrev pub kept_by : Option Bool → (l : ℕ) → (ls rest : List ℕ) → List ℕ
-kept_by (Some true) l ls rest = l ∷ ls
-kept_by (Some false) l ls rest = rest
-kept_by None l ls rest = l ∷ rest
+abbrev pub without_false_step : Option Bool → (l : ℕ) → (ls rest : List ℕ) → List ℕ
+without_false_step (Some true) l ls rest = l ∷ ls
+without_false_step (Some false) l ls rest = rest
+without_false_step None l ls rest = l ∷ rest
 
--- a clause without the false literals before its first true literal
+-- the clause without those false literals that precede its first true literal (without all false ones if none is true)
 abbrev pub without_false : List (Option Bool) → List ℕ → List ℕ
 without_false values [] = []
-without_false values (l ∷ ls) = kept_by (lit_value values l) l ls (without_false values ls)
+without_false values (l ∷ ls) = without_false_step (lit_value values l) l ls (without_false values ls)
 
 -- the result of `false_prefix` for l followed by further literals, given the value of l and the result for those
-abbrev pub false_by : Option Bool → (l : ℕ) → (rest : List ℕ) → List ℕ
-false_by (Some true) l rest = []
-false_by (Some false) l rest = l ∷ rest
-false_by None l rest = rest
+abbrev pub false_prefix_step : Option Bool → (l : ℕ) → (rest : List ℕ) → List ℕ
+false_prefix_step (Some true) l rest = []
+false_prefix_step (Some false) l rest = l ∷ rest
+false_prefix_step None l rest = rest
 
--- the false literals of a clause before its first true literal
+-- the false literals of the clause that precede its first true literal (all false ones if none is true), in order
 abbrev pub false_prefix : List (Option Bool) → List ℕ → List ℕ
 false_prefix values [] = []
-false_prefix values (l ∷ ls) = false_by (lit_value values l) l (false_prefix values ls)
+false_prefix values (l ∷ ls) = false_prefix_step (lit_value values l) l (false_prefix values ls)
 
 -- the order in which a clause is stored: the false literals before the first true literal move to the end
 abbrev pub false_last : List (Option Bool) → List ℕ → List ℕ
 false_last values ls = without_false values ls ++ false_prefix values ls
 
--- `without_false` for the rest of a clause; the flag says whether a true literal was found before
-abbrev pub left_without : Bool → List (Option Bool) → List ℕ → List ℕ
-left_without true values ls = ls
-left_without false values ls = without_false values ls
+-- `without_false` for the rest `ls` of a clause; if the flag says that a true literal precedes it, all of `ls`
+abbrev pub rest_without_false : Bool → List (Option Bool) → List ℕ → List ℕ
+rest_without_false true values ls = ls
+rest_without_false false values ls = without_false values ls
 
--- `false_prefix` for the rest of a clause; the flag says whether a true literal was found before
-abbrev pub left_false : Bool → List (Option Bool) → List ℕ → List ℕ
-left_false true values ls = []
-left_false false values ls = false_prefix values ls
+-- `false_prefix` for the rest `ls` of a clause; if the flag says that a true literal precedes it, no literals
+abbrev pub rest_false_prefix : Bool → List (Option Bool) → List ℕ → List ℕ
+rest_false_prefix true values ls = []
+rest_false_prefix false values ls = false_prefix values ls
 
--- `IsFoundIn found values ls` holds if `found` says whether one of the literals is true.
-abbrev pub IsFoundIn : Bool → List (Option Bool) → List ℕ → Type 0
-IsFoundIn true values ls = (k : ℕ) × ((k < length ls) × IsTrueLit values (get_or ls k 0))
-IsFoundIn false values ls = (k : ℕ) → k < length ls → IsTrueLit values (get_or ls k 0) → ⊥
+-- `IsSatisfiedFlag found values ls` holds if `found` says whether one of the literals is true.
+abbrev pub IsSatisfiedFlag : Bool → List (Option Bool) → List ℕ → Type 0
+IsSatisfiedFlag true values ls = (k : ℕ) × ((k < length ls) × IsTrueLit values (get_or ls k 0))
+IsSatisfiedFlag false values ls = (k : ℕ) → k < length ls → IsTrueLit values (get_or ls k 0) → ⊥
 
--- `IsFoundNext found next values l` holds if `next` says whether `l` or a literal before it is true, and `found` says
--- so of those before it.
-abbrev pub IsFoundNext : (found next : Bool) → List (Option Bool) → ℕ → Type 0
-IsFoundNext true next values l = next ≡ true
-IsFoundNext false true values l = IsTrueLit values l
-IsFoundNext false false values l = IsTrueLit values l → ⊥
+-- `IsNextSatisfiedFlag found next values l` holds if `next` says whether `l` or a literal before it is true, and
+-- `found` says so of those before it.
+abbrev pub IsNextSatisfiedFlag : (found next : Bool) → List (Option Bool) → ℕ → Type 0
+IsNextSatisfiedFlag true next values l = next ≡ true
+IsNextSatisfiedFlag false true values l = IsTrueLit values l
+IsNextSatisfiedFlag false false values l = IsTrueLit values l → ⊥
 
--- `IsSorted s q ls kept` holds if the literals are different and have known variables. The first `kept` are unassigned
--- and may be picked. The others are false, and their negations are still in the queue.
-pub record IsSorted (s : PropagationState) (q : Queue) (ls : List ℕ) (kept : ℕ) : Type 0 where
+-- `IsUnassignedThenFalse s q ls kept` holds if the literals are different and have known variables. The first `kept`
+-- are unassigned and may be picked. The others are false, and their negations are still in the queue.
+pub record IsUnassignedThenFalse (s : PropagationState) (q : Queue) (ls : List ℕ) (kept : ℕ) : Type 0 where
   pub distinct : AreDistinct ls
   pub below : (k : ℕ) → k < length ls → get_or ls k 0 < 2 * length s.values
   pub within : kept ≤ length ls

@@ -6,6 +6,6 @@ use Rattle.sat_store.specs.clause.Buffer.{header_at}
 abbrev pub clause_rank : List ℕ → ℕ → ℕ
 clause_rank words o = (header_at words o).activity * 2 ^ 64 + o
 
--- a clause with its rank, as a reduction sorts it
-abbrev pub ranked : List ℕ → ℕ → ℕ × ℕ
-ranked words o = (clause_rank words o, o)
+-- the pair of the rank (by activity, then by offset) of the clause at offset `o`, and that offset
+abbrev pub with_rank : List ℕ → ℕ → ℕ × ℕ
+with_rank words o = (clause_rank words o, o)

@@ -7,29 +7,30 @@ use Rattle.sat_store.specs.heap.Vsids.{Queue}
 use Rattle.sat_parts.specs.prop.State.{PropagationState}
 use Rattle.sat_parts.specs.prop.Ready.{state_of}
 use Rattle.sat_parts.specs.declared.parts.SearchState.{SearchState}
-use Rattle.sat_parts.specs.parts.Round.{IsUnused, UnitsHaveNoReason, LevelZeroInvariant, KeepsPicks, IsSoundBelow, RoundInvariant}
+use Rattle.sat_parts.specs.parts.Round.{IsInNoClause, UnitsHaveNoReason, LevelZeroInvariant, KeepsPickable, PartsInvariantBelow, RoundInvariant}
 use Rattle.sat_parts.specs.declared.prop.graph.Conflict.{Conflict}
 use Rattle.sat_parts.specs.clause.Db.{live_refs}
 use Rattle.sat_parts.specs.prop.Values.{value_of, IsTrueLit}
 use Rattle.sat_parts.specs.prop.Ready.{IsConflict}
 
--- the state of the search
+-- the values, nodes and trail of the search `p`
 abbrev pub state : SearchState → PropagationState
 state p = state_of p.assignment p.graph p.trail
 
--- `HasClause p o` holds if `p` has a live long clause at `o`.
-abbrev pub HasClause : SearchState → ℕ → Type 0
-HasClause p o = Contains (live_refs p.clauses p.db.refs) o
+-- `HasLongClause p o` holds if `p` has a live long clause at `o`.
+abbrev pub HasLongClause : SearchState → ℕ → Type 0
+HasLongClause p o = Contains (live_refs p.clauses p.db.refs) o
 
--- `HasClauses p os` holds if `p` has a live long clause at every offset of `os`.
-abbrev pub HasClauses : SearchState → List ℕ → Type 0
-HasClauses p os = (k : ℕ) → k < length os → HasClause p (get_or os k 0)
+-- `HasLongClauses p os` holds if `p` has a live long clause at every offset of `os`.
+abbrev pub HasLongClauses : SearchState → List ℕ → Type 0
+HasLongClauses p os = (k : ℕ) → k < length os → HasLongClause p (get_or os k 0)
 
 -- `InNoClause p v` holds if the variable `v` is in no clause of `p`.
 abbrev pub InNoClause : SearchState → ℕ → Type 0
-InNoClause p v = IsUnused p.clauses (live_refs p.clauses p.db.refs) p.binary.implied v
+InNoClause p v = IsInNoClause p.clauses (live_refs p.clauses p.db.refs) p.binary.implied v
 
--- `SearchStateInvariant p` holds if the parts are as they are between rounds (`RoundInvariant`).
+-- `SearchStateInvariant p` holds if the parts of the search `p` are as between rounds: consistent, and propagated as
+-- far as literals have left the propagation queue (`RoundInvariant`).
 abbrev pub SearchStateInvariant : SearchState → Type 0
 SearchStateInvariant p = RoundInvariant p.clauses p.db p.watchlists p.binary p.assignment p.graph p.trail p.vsids
 
@@ -38,19 +39,20 @@ SearchStateInvariant p = RoundInvariant p.clauses p.db p.watchlists p.binary p.a
 abbrev pub SearchStateInvariantWith : Queue → SearchState → Type 0
 SearchStateInvariantWith q p = RoundInvariant p.clauses p.db p.watchlists p.binary p.assignment p.graph p.trail q
 
--- `IsPicked p v` holds if the invariant between rounds held for `p` until the unassigned variable `v` was picked.
+-- `IsPicked p v` holds if the unassigned variable `v` was just picked: `SearchStateInvariant` holds for `p` with an
+-- earlier decision queue in place of its own, and no other unassigned variable has since lost its place there.
 pub record IsPicked (p : SearchState) (v : ℕ) : Type 0 where
   pub before : Queue
   pub holds : SearchStateInvariantWith before p
-  pub picks : KeepsPicks p.assignment.current before p.vsids v
+  pub picks : KeepsPickable p.assignment.current before p.vsids v
   pub size : length p.vsids.available ≡ length before.available
   pub there : v < length p.assignment.current
   pub unset : value_of p.assignment.current v ≡ None
 
 -- `SearchStateInvariantBelow top p` holds if the parts of `p` are consistent, and the literals at levels below `top`
--- that have left the queue are propagated (`IsSoundBelow`).
+-- that have left the queue are propagated (`PartsInvariantBelow`).
 abbrev pub SearchStateInvariantBelow : ℕ → SearchState → Type 0
-SearchStateInvariantBelow top p = IsSoundBelow p.clauses p.db p.watchlists p.binary p.assignment p.graph p.trail p.vsids top
+SearchStateInvariantBelow top p = PartsInvariantBelow p.clauses p.db p.watchlists p.binary p.assignment p.graph p.trail p.vsids top
 
 -- `IsFullyPropagated p` holds if the queue is empty: every literal on the trail was propagated.
 abbrev pub IsFullyPropagated : SearchState → Type 0
@@ -60,10 +62,10 @@ IsFullyPropagated p = p.trail.head ≡ length p.trail.lits
 abbrev pub AllAssigned : SearchState → Type 0
 AllAssigned p = (u : ℕ) → u < length p.assignment.current → value_of p.assignment.current u ≡ None → InNoClause p u
 
--- `IsRefuted p e` holds if the conflict `e` names a falsified clause, and the invariant between rounds holds again once
--- the current level is undone.
-abbrev pub IsRefuted : SearchState → Conflict → Type 0
-IsRefuted p e =
+-- `HasConflict p e` holds if the conflict `e` names a falsified clause, and the invariant between rounds holds again
+-- once the current level is undone.
+abbrev pub HasConflict : SearchState → Conflict → Type 0
+HasConflict p e =
     SearchStateInvariantBelow (length p.trail.starts) p
     × IsConflict p.clauses (live_refs p.clauses p.db.refs) p.binary.implied p.assignment.current e
     × (0 < length p.trail.starts → UnitsHaveNoReason (state p) × LevelZeroInvariant p.trail)

@@ -28,7 +28,8 @@ with_binary a b x = record {
   count = min (x.count + 1) (2 ^ 64 - 1);
 }
 
--- the binary clauses with exactly `count` lists
+-- the binary clauses with lists for exactly `count` literals: excess lists are cut off, and empty lists are added; the
+-- number of clauses stays
 abbrev pub with_binary_lists : ℕ → Binaries → Binaries
 with_binary_lists count x = record x { implied = take count x.implied ++ replicate (count - length x.implied) [] }
 
@@ -36,7 +37,7 @@ with_binary_lists count x = record x { implied = take count x.implied ++ replica
 abbrev pub unassigned_among : List (Option Bool) → (v : ℕ) → List ℕ → List ℕ
 unassigned_among values v ls = if is_unassigned_var values v then filter (λ l. is_unassigned_var values (variable l)) ls else []
 
--- the number of implications, two for every clause (it saturates at 2^64 - 1)
+-- the total length of the lists of implied literals, twice the number of binary clauses (capped at 2^64 - 1)
 abbrev pub implications : List (List ℕ) → ℕ
 implications implied = min (sum_by (λ (ls : List ℕ). length ls) implied) (2 ^ 64 - 1)
 

@@ -11,15 +11,18 @@ signed_value None positive = Open
 signed_value (Some true) positive = if positive then True else False
 signed_value (Some false) positive = if positive then False else True
 
--- `MirrorsValues values codes` holds if `codes` has for every literal the value that its variable's value gives.
+-- `MirrorsValues values codes` holds if `codes`, indexed by literal code, has two entries for each variable of
+-- `values`: the values of its positive and of its negative literal (`Open` if the variable is unassigned).
 pub record MirrorsValues (values : List (Option Bool)) (codes : List LitValue) : Type 0 where
   pub count : length codes ≡ 2 * length values
   pub each : (l : ℕ) → l < 2 * length values → get_or codes l Open ≡ signed_value (value_of values (variable l)) (is_positive l)
 
--- the values, with those of both literals of a variable set
+-- the literal values `codes` (indexed by literal code), after both literals of the variable `v` were set to what
+-- `value` means for them: `Open` if it is `None`
 abbrev pub with_lit_value : ℕ → Option Bool → List LitValue → List LitValue
 with_lit_value v value codes = set (set codes (2 * v) (signed_value value true)) (2 * v + 1) (signed_value value false)
 
--- the values of `count` literals; new literals are unassigned
+-- the values of exactly `count` literals, indexed by literal code: excess ones are cut off, and added ones are
+-- unassigned
 abbrev pub with_lit_count : ℕ → List LitValue → List LitValue
 with_lit_count count codes = take count codes ++ replicate (count - length codes) Open

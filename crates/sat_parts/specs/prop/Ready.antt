@@ -7,16 +7,16 @@ use Rattle.sat_parts.specs.declared.prop.watch.Watch.{Watch}
 use Rattle.sat_parts.specs.declared.prop.graph.ImplNode.{ImplNode}
 use Rattle.sat_parts.specs.declared.prop.graph.Conflict.{Conflict}
 use Rattle.sat_parts.specs.declared.prop.graph.Conflict.TheVariants.{Binary, Long}
-use Rattle.sat_parts.specs.clause.Stored.{AreClauses, lit_of, size_of}
+use Rattle.sat_parts.specs.clause.Stored.{AreLongClauses, lit_of, size_of}
 use Rattle.sat_parts.specs.prop.Values.{Values, IsTrueLit, IsFalseLit, IsUnassignedLit}
-use Rattle.sat_parts.specs.prop.Trails.{Trailed}
+use Rattle.sat_parts.specs.prop.Trails.{TrailState}
 use Rattle.sat_parts.specs.prop.Binaries.{implied_by}
 use Rattle.sat_parts.specs.prop.WatchLists.{no_watch, watches_of}
 use Rattle.sat_parts.specs.prop.State.{PropagationState, level, current_level, HasLeftQueue, StateIsConsistent, IsQueueCurrent, IsSatisfied}
-use Rattle.sat_parts.specs.prop.Reasons.{HaveFirsts, PropagatesOn}
+use Rattle.sat_parts.specs.prop.Reasons.{TrailReasonsHaveLitFirst, PropagationEffect}
 
 -- the state with these values, nodes and trail
-abbrev pub state_of : Values → List ImplNode → Trailed → PropagationState
+abbrev pub state_of : Values → List ImplNode → TrailState → PropagationState
 state_of a g t = record { values = a.current; nodes = g; trail = t }
 
 -- `HasLit words o l` holds if `l` is a literal of the clause at `o`.
@@ -32,55 +32,57 @@ IsSoundWatch words live x = Contains live x.cref × HasLit words x.cref x.blocki
 abbrev pub HasWatch : List Watch → ℕ → Type 0
 HasWatch xs o = (p : ℕ) × ((p < length xs) × ((get_or xs p no_watch).cref ≡ o))
 
--- `AreWatched words live lists count` holds if the lists watch the first two literals of every live clause, and have no
--- watches on other clauses.
+-- `AreWatched words live lists count` holds if there are watch lists for all literals of `count` variables, every live
+-- clause has a watch in the lists of the negations of its first two literals, and every watch is on a live clause, with
+-- a blocking literal from it.
 pub record AreWatched (words live : List ℕ) (lists : List (List Watch)) (count : ℕ) : Type 0 where
   pub room : length lists ≡ 2 * count
   pub good : (l p : ℕ) → p < length (watches_of lists l) → IsSoundWatch words live (get_or (watches_of lists l) p no_watch)
   pub both : (o i : ℕ) → Contains live o → i < 2 → HasWatch (watches_of lists (negated (lit_of words o i))) o
 
--- `AreSettled words live s due` holds if every live clause one of whose first two literals is false by a due literal
--- that has left the queue has a true literal at the same level or lower.
-abbrev pub AreSettled : (words live : List ℕ) (s : PropagationState) (due : ℕ → Type 0) → Type 0
-AreSettled words live s due =
+-- `LongClausesArePropagated words live s due` holds if no live long clause awaits propagation: if one of its first two
+-- literals is false, and its negation has left the queue and is `due`, then the clause has a true literal that was
+-- assigned at the level of the false one or lower.
+abbrev pub LongClausesArePropagated : (words live : List ℕ) (s : PropagationState) (due : ℕ → Type 0) → Type 0
+LongClausesArePropagated words live s due =
     (o i : ℕ) → Contains live o → i < 2 → HasLeftQueue s (negated (lit_of words o i)) → due (negated (lit_of words o i)) →
     IsSatisfied s (lits_at words o) (level s (negated (lit_of words o i)))
 
--- `AreImplied implied s due` holds if every literal that is implied by a due literal that has left the queue is true at
--- the same level or lower.
-abbrev pub AreImplied : (implied : List (List ℕ)) (s : PropagationState) (due : ℕ → Type 0) → Type 0
-AreImplied implied s due =
+-- `BinariesArePropagated implied s due` holds if, for every literal that has left the queue and is `due`, all literals
+-- that it implies by binary clauses are true and were assigned at its level or lower.
+abbrev pub BinariesArePropagated : (implied : List (List ℕ)) (s : PropagationState) (due : ℕ → Type 0) → Type 0
+BinariesArePropagated implied s due =
     (l k : ℕ) → HasLeftQueue s l → due l → k < length (implied_by implied l) →
     IsTrueLit s.values (get_or (implied_by implied l) k 0) × (level s (get_or (implied_by implied l) k 0) ≤ level s l)
 
--- `LongReady words live lists s due` holds if the long clauses, their watch lists and the state are consistent, and the
--- due literals that have left the queue are propagated over long clauses.
-pub record LongReady (words live : List ℕ) (lists : List (List Watch)) (s : PropagationState) (due : ℕ → Type 0) : Type 0 where
-  pub clauses : AreClauses words live (length s.values)
+-- `LongPropagationInvariant words live lists s due` holds if the long clauses, their watch lists and the state are
+-- consistent, and the due literals that have left the queue are propagated over long clauses.
+pub record LongPropagationInvariant (words live : List ℕ) (lists : List (List Watch)) (s : PropagationState) (due : ℕ → Type 0) : Type 0 where
+  pub clauses : AreLongClauses words live (length s.values)
   pub watches : AreWatched words live lists (length s.values)
   pub agrees : StateIsConsistent s
   pub queue : IsQueueCurrent s
-  pub settled : AreSettled words live s due
+  pub settled : LongClausesArePropagated words live s due
 
--- `AreLists implied count` holds if there is a list of implied literals for each literal of `count` variables, and all
--- implied literals are of these variables.
-pub record AreLists (implied : List (List ℕ)) (count : ℕ) : Type 0 where
+-- `AreImpliedLists implied count` holds if there is a list of implied literals for each literal of `count` variables,
+-- and all implied literals are of these variables.
+pub record AreImpliedLists (implied : List (List ℕ)) (count : ℕ) : Type 0 where
   pub room : length implied ≡ 2 * count
   pub below : (l k : ℕ) → k < length (implied_by implied l) → get_or (implied_by implied l) k 0 < 2 * count
 
--- `ReadyBelow words live lists implied s top` holds if the literals at levels below `top` that have left the queue are
--- propagated. If `top` is one more than the current level, propagation can continue. If it is the current level,
--- propagation can continue once that level is undone.
-pub record ReadyBelow (words live : List ℕ) (lists : List (List Watch)) (implied : List (List ℕ)) (s : PropagationState) (top : ℕ) : Type 0 where
-  pub long : LongReady words live lists s (λ l. level s l < top)
-  pub ranges : AreLists implied (length s.values)
-  pub binary : AreImplied implied s (λ l. level s l < top)
-  pub firsts : HaveFirsts words live s
+-- `WatchedPropagationInvariant words live lists implied s top` holds if clauses, watch lists and state are consistent,
+-- and the literals at levels below `top` that have left the queue are propagated. With `top` one above the current
+-- level, propagation can continue; with `top` the current level, it can once that level is undone.
+pub record WatchedPropagationInvariant (words live : List ℕ) (lists : List (List Watch)) (implied : List (List ℕ)) (s : PropagationState) (top : ℕ) : Type 0 where
+  pub long : LongPropagationInvariant words live lists s (λ l. level s l < top)
+  pub ranges : AreImpliedLists implied (length s.values)
+  pub binary : BinariesArePropagated implied s (λ l. level s l < top)
+  pub firsts : TrailReasonsHaveLitFirst words live s
 
--- `IsReadyToPropagate words live lists implied s` holds if `ReadyBelow` holds for literals of all levels, so that
--- propagation can continue.
+-- `IsReadyToPropagate words live lists implied s` holds if clauses, watch lists and state are consistent, and all
+-- literals that have left the queue are propagated: `WatchedPropagationInvariant` for the literals of all levels.
 abbrev pub IsReadyToPropagate : (words live : List ℕ) (lists : List (List Watch)) (implied : List (List ℕ)) (s : PropagationState) → Type 0
-IsReadyToPropagate words live lists implied s = ReadyBelow words live lists implied s (current_level s + 1)
+IsReadyToPropagate words live lists implied s = WatchedPropagationInvariant words live lists implied s (current_level s + 1)
 
 -- `AreAllFalse values ls` holds if all literals of `ls` are false.
 abbrev pub AreAllFalse : List (Option Bool) → List ℕ → Type 0
@@ -105,12 +107,12 @@ IsConflict words live implied values (Binary ls) =
     × IsFalseLit values (get_or ls 1 0)
 IsConflict words live implied values (Long o) = Contains live o × AreAllFalse values (lits_at words o)
 
--- `Propagated live implied words s words' s' lists r` holds if propagation with the result `r` has led from `words` and
--- `s` to `words'` and `s'`. The literals that it assigned have reasons. Without a conflict, its precondition holds
--- again, with an empty queue and no unit or falsified clause. After a conflict, a clause is falsified, and the
--- precondition holds once the current level is undone.
-pub record Propagated (live : List ℕ) (implied : List (List ℕ)) (words : List ℕ) (s : PropagationState) (words' : List ℕ) (s' : PropagationState) (lists : List (List Watch)) (r : Result (Unit {0}) Conflict) : Type 0 where
-  pub moves : PropagatesOn live implied words s words' s'
+-- `WatchedPropagationResult live implied words s words' s' lists r` holds if propagation with the result `r` has led
+-- from `words` and `s` to `words'` and `s'`. The literals that it assigned have reasons. Without a conflict, its
+-- precondition holds again, with an empty queue and no unit or falsified clause. After a conflict, a clause is
+-- falsified, and the precondition holds once the current level is undone.
+pub record WatchedPropagationResult (live : List ℕ) (implied : List (List ℕ)) (words : List ℕ) (s : PropagationState) (words' : List ℕ) (s' : PropagationState) (lists : List (List Watch)) (r : Result (Unit {0}) Conflict) : Type 0 where
+  pub moves : PropagationEffect live implied words s words' s'
   pub outcome : MatchResult r
       (λ _. IsReadyToPropagate words' live lists implied s' × (s'.trail.head ≡ length s'.trail.lits) × IsUnitFixpoint words' live implied s'.values)
-      (λ e. ReadyBelow words' live lists implied s' (current_level s') × IsConflict words' live implied s'.values e)
+      (λ e. WatchedPropagationInvariant words' live lists implied s' (current_level s') × IsConflict words' live implied s'.values e)

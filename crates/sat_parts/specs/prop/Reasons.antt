@@ -8,43 +8,44 @@ use Rattle.sat_parts.specs.clause.Orders.{PermutesClauses}
 use Rattle.sat_parts.specs.clause.Stored.{lit_of, size_of}
 use Rattle.sat_parts.specs.prop.Values.{IsTrueLit}
 use Rattle.sat_parts.specs.prop.Graphs.{has_no_clause}
-use Rattle.sat_parts.specs.prop.State.{PropagationState, node, lit_at, IsBefore, IsRemoved, TrailGrows}
+use Rattle.sat_parts.specs.prop.State.{PropagationState, node, lit_at, IsOnTrailBefore, IsRemovedUnit, TrailGrows}
 
 -- `IsFalseBefore s bound l` holds if the negation of the literal `l` is on the trail before position `bound`, or was
 -- taken off as a unit.
 abbrev pub IsFalseBefore : PropagationState → ℕ → ℕ → Type 0
-IsFalseBefore s bound l = IsBefore s bound (negated l) ⊎ IsRemoved s (negated l)
+IsFalseBefore s bound l = IsOnTrailBefore s bound (negated l) ⊎ IsRemovedUnit s (negated l)
 
--- `Implies words live implied s i reason` holds if `reason` has no clause, or its clause implies the literal at
--- position `i` of the trail, and its other literals were false before: a binary clause of the lists of implied
--- literals, or a live long clause that has the literal first.
-abbrev pub Implies : (words live : List ℕ) (implied : List (List ℕ)) (s : PropagationState) (i : ℕ) → Reason → Type 0
-Implies words live implied s i NoCause = Unit {0}
-Implies words live implied s i (Binary ls) =
+-- `ReasonImplies words live implied s i reason` holds if `reason` is not a clause, or is a clause (a binary one of
+-- `implied`, or a live long one) that contains the literal at position `i` of the trail, first in a long clause, and
+-- its other literals were false before that position.
+abbrev pub ReasonImplies : (words live : List ℕ) (implied : List (List ℕ)) (s : PropagationState) (i : ℕ) → Reason → Type 0
+ReasonImplies words live implied s i NoCause = Unit {0}
+ReasonImplies words live implied s i (Binary ls) =
     Contains (get_or implied (negated (get_or ls 0 0)) []) (lit_at s i) × IsFalseBefore s i (get_or ls 0 0)
-Implies words live implied s i (Long o) =
+ReasonImplies words live implied s i (Long o) =
     Contains live o × (lit_of words o 0 ≡ lit_at s i) × ((k : ℕ) → 1 ≤ k → k < size_of words o → IsFalseBefore s i (lit_of words o k))
 
--- `AreUnitInTurn words live implied s from` holds if the reason of every literal of the trail from position `from` on
--- is unit in the order of the trail: all of its other literals were false before (`Implies`).
-abbrev pub AreUnitInTurn : (words live : List ℕ) (implied : List (List ℕ)) (s : PropagationState) (from : ℕ) → Type 0
-AreUnitInTurn words live implied s from =
-    (i : ℕ) → from ≤ i → i < length s.trail.lits → Implies words live implied s i (node s (lit_at s i)).reason
+-- `ReasonsAreUnit words live implied s from` holds if the reason of every literal of the trail from position `from` on
+-- is unit in the order of the trail: all of its other literals were false before (`ReasonImplies`).
+abbrev pub ReasonsAreUnit : (words live : List ℕ) (implied : List (List ℕ)) (s : PropagationState) (from : ℕ) → Type 0
+ReasonsAreUnit words live implied s from =
+    (i : ℕ) → from ≤ i → i < length s.trail.lits → ReasonImplies words live implied s i (node s (lit_at s i)).reason
 
--- `HaveFirsts words live s` holds if the clause of every long reason on the trail is live and has the literal first.
-abbrev pub HaveFirsts : (words live : List ℕ) (s : PropagationState) → Type 0
-HaveFirsts words live s = (i o : ℕ) → i < length s.trail.lits → (node s (lit_at s i)).reason ≡ Long o → Contains live o × (lit_of words o 0 ≡ lit_at s i)
+-- `TrailReasonsHaveLitFirst words live s` holds if the clause of every long reason on the trail is live and has the
+-- literal first.
+abbrev pub TrailReasonsHaveLitFirst : (words live : List ℕ) (s : PropagationState) → Type 0
+TrailReasonsHaveLitFirst words live s = (i o : ℕ) → i < length s.trail.lits → (node s (lit_at s i)).reason ≡ Long o → Contains live o × (lit_of words o 0 ≡ lit_at s i)
 
 -- `HasClauseReason s i` holds if the literal at position `i` of the trail is true and has a clause as its reason.
 abbrev pub HasClauseReason : PropagationState → ℕ → Type 0
 HasClauseReason s i = IsTrueLit s.values (lit_at s i) × (has_no_clause (node s (lit_at s i)).reason ≡ false)
 
--- `PropagatesOn live implied words s words' s'` holds if some propagation has led from `words` and `s` to `words'` and
--- `s'`. Every literal that became true has a clause as its reason, and reasons stay unit in the order of the trail.
+-- `PropagationEffect live implied words s words' s'` holds if some propagation has led from `words` and `s` to `words'`
+-- and `s'`. Every literal that became true has a clause as its reason, and reasons stay unit in the order of the trail.
 -- Clauses changed only in the order of their literals; a true first literal stays first.
-pub record PropagatesOn (live : List ℕ) (implied : List (List ℕ)) (words : List ℕ) (s : PropagationState) (words' : List ℕ) (s' : PropagationState) : Type 0 where
+pub record PropagationEffect (live : List ℕ) (implied : List (List ℕ)) (words : List ℕ) (s : PropagationState) (words' : List ℕ) (s' : PropagationState) : Type 0 where
   pub grows : TrailGrows s s'
   pub reorders : PermutesClauses words words' live
   pub firsts : (o : ℕ) → Contains live o → IsTrueLit s.values (lit_of words o 0) → lit_of words' o 0 ≡ lit_of words o 0
   pub caused : (i : ℕ) → length s.trail.lits ≤ i → i < length s'.trail.lits → HasClauseReason s' i
-  pub turns : (from : ℕ) → from ≤ length s.trail.lits → AreUnitInTurn words live implied s from → AreUnitInTurn words' live implied s' from
+  pub reasons : (from : ℕ) → from ≤ length s.trail.lits → ReasonsAreUnit words live implied s from → ReasonsAreUnit words' live implied s' from

@@ -4,16 +4,16 @@ use Rattle.sat_base.specs.values.Literals.{variable, is_positive}
 use Rattle.sat_parts.specs.declared.prop.graph.ImplNode.{ImplNode}
 use Rattle.sat_parts.specs.declared.prop.graph.Reason.{Reason}
 use Rattle.sat_parts.specs.prop.Values.{IsTrueLit}
-use Rattle.sat_parts.specs.prop.Trails.{Trailed, IsTrail, LevelIs, with_lit}
-use Rattle.sat_parts.specs.prop.Graphs.{node_of, node_at, with_node}
+use Rattle.sat_parts.specs.prop.Trails.{TrailState, IsTrail, IsAtLevel, with_lit}
+use Rattle.sat_parts.specs.prop.Graphs.{node_of, enqueued_node, with_node}
 
 -- the state of a search: which literals are true, why, and in which order they became true
 pub record PropagationState : Type 0 where
   pub values : List (Option Bool)
   pub nodes : List ImplNode
-  pub trail : Trailed
+  pub trail : TrailState
 
--- the node of a literal's variable
+-- the implication graph node (reason, level and depth) of the variable of the literal `l`
 abbrev pub node : PropagationState → ℕ → ImplNode
 node s l = node_of s.nodes (variable l)
 
@@ -25,18 +25,18 @@ level s l = (node s l).level
 abbrev pub current_level : PropagationState → ℕ
 current_level s = length s.trail.starts
 
--- the literal at a position of the trail
+-- the literal at position `i` of the trail, or 0 past its end
 abbrev pub lit_at : PropagationState → ℕ → ℕ
 lit_at s i = get_or s.trail.lits i 0
 
--- `IsRemoved s l` holds if the literal `l` is a unit, true at level 0, that was taken off the trail.
-pub record IsRemoved (s : PropagationState) (l : ℕ) : Type 0 where
+-- `IsRemovedUnit s l` holds if the literal `l` is a unit, true at level 0, that was taken off the trail.
+pub record IsRemovedUnit (s : PropagationState) (l : ℕ) : Type 0 where
   pub holds : IsTrueLit s.values l
   pub depth : (node s l).depth ≡ 4294967295
   pub bottom : level s l ≡ 0
 
--- `IsBefore s bound l` holds if the literal `l` is on the trail before position `bound`.
-pub record IsBefore (s : PropagationState) (bound l : ℕ) : Type 0 where
+-- `IsOnTrailBefore s bound l` holds if the literal `l` is on the trail before position `bound`.
+pub record IsOnTrailBefore (s : PropagationState) (bound l : ℕ) : Type 0 where
   pub place : ℕ
   pub before : place < bound
   pub within : place < length s.trail.lits
@@ -44,7 +44,7 @@ pub record IsBefore (s : PropagationState) (bound l : ℕ) : Type 0 where
 
 -- `HasLeftQueue s l` holds if the literal `l` has left the queue: it was propagated, or taken off the trail as a unit.
 abbrev pub HasLeftQueue : PropagationState → ℕ → Type 0
-HasLeftQueue s l = IsBefore s s.trail.head l ⊎ IsRemoved s l
+HasLeftQueue s l = IsOnTrailBefore s s.trail.head l ⊎ IsRemovedUnit s l
 
 -- `StateIsConsistent s` holds if values, nodes and trail agree. The literals on the trail are true, and their nodes
 -- have their positions and levels. Every other true literal was taken off the trail as a unit.
@@ -54,8 +54,8 @@ pub record StateIsConsistent (s : PropagationState) : Type 0 where
   pub room : length s.values ≤ s.trail.room
   pub holds : (i : ℕ) → i < length s.trail.lits → IsTrueLit s.values (lit_at s i)
   pub depths : (i : ℕ) → i < length s.trail.lits → (node s (lit_at s i)).depth ≡ i + 1
-  pub levels : (i : ℕ) → i < length s.trail.lits → LevelIs s.trail.starts i (level s (lit_at s i))
-  pub known : (l : ℕ) → IsTrueLit s.values l → IsBefore s (length s.trail.lits) l ⊎ IsRemoved s l
+  pub levels : (i : ℕ) → i < length s.trail.lits → IsAtLevel s.trail.starts i (level s (lit_at s i))
+  pub known : (l : ℕ) → IsTrueLit s.values l → IsOnTrailBefore s (length s.trail.lits) l ⊎ IsRemovedUnit s l
 
 -- `IsQueueCurrent s` holds if every literal in the queue is at the current level.
 abbrev pub IsQueueCurrent : PropagationState → Type 0
@@ -65,12 +65,13 @@ IsQueueCurrent s = (i : ℕ) → s.trail.head ≤ i → i < length s.trail.lits 
 abbrev pub enqueued : ℕ → Reason → PropagationState → PropagationState
 enqueued l reason s = record {
   values = set s.values (variable l) (Some (is_positive l));
-  nodes = with_node (variable l) (node_at s.trail reason) s.nodes;
+  nodes = with_node (variable l) (enqueued_node s.trail reason) s.nodes;
   trail = with_lit l s.trail;
 }
 
--- `TrailGrows old new` holds if the trail of `new` is that of `old` with more literals, true literals stay true with
--- their nodes, levels are unchanged, and no literal was taken off as a unit.
+-- `TrailGrows old new` holds if the trail of `new` is that of `old` with zero or more literals appended: true literals
+-- stay true with the same nodes, levels begin at the same positions, the variables are the same, and no unit was taken
+-- off the trail.
 pub record TrailGrows (old new : PropagationState) : Type 0 where
   pub size : length new.values ≡ length old.values
   pub starts : new.trail.starts ≡ old.trail.starts
@@ -80,7 +81,7 @@ pub record TrailGrows (old new : PropagationState) : Type 0 where
   pub front : (i : ℕ) → i < length old.trail.lits → lit_at new i ≡ lit_at old i
   pub kept : (l : ℕ) → IsTrueLit old.values l → IsTrueLit new.values l
   pub nodes : (l : ℕ) → IsTrueLit old.values l → node new l ≡ node old l
-  pub removed : (l : ℕ) → IsRemoved new l → IsRemoved old l
+  pub removed : (l : ℕ) → IsRemovedUnit new l → IsRemovedUnit old l
 
 -- `IsSatisfied s ls bound` holds if some literal of `ls` is true at level `bound` or lower.
 pub record IsSatisfied (s : PropagationState) (ls : List ℕ) (bound : ℕ) : Type 0 where

@@ -6,33 +6,37 @@ use Rattle.sat_parts.specs.declared.prop.graph.Reason.{Reason}
 use Rattle.sat_parts.specs.declared.prop.graph.Reason.TheVariants.{Unit as NoCause}
 use Rattle.sat_parts.specs.prop.Graphs.{has_no_clause}
 use Rattle.sat_parts.specs.prop.Values.{Values, IsUnassignedLit}
-use Rattle.sat_parts.specs.prop.Trails.{Trailed, with_lit, with_level, cut_to}
+use Rattle.sat_parts.specs.prop.Trails.{TrailState, with_lit, with_level, without_levels_above}
 use Rattle.sat_parts.specs.prop.State.{PropagationState, node, lit_at, StateIsConsistent, enqueued}
-use Rattle.sat_parts.specs.prop.Reasons.{PropagatesOn}
-use Rattle.sat_parts.specs.prop.Undone.{undone_to}
+use Rattle.sat_parts.specs.prop.Reasons.{PropagationEffect}
+use Rattle.sat_parts.specs.prop.Undone.{with_levels_undone}
 use Rattle.sat_parts.specs.prop.Ready.{state_of}
 
--- D for a decision or an assumption, P for any other literal
+-- a letter of a trail word: D for a literal that begins a level (a decision or an assumption), P for any other literal
 pub data Letter : Type 0 where
   D : Letter
   P : Letter
 
--- `begins starts i` is true if a level begins with the literal at position `i`.
-abbrev pub begins : List ℕ → ℕ → Bool
-begins [] i = false
-begins (k ∷ ks) i = (k == i) || begins ks i
+-- `begins_level starts i` is true if a level above 0 begins with the literal at position `i` of the trail; `starts` are
+-- the positions where levels begin.
+abbrev pub begins_level : List ℕ → ℕ → Bool
+begins_level [] i = false
+begins_level (k ∷ ks) i = (k == i) || begins_level ks i
 
--- the letter of the literal at position i of the trail, given where levels begin
-abbrev pub letter : List ℕ → ℕ → Letter
-letter starts i = if begins starts i then D else P
+-- the letter of the literal at position `i` of the trail: D if a level begins there, otherwise P; `starts` are the
+-- positions where levels begin
+abbrev pub trail_letter : List ℕ → ℕ → Letter
+trail_letter starts i = if begins_level starts i then D else P
 
--- the letters of the literals `lits`, the first of which is at position `at`
+-- one letter (D or P) for each of the literals `lits`, the first of which is at position `at` of the trail; `starts`
+-- are the positions where levels begin
 abbrev pub letters : (starts lits : List ℕ) (at : ℕ) → List Letter
 letters starts [] at = []
-letters starts (l ∷ ls) at = letter starts at ∷ letters starts ls (at + 1)
+letters starts (l ∷ ls) at = trail_letter starts at ∷ letters starts ls (at + 1)
 
--- the letters of the units that were taken off the trail, then the letters of the literals on the trail
-abbrev pub trail_word : Trailed → List Letter
+-- the word of a trail: a P for every unit that was taken off the trail, then for each literal on the trail, in order of
+-- assignment, D if it begins a level and P otherwise
+abbrev pub trail_word : TrailState → List Letter
 trail_word t = replicate t.cleared P ++ letters t.starts t.lits 0
 
 -- `IsLowerWord u v` holds if the word `u` is lower than `v` in the lexical order: D is lower than P, and a word is
@@ -50,10 +54,10 @@ IsLowerWord (P ∷ u) (P ∷ v) = IsLowerWord u v
 abbrev pub BeginsNoLevel : List ℕ → ℕ → Type 0
 BeginsNoLevel starts i = (k : ℕ) → k < length starts → get_or starts k 0 ≢ i
 
--- `IsLevelled s` holds if every level begins with a literal, after the literal that begins the level before; the
--- literal that begins a level has no clause as its reason, and every other literal above level 0 has a clause as its
--- reason.
-pub record IsLevelled (s : PropagationState) : Type 0 where
+-- `LevelsBeginWithDecisions s` holds if every level begins with a literal, after the literal that begins the level
+-- before; the literal that begins a level has no clause as its reason, and every other literal above level 0 has a
+-- clause as its reason.
+pub record LevelsBeginWithDecisions (s : PropagationState) : Type 0 where
   pub strict : (j k : ℕ) → j < k → k < length s.trail.starts → get_or s.trail.starts j 0 < get_or s.trail.starts k 0
   pub begun : (k : ℕ) → k < length s.trail.starts → get_or s.trail.starts k 0 < length s.trail.lits
   pub decided : (k : ℕ) → k < length s.trail.starts → has_no_clause (node s (lit_at s (get_or s.trail.starts k 0))).reason ≡ true
@@ -64,19 +68,21 @@ pub record IsLevelled (s : PropagationState) : Type 0 where
 abbrev pub decided_on : ℕ → PropagationState → PropagationState
 decided_on l s = enqueued l NoCause (record s { trail = with_level s.trail })
 
--- `LevelsStay` holds if `IsLevelled` holds without levels above 0, and is preserved when a literal is decided or
--- becomes true by a clause, in propagation, and when levels are undone.
-pub record LevelsStay : Type 0 where
-  pub none : (s : PropagationState) → s.trail.starts ≡ [] → IsLevelled s
-  pub decides : (s : PropagationState) (l : ℕ) → StateIsConsistent s → IsUnassignedLit s.values l → variable l < length s.values → IsLevelled s → IsLevelled (decided_on l s)
-  pub caused : (s : PropagationState) (l : ℕ) (r : Reason) → StateIsConsistent s → IsUnassignedLit s.values l → variable l < length s.values → has_no_clause r ≡ false → IsLevelled s → IsLevelled (enqueued l r s)
-  pub moves : (words live words' : List ℕ) (implied : List (List ℕ)) (s s' : PropagationState) → StateIsConsistent s → PropagatesOn live implied words s words' s' → IsLevelled s → IsLevelled s'
-  pub undone : (a : Values) (nodes : List ImplNode) (t : Trailed) (level : ℕ) → StateIsConsistent (state_of a nodes t) → level < length t.starts →
-      IsLevelled (state_of a nodes t) → IsLevelled (state_of (undone_to level t a) nodes (cut_to level t))
+-- `LevelsArePreserved` holds if `LevelsBeginWithDecisions` holds whenever there are no levels above 0, and is preserved
+-- in consistent states when a literal is decided or assigned with a clause as its reason, by propagation, and when
+-- levels are undone.
+pub record LevelsArePreserved : Type 0 where
+  pub none : (s : PropagationState) → s.trail.starts ≡ [] → LevelsBeginWithDecisions s
+  pub decides : (s : PropagationState) (l : ℕ) → StateIsConsistent s → IsUnassignedLit s.values l → variable l < length s.values → LevelsBeginWithDecisions s → LevelsBeginWithDecisions (decided_on l s)
+  pub caused : (s : PropagationState) (l : ℕ) (r : Reason) → StateIsConsistent s → IsUnassignedLit s.values l → variable l < length s.values → has_no_clause r ≡ false → LevelsBeginWithDecisions s → LevelsBeginWithDecisions (enqueued l r s)
+  pub moves : (words live words' : List ℕ) (implied : List (List ℕ)) (s s' : PropagationState) → StateIsConsistent s → PropagationEffect live implied words s words' s' → LevelsBeginWithDecisions s → LevelsBeginWithDecisions s'
+  pub undone : (a : Values) (nodes : List ImplNode) (t : TrailState) (level : ℕ) → StateIsConsistent (state_of a nodes t) → level < length t.starts →
+      LevelsBeginWithDecisions (state_of a nodes t) → LevelsBeginWithDecisions (state_of (with_levels_undone level t a) nodes (without_levels_above level t))
 
--- `WordsRise` holds if a new literal appends its letter to the word and, if levels were undone before a literal was
--- appended, the new word is higher than the old one.
-pub record WordsRise : Type 0 where
-  pub decided : (s : PropagationState) (l : ℕ) → IsLevelled s → trail_word (with_lit l (with_level s.trail)) ≡ trail_word s.trail ++ D ∷ []
-  pub caused : (s : PropagationState) (l : ℕ) → IsLevelled s → trail_word (with_lit l s.trail) ≡ trail_word s.trail ++ P ∷ []
-  pub rises : (s : PropagationState) (l level : ℕ) → IsLevelled s → level < length s.trail.starts → IsLowerWord (trail_word s.trail) (trail_word (with_lit l (cut_to level s.trail)))
+-- `TrailWordsIncrease` holds if, when `LevelsBeginWithDecisions` holds, deciding a literal appends D to the
+-- `trail_word` and assigning one without a new level appends P. Backjumping and then assigning a literal without a new
+-- level gives a higher word (`IsLowerWord`).
+pub record TrailWordsIncrease : Type 0 where
+  pub decided : (s : PropagationState) (l : ℕ) → LevelsBeginWithDecisions s → trail_word (with_lit l (with_level s.trail)) ≡ trail_word s.trail ++ D ∷ []
+  pub caused : (s : PropagationState) (l : ℕ) → LevelsBeginWithDecisions s → trail_word (with_lit l s.trail) ≡ trail_word s.trail ++ P ∷ []
+  pub rises : (s : PropagationState) (l level : ℕ) → LevelsBeginWithDecisions s → level < length s.trail.starts → IsLowerWord (trail_word s.trail) (trail_word (with_lit l (without_levels_above level s.trail)))

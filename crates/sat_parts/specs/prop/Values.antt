@@ -11,7 +11,7 @@ pub record Values : Type 0 where
 abbrev pub value_of : List (Option Bool) → ℕ → Option Bool
 value_of values v = get_or values v None
 
--- `is_unassigned_var values v` is true if the variable `v` is unassigned.
+-- `is_unassigned_var values v` is true if the variable `v` is unassigned (or does not exist).
 abbrev pub is_unassigned_var : List (Option Bool) → ℕ → Bool
 is_unassigned_var values v = is_none (value_of values v)
 
@@ -28,9 +28,9 @@ abbrev pub IsUnassignedLit : List (Option Bool) → ℕ → Type 0
 IsUnassignedLit values l = value_of values (variable l) ≡ None
 
 -- the value of a literal, given whether it is positive and the value of its variable
-abbrev pub seen_from : Bool → Option Bool → Option Bool
-seen_from positive None = None
-seen_from positive (Some b) = Some (if positive then b else not b)
+abbrev pub lit_value_from : Bool → Option Bool → Option Bool
+lit_value_from positive None = None
+lit_value_from positive (Some b) = Some (if positive then b else not b)
 
 -- the values, with the value of one variable set or removed
 abbrev pub with_value : ℕ → Option Bool → Values → Values
@@ -40,7 +40,8 @@ with_value v value a = record a { current = set a.current v value }
 abbrev pub with_true_lit : ℕ → Values → Values
 with_true_lit l a = with_value (variable l) (Some (is_positive l)) a
 
--- the values of `count` variables; new variables are unassigned, and their last value is false
+-- the values of exactly `count` variables: excess variables are cut off; added ones are unassigned, with saved phase
+-- false
 abbrev pub with_var_count : ℕ → Values → Values
 with_var_count count a = record {
   current = take count a.current ++ replicate (count - length a.current) None;

@@ -3,8 +3,9 @@ ghost use Rattle.std.specs.Prelude.{◌≡◌, ◌+◌, ◌*◌, ◌/◌, ◌^�
 ghost use Rattle.std.specs.List.{Contains};
 ghost use Rattle.sat_store.specs.clause.Buffer.{header_at};
 ghost use Rattle.sat_parts.specs.clause.Db.{DbMatchesBuffer, PutsHeader, live_refs};
-ghost use Rattle.sat_parts.specs.clause.Activity.{PutsHeaders, BumpsBelow, BumpsPast, DecaysAll, later_scale};
-ghost use Rattle.sat_parts.specs.clause.Activity.{first_scale, later_bump, with_activity, shifted};
+ghost use Rattle.sat_parts.specs.clause.Activity.{PutsHeaders, BumpsIfBelowLimit, RescalesIfLimitReached};
+ghost use Rattle.sat_parts.specs.clause.Activity.{DecaysAndRescales, decayed_scale};
+ghost use Rattle.sat_parts.specs.clause.Activity.{initial_scale, decayed_bump, with_activity, rescaled_header};
 
 use crate::clause::db::{ClauseDb, put_header};
 use sat_store::{ClauseAlloc, ClauseRef};
@@ -13,7 +14,7 @@ use std::marker::Model;
 /// Activities and the bump are rescaled when one of them reaches this limit.
 const LIMIT: u64 = 1 << 30;
 
-/// The scale of activities: how much a bump adds, and the decay factor in thousandths. Contracts see a `Scale`.
+/// The scale of activities: how much a bump adds, and the decay factor in thousandths. Contracts see a `ActivityScale`.
 #[derive(Drop)]
 pub struct ClauseActivity {
     bump: u64,
@@ -22,9 +23,9 @@ pub struct ClauseActivity {
 
 impl Model for ClauseActivity {
     ghost use Rattle.std.specs.Prelude.{◌<◌, ◌≤◌, ◌^◌};
-    ghost use Rattle.sat_parts.specs.clause.Activity.{Scale};
+    ghost use Rattle.sat_parts.specs.clause.Activity.{ActivityScale};
 
-    ghost Value = { Scale };
+    ghost Value = { ActivityScale };
 
     ghost view = { λ a. record { bump = a.bump; decay = a.decay } };
 
@@ -33,9 +34,9 @@ impl Model for ClauseActivity {
 
 impl Default for ClauseActivity {
     ghost use Rattle.std.specs.Prelude.{◌≡◌};
-    ghost use Rattle.sat_parts.specs.clause.Activity.{first_scale};
+    ghost use Rattle.sat_parts.specs.clause.Activity.{initial_scale};
 
-    ghost is_default = { λ a. a ≡ first_scale };
+    ghost is_default = { λ a. a ≡ initial_scale };
 
     /// Returns a scale with a bump of 1024 and a decay factor of 999 thousandths.
     fn default() -> ClauseActivity {
@@ -68,7 +69,7 @@ impl ClauseActivity {
 /// Rescales the activities of all clauses.
 fn rescale_clause_activities(clauses: &mut ClauseAlloc, db: &ClauseDb)
     requires { DbMatchesBuffer clauses.old db.now }
-    ensures headers { PutsHeaders clauses.old clauses.new db.now.refs (shifted clauses.old) }
+    ensures headers { PutsHeaders clauses.old clauses.new db.now.refs (rescaled_header clauses.old) }
     ensures db { DbMatchesBuffer clauses.new db.now }
     ensures live { live_refs clauses.new db.now.refs ≡ live_refs clauses.old db.now.refs }
 {
@@ -101,8 +102,8 @@ pub fn bump_clause_activity(
 )
     requires db { DbMatchesBuffer clauses.old db.now }
     requires there { Contains db.now.refs cref }
-    ensures raised { BumpsBelow clauses.old clauses.new db.now.refs cref activity.old activity.new }
-    ensures rescaled { BumpsPast clauses.old clauses.new db.now.refs cref activity.old activity.new }
+    ensures raised { BumpsIfBelowLimit clauses.old clauses.new db.now.refs cref activity.old activity.new }
+    ensures rescaled { RescalesIfLimitReached clauses.old clauses.new db.now.refs cref activity.old activity.new }
     ensures db { DbMatchesBuffer clauses.new db.now }
     ensures live { live_refs clauses.new db.now.refs ≡ live_refs clauses.old db.now.refs }
 {
@@ -123,10 +124,10 @@ pub fn decay_clause_activities(
     db: &ClauseDb,
 )
     requires db { DbMatchesBuffer clauses.old db.now }
-    ensures later { later_bump activity.old < 2 ^ 30
-        → (activity.new ≡ later_scale activity.old) × (clauses.new ≡ clauses.old) }
-    ensures rescaled { 2 ^ 30 ≤ later_bump activity.old
-        → DecaysAll clauses.old clauses.new db.now.refs activity.old activity.new }
+    ensures later { decayed_bump activity.old < 2 ^ 30
+        → (activity.new ≡ decayed_scale activity.old) × (clauses.new ≡ clauses.old) }
+    ensures rescaled { 2 ^ 30 ≤ decayed_bump activity.old
+        → DecaysAndRescales clauses.old clauses.new db.now.refs activity.old activity.new }
     ensures db { DbMatchesBuffer clauses.new db.now }
     ensures live { live_refs clauses.new db.now.refs ≡ live_refs clauses.old db.now.refs }
 {

@@ -5,12 +5,13 @@ ghost use Rattle.std.specs.List.{Contains};
 ghost use Rattle.sat_base.specs.values.Literals.{negated, variable};
 ghost use Rattle.sat_store.specs.clause.Buffer.{IsClause, HoldsClauses, AppendsClause, header_at, lits_at};
 ghost use Rattle.sat_store.specs.clause.Full.{IfStoreFull};
-ghost use Rattle.sat_store.specs.clause.Header.{index_of};
+ghost use Rattle.sat_store.specs.clause.Header.{tier_index};
 ghost use Rattle.sat_parts.specs.clause.Db.{no_clauses, DbMatchesBuffer, live_refs, tier_count_more, tier_count_less};
 ghost use Rattle.sat_parts.specs.clause.Db.{PutsHeader};
-ghost use Rattle.sat_parts.specs.clause.Db.{AddsLongClause, DeletesClause, MovesClause, ShortensClause, IsLockedClause};
+ghost use Rattle.sat_parts.specs.clause.Db.{AddsLongClause, DeletesClause, MovesClauseToTier, ShortensClause};
+ghost use Rattle.sat_parts.specs.clause.Db.{IsLockedClause};
 ghost use Rattle.sat_parts.specs.clause.Stored.{lit_of};
-ghost use Rattle.sat_parts.specs.prop.WatchLists.{with_firsts};
+ghost use Rattle.sat_parts.specs.prop.WatchLists.{with_first_two_watched};
 
 use crate::prop::assignment::Assignment;
 use crate::prop::graph::{ImplGraph, Reason};
@@ -57,7 +58,7 @@ impl ClauseDb {
 
     /// Returns the number of clauses in a tier.
     pub fn count_by_tier(&self, tier: Tier) -> usize
-        ensures { result ≡ slice_index self.now.counts (index_of tier) }
+        ensures { result ≡ slice_index self.now.counts (tier_index tier) }
     {
         self.count_by_tier[tier.index()]
     }
@@ -93,7 +94,7 @@ impl ClauseDb {
 
     /// Adds one to the number of clauses in a tier.
     fn count_more(&mut self, tier: Tier)
-        requires { slice_index_or self.old.counts (index_of tier) 0 + 1 < 2 ^ 64 }
+        requires { slice_index_or self.old.counts (tier_index tier) 0 + 1 < 2 ^ 64 }
         ensures { self.new ≡ record self.old { counts = tier_count_more tier self.old.counts } }
     {
         self.count_by_tier[tier.index()] += 1;
@@ -101,7 +102,7 @@ impl ClauseDb {
 
     /// Subtracts one from the number of clauses in a tier.
     fn count_less(&mut self, tier: Tier)
-        requires { 0 < slice_index_or self.old.counts (index_of tier) 0 }
+        requires { 0 < slice_index_or self.old.counts (tier_index tier) 0 }
         ensures { self.new ≡ record self.old { counts = tier_count_less tier self.old.counts } }
     {
         self.count_by_tier[tier.index()] -= 1;
@@ -139,7 +140,7 @@ fn store_clause(
     requires first { negated (slice_index_or lits.now 0 0) < length watchlists.old.lists }
     requires second { negated (slice_index_or lits.now 1 0) < length watchlists.old.lists }
     ensures added { IfOk result (λ cref. AppendsClause clauses.old clauses.new cref header lits.now) }
-    ensures watched { IfOk result (λ cref. watchlists.new ≡ with_firsts cref lits.now watchlists.old) }
+    ensures watched { IfOk result (λ cref. watchlists.new ≡ with_first_two_watched cref lits.now watchlists.old) }
     ensures full { IfStoreFull result (2 ^ 32 - 1 < length clauses.old) }
     ensures kept { OnErr result (clauses.new ≡ clauses.old) }
     ensures unwatched { OnErr result (watchlists.new ≡ watchlists.old) }
@@ -172,7 +173,7 @@ pub fn add_clause(
     requires first { negated (slice_index_or lits.now 0 0) < length watchlists.old.lists }
     requires second { negated (slice_index_or lits.now 1 0) < length watchlists.old.lists }
     ensures added { IfOk result (λ cref. AddsLongClause clauses.old db.old clauses.new db.new cref header lits.now) }
-    ensures watched { IfOk result (λ cref. watchlists.new ≡ with_firsts cref lits.now watchlists.old) }
+    ensures watched { IfOk result (λ cref. watchlists.new ≡ with_first_two_watched cref lits.now watchlists.old) }
     ensures full { (result ≡ Err StoreError.StoreFull) ↔ (2 ^ 32 - 1 < length clauses.old) }
     ensures same_words { OnErr result (clauses.new ≡ clauses.old) }
     ensures same_list { OnErr result (db.new ≡ db.old) }
@@ -192,7 +193,7 @@ pub fn add_clause(
 pub fn set_clause_tier(clauses: &mut ClauseAlloc, db: &mut ClauseDb, cref: ClauseRef, tier: Tier)
     requires db { DbMatchesBuffer clauses.old db.old }
     requires live { Contains (live_refs clauses.old db.old.refs) cref }
-    ensures { MovesClause clauses.old db.old clauses.new db.new cref tier }
+    ensures { MovesClauseToTier clauses.old db.old clauses.new db.new cref tier }
 {
     let mut header = clauses.header(cref);
     let old = header.tier();

@@ -2,7 +2,7 @@
 ghost use Rattle.std.specs.Prelude.{◌≡◌, false};
 ghost use Rattle.std.specs.List.Retain.{IsFiltered};
 ghost use Rattle.sat_parts.specs.clause.Db.{DbMatchesBuffer, live_refs};
-ghost use Rattle.sat_parts.specs.clause.Filtered.{TakesEach, AnswersAt, SameClausesAt};
+ghost use Rattle.sat_parts.specs.clause.Filtered.{AcceptsEachClause, ReturnsForClause, SameClausesAt};
 
 use crate::clause::db::{ClauseDb, delete_clause};
 use crate::prop::watch::Watchlists;
@@ -18,8 +18,8 @@ pub fn filter_clauses<F: FnMut(&ClauseAlloc, ClauseRef) -> bool>(
     mut keep: F,
 )
     requires db { DbMatchesBuffer clauses.old db.old }
-    requires callable { TakesEach F.FnMut clauses.old (live_refs clauses.old db.old.refs) }
-    ensures filtered { IsFiltered (AnswersAt F.FnMut clauses.old) keep
+    requires callable { AcceptsEachClause F.FnMut clauses.old (live_refs clauses.old db.old.refs) }
+    ensures filtered { IsFiltered (ReturnsForClause F.FnMut clauses.old) keep
         (live_refs clauses.old db.old.refs) (live_refs clauses.new db.new.refs) }
     ensures kept { SameClausesAt clauses.old clauses.new (live_refs clauses.new db.new.refs) }
     ensures db { DbMatchesBuffer clauses.new db.new }

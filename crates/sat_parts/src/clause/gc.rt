@@ -4,7 +4,8 @@ ghost use Rattle.sat_base.specs.values.Literals.{variable};
 ghost use Rattle.sat_store.specs.clause.Buffer.{IsClause};
 ghost use Rattle.sat_store.specs.clause.Full.{IfStoreFull};
 ghost use Rattle.sat_parts.specs.clause.Db.{DbMatchesBuffer, live_refs};
-ghost use Rattle.sat_parts.specs.clause.Collected.{CopiesOne, CopyInvariant, AreFirsts, FollowsAll, Collects};
+ghost use Rattle.sat_parts.specs.clause.Collected.{CopiesOneClause, CopyInvariant, ReasonsHaveLitFirst};
+ghost use Rattle.sat_parts.specs.clause.Collected.{ReasonsNameCopies, CollectsGarbage};
 ghost use Rattle.sat_parts.specs.clause.Collected.{CollectsNothing, after_collection};
 ghost use Rattle.sat_parts.specs.prop.Graphs.{HasReason, with_reason};
 
@@ -24,7 +25,7 @@ fn copy_one(
     refs: &mut Vec<ClauseRef>,
 ) -> Result<(), StoreError>
     requires { IsClause clauses.now cref }
-    ensures copied { OnOk result (CopiesOne clauses.now cref to.old refs.old.items to.new refs.new.items) }
+    ensures copied { OnOk result (CopiesOneClause clauses.now cref to.old refs.old.items to.new refs.new.items) }
     ensures room { length to.old ≤ cref → IfStoreFull result ⊥ }
 {
     let copy = to.copy_clause(clauses, cref)?;
@@ -91,8 +92,8 @@ fn move_reasons(
     requires size { length refs.now.items ≡ length (live_refs clauses.now db.now.refs) }
     requires low { (k : ℕ) → k < length refs.now.items
         → slice_index refs.now.items k ≤ slice_index (live_refs clauses.now db.now.refs) k }
-    requires firsts { AreFirsts clauses.now (live_refs clauses.now db.now.refs) _trail.now.lits graph.old }
-    ensures { FollowsAll (live_refs clauses.now db.now.refs) refs.now.items _trail.now.lits graph.old graph.new }
+    requires firsts { ReasonsHaveLitFirst clauses.now (live_refs clauses.now db.now.refs) _trail.now.lits graph.old }
+    ensures { ReasonsNameCopies (live_refs clauses.now db.now.refs) refs.now.items _trail.now.lits graph.old graph.new }
 {
     let mut next = 0;
     for at in 0..db.len() {
@@ -155,9 +156,9 @@ pub fn collect_garbage(
     trail: &Trail,
 ) -> Result<(), StoreError>
     requires db { DbMatchesBuffer clauses.old db.old }
-    requires firsts { AreFirsts clauses.old (live_refs clauses.old db.old.refs) trail.now.lits graph.old }
+    requires firsts { ReasonsHaveLitFirst clauses.old (live_refs clauses.old db.old.refs) trail.now.lits graph.old }
     ensures collected { length clauses.old / 2 < db.old.garbage →
-        OnOk result (Collects clauses.old db.old graph.old trail.now.lits clauses.new db.new graph.new) }
+        OnOk result (CollectsGarbage clauses.old db.old graph.old trail.now.lits clauses.new db.new graph.new) }
     ensures watches { length clauses.old / 2 < db.old.garbage
         → OnOk result (watchlists.new ≡ record watchlists.old { enabled = false }) }
     ensures not_due { db.old.garbage ≤ length clauses.old / 2 →

@@ -2,7 +2,7 @@
 ghost use Rattle.std.specs.Prelude.{ℕ, ◌≡◌, ◌<◌, ◌≤◌, [], length, take, false, slice_index};
 ghost use Rattle.std.specs.Iterator.{at_most};
 ghost use Rattle.std.specs.Map.Iter.{TakesFirst, ShowsInOrder};
-ghost use Rattle.sat_parts.specs.clause.Db.{DbMatchesBuffer, AreClausePlaces, live_refs};
+ghost use Rattle.sat_parts.specs.clause.Db.{DbMatchesBuffer, AreClauseOffsets, live_refs};
 ghost use Rattle.sat_store.specs.clause.Buffer.{header_at};
 
 use crate::clause::db::ClauseDb;
@@ -19,13 +19,13 @@ pub struct ClausesIter<'a> {
 
 impl<'a> Model for ClausesIter<'a> {
     ghost use Rattle.std.specs.Prelude.{ℕ, List};
-    ghost use Rattle.sat_parts.specs.clause.Db.{AreClausePlaces, live_refs};
+    ghost use Rattle.sat_parts.specs.clause.Db.{AreClauseOffsets, live_refs};
 
     ghost Value = { List ℕ };
 
     ghost view = { λ i. live_refs i.clauses.now i.refs.now };
 
-    ghost invariant = { λ i. AreClausePlaces i.clauses.now i.refs.now };
+    ghost invariant = { λ i. AreClauseOffsets i.clauses.now i.refs.now };
 }
 
 /// Returns an iterator over the live clauses, in the order in which they were added.
@@ -42,7 +42,7 @@ pub fn clauses_iter<'a>(clauses: &'a ClauseAlloc, db: &'a ClauseDb) -> ClausesIt
 
 /// Returns the position of the first live clause, or the number of clauses if none is live.
 fn first_live(clauses: &ClauseAlloc, refs: &[ClauseRef]) -> usize
-    requires { AreClausePlaces clauses.now refs.now }
+    requires { AreClauseOffsets clauses.now refs.now }
     ensures within { result ≤ length refs.now }
     ensures none { live_refs clauses.now (take result refs.now) ≡ [] }
     ensures live { result < length refs.now → (header_at clauses.now (slice_index refs.now result)).deleted ≡ false }

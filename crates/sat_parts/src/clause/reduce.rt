@@ -4,7 +4,7 @@ ghost use Rattle.std.specs.List.{Contains, filter};
 ghost use Rattle.sat_store.specs.clause.Buffer.{IsClause, header_at};
 ghost use Rattle.sat_parts.specs.clause.Db.{DbMatchesBuffer, PutsHeader, live_refs, is_live_in_tier};
 ghost use Rattle.sat_parts.specs.clause.Activity.{PutsHeaders};
-ghost use Rattle.sat_parts.specs.clause.Reduced.{reduced, with_mark};
+ghost use Rattle.sat_parts.specs.clause.Reduced.{reduced_header, with_mark};
 
 use crate::clause::db::{ClauseDb, put_header, set_clause_tier};
 use sat_store::{ClauseAlloc, ClauseRef, Tier};
@@ -15,7 +15,7 @@ use std::alloc::{AllocError, Global};
 fn reduce_one(clauses: &mut ClauseAlloc, db: &mut ClauseDb, cref: ClauseRef)
     requires db { DbMatchesBuffer clauses.old db.old }
     requires there { Contains db.old.refs cref }
-    ensures put { PutsHeader clauses.old clauses.new db.old.refs cref (reduced (header_at clauses.old cref)) }
+    ensures put { PutsHeader clauses.old clauses.new db.old.refs cref (reduced_header (header_at clauses.old cref)) }
     ensures db { DbMatchesBuffer clauses.new db.new }
     ensures refs { db.new.refs ≡ db.old.refs }
     ensures live { live_refs clauses.new db.new.refs ≡ live_refs clauses.old db.old.refs }
@@ -39,7 +39,7 @@ fn reduce_one(clauses: &mut ClauseAlloc, db: &mut ClauseDb, cref: ClauseRef)
 /// the other clauses in tier Mid.
 pub fn reduce_mids(clauses: &mut ClauseAlloc, db: &mut ClauseDb)
     requires { DbMatchesBuffer clauses.old db.old }
-    ensures headers { PutsHeaders clauses.old clauses.new db.old.refs (λ p. reduced (header_at clauses.old p)) }
+    ensures headers { PutsHeaders clauses.old clauses.new db.old.refs (λ p. reduced_header (header_at clauses.old p)) }
     ensures db { DbMatchesBuffer clauses.new db.new }
     ensures refs { db.new.refs ≡ db.old.refs }
     ensures live { live_refs clauses.new db.new.refs ≡ live_refs clauses.old db.old.refs }

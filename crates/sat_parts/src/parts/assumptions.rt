@@ -4,11 +4,12 @@ ghost use Rattle.sat_base.specs.values.Literals.{variable};
 ghost use Rattle.sat_parts.specs.prop.Values.{IsUnassignedLit};
 ghost use Rattle.sat_parts.specs.prop.State.{PropagationState};
 ghost use Rattle.sat_parts.specs.parts.Whole.{state, SearchStateInvariant, IsFullyPropagated};
-ghost use Rattle.sat_parts.specs.parts.Words.{TrailWordStays, TrailWordExtendsFor};
-ghost use Rattle.sat_parts.specs.parts.Assumed.{HaveVariablesIn, variables_of_lits, ArePlaced, EnqueueAssumptionEffect};
-ghost use Rattle.sat_parts.specs.parts.Assumed.{AreCutTo};
+ghost use Rattle.sat_parts.specs.parts.Words.{KeepsRemovedAndIdleForAll, TrailWordExtendsFor};
+ghost use Rattle.sat_parts.specs.parts.Assumed.{HaveVariablesIn, variables_of_lits, PlacesAreCorrect};
+ghost use Rattle.sat_parts.specs.parts.Assumed.{EnqueueAssumptionEffect};
+ghost use Rattle.sat_parts.specs.parts.Assumed.{UndoesPlacesTo};
 ghost use Rattle.sat_parts.specs.parts.Assumed.{AreTrueFromTo, IsUntrueAt};
-ghost use Rattle.sat_parts.specs.parts.Frame.{AddsNoUnit, SameClauses, AddsNothing, KeepsLevels, OpensLevel};
+ghost use Rattle.sat_parts.specs.parts.Frame.{AddsNoUnit, SameClauses, AddsNoClauseOrUnit, KeepsLevels, OpensLevel};
 
 use crate::parts::SearchState;
 use crate::parts::steps::{assume, undo};
@@ -45,7 +46,7 @@ impl Assumptions {
     /// Returns an empty list of assumptions. Never allocates.
     pub fn new(alloc: Global) -> Assumptions
         ensures none { result.lits.items ≡ [] }
-        ensures placed { (s : PropagationState) → ArePlaced result s }
+        ensures placed { (s : PropagationState) → PlacesAreCorrect result s }
     {
         Assumptions {
             lits: Vec::new(alloc),
@@ -64,7 +65,7 @@ impl Assumptions {
     /// Starts again with the first assumption. Must be called for a new list, and after all levels have been undone.
     pub fn begin(&mut self)
         ensures lits { self.new.lits ≡ self.old.lits }
-        ensures placed { (s : PropagationState) → s.trail.starts ≡ [] → ArePlaced self.new s }
+        ensures placed { (s : PropagationState) → s.trail.starts ≡ [] → PlacesAreCorrect self.new s }
     {
         self.below.clear();
         self.place = 0;
@@ -74,7 +75,7 @@ impl Assumptions {
     /// `level` are undone.
     pub fn cut(&mut self, level: usize)
         ensures lits { self.new.lits ≡ self.old.lits }
-        ensures placed { AreCutTo level self.old self.new }
+        ensures placed { UndoesPlacesTo level self.old self.new }
     {
         if level >= self.below.len() {
             return;
@@ -116,14 +117,14 @@ fn begin_level(
     requires done { IsFullyPropagated parts.old }
     requires there { variable lit < length parts.old.assignment.current }
     requires open { IsUnassignedLit parts.old.assignment.current lit }
-    requires placed { ArePlaced assumptions.old (state parts.old) }
+    requires placed { PlacesAreCorrect assumptions.old (state parts.old) }
     requires next { assumptions.old.place < length assumptions.old.lits.items }
     requires is { slice_index_or assumptions.old.lits.items assumptions.old.place 0 ≡ lit }
     ensures holds { OnOk result (SearchStateInvariant parts.new) }
     ensures lits { assumptions.new.lits ≡ assumptions.old.lits }
-    ensures placed { OnOk result (ArePlaced assumptions.new (state parts.new)) }
+    ensures placed { OnOk result (PlacesAreCorrect assumptions.new (state parts.new)) }
     ensures word { OnOk result (TrailWordExtendsFor (variables_of_lits assumptions.old.lits.items) parts.old parts.new) }
-    ensures same { OnOk result (AddsNothing parts.old parts.new) }
+    ensures same { OnOk result (AddsNoClauseOrUnit parts.old parts.new) }
     ensures keeps { OnOk result (KeepsLevels parts.old parts.new) }
     ensures deeper { OnOk result (OpensLevel parts.old parts.new) }
 {
@@ -141,12 +142,12 @@ pub fn enqueue_assumption(
     requires holds { SearchStateInvariant parts.old }
     requires done { IsFullyPropagated parts.old }
     requires there { HaveVariablesIn assumptions.old.lits.items parts.old }
-    requires placed { ArePlaced assumptions.old (state parts.old) }
+    requires placed { PlacesAreCorrect assumptions.old (state parts.old) }
     ensures holds { OnOk result (SearchStateInvariant parts.new) }
     ensures lits { assumptions.new.lits ≡ assumptions.old.lits }
-    ensures placed { OnOk result (ArePlaced assumptions.new (state parts.new)) }
+    ensures placed { OnOk result (PlacesAreCorrect assumptions.new (state parts.new)) }
     ensures word { OnOk result (TrailWordExtendsFor (variables_of_lits assumptions.old.lits.items) parts.old parts.new) }
-    ensures same { OnOk result (AddsNothing parts.old parts.new) }
+    ensures same { OnOk result (AddsNoClauseOrUnit parts.old parts.new) }
     ensures keeps { OnOk result (KeepsLevels parts.old parts.new) }
     ensures says { IfOk result (λ r. EnqueueAssumptionEffect r assumptions.new parts.old parts.new) }
 {
@@ -166,13 +167,13 @@ pub fn enqueue_assumption(
 /// Undoes all decisions, but keeps the levels of assumptions.
 pub fn restart(parts: &mut SearchState, assumptions: &Assumptions)
     requires holds { SearchStateInvariant parts.old }
-    requires placed { ArePlaced assumptions.now (state parts.old) }
+    requires placed { PlacesAreCorrect assumptions.now (state parts.old) }
     ensures holds { SearchStateInvariant parts.new }
     ensures levels { length parts.new.trail.starts ≡ length assumptions.now.below.items }
-    ensures placed { ArePlaced assumptions.now (state parts.new) }
+    ensures placed { PlacesAreCorrect assumptions.now (state parts.new) }
     ensures same { SameClauses parts.old parts.new }
     ensures carries { AddsNoUnit (state parts.old) (state parts.new) }
-    ensures stay { TrailWordStays parts.old parts.new }
+    ensures stay { KeepsRemovedAndIdleForAll parts.old parts.new }
 {
     let levels = assumptions.levels();
     if parts.trail.current_level() <= levels {

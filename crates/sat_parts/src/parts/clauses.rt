@@ -4,15 +4,16 @@ ghost use Rattle.sat_base.specs.values.Literals.{negated};
 ghost use Rattle.sat_store.specs.clause.Buffer.{header_at};
 ghost use Rattle.sat_store.specs.clause.Header.{is_learned};
 ghost use Rattle.sat_store.specs.heap.Vsids.{bumped, decayed};
-ghost use Rattle.sat_parts.specs.clause.Activity.{PutsHeaders, DecaysAll, later_bump, later_scale, BumpsBelow};
-ghost use Rattle.sat_parts.specs.clause.Activity.{BumpsPast};
-ghost use Rattle.sat_parts.specs.clause.Reduced.{reduced};
+ghost use Rattle.sat_parts.specs.clause.Activity.{PutsHeaders, DecaysAndRescales, decayed_bump, decayed_scale};
+ghost use Rattle.sat_parts.specs.clause.Activity.{BumpsIfBelowLimit};
+ghost use Rattle.sat_parts.specs.clause.Activity.{RescalesIfLimitReached};
+ghost use Rattle.sat_parts.specs.clause.Reduced.{reduced_header};
 ghost use Rattle.sat_parts.specs.clause.Stored.{lit_of, size_of};
 ghost use Rattle.sat_parts.specs.prop.State.{HasLeftQueue};
-ghost use Rattle.sat_parts.specs.clause.Db.{PutsHeader, MovesClause, IsLockedClause};
-ghost use Rattle.sat_parts.specs.parts.Whole.{state, SearchStateInvariant, HasClause};
+ghost use Rattle.sat_parts.specs.clause.Db.{PutsHeader, MovesClauseToTier, IsLockedClause};
+ghost use Rattle.sat_parts.specs.parts.Whole.{state, SearchStateInvariant, HasLongClause};
 ghost use Rattle.sat_parts.specs.parts.Words.{TrailWordExtends};
-ghost use Rattle.sat_parts.specs.parts.Frame.{ChangesHeaders, DropsLongClause, MovesLongClauses, SwapsLits};
+ghost use Rattle.sat_parts.specs.parts.Frame.{ChangesHeaders, DeletesLongClause, MovesLongClauses, SwapsLits};
 ghost use Rattle.sat_parts.specs.parts.Frame.{ShortensLongClause, RemovesBinaries, SameContents};
 ghost use Rattle.sat_store.specs.clause.Full.{IfStoreFull};
 
@@ -29,14 +30,14 @@ use std::alloc::Global;
 /// whether the clause was deleted.
 pub fn drop_clause(parts: &mut SearchState, cref: ClauseRef) -> bool
     requires holds { SearchStateInvariant parts.old }
-    requires live { HasClause parts.old cref }
+    requires live { HasLongClause parts.old cref }
     ensures holds { SearchStateInvariant parts.new }
-    ensures dropped { result ≡ true → DropsLongClause parts.old parts.new cref }
+    ensures dropped { result ≡ true → DeletesLongClause parts.old parts.new cref }
     ensures free { result ≡ true → IsLockedClause parts.old.clauses parts.old.assignment.current parts.old.graph cref
         → ⊥ }
     ensures kept { result ≡ false → IsLockedClause parts.old.clauses parts.old.assignment.current parts.old.graph cref
         × (parts.new ≡ parts.old) }
-    ensures others { (p : ℕ) → p ≢ cref → HasClause parts.old p → HasClause parts.new p }
+    ensures others { (p : ℕ) → p ≢ cref → HasLongClause parts.old p → HasLongClause parts.new p }
     ensures word { TrailWordExtends parts.old parts.new }
 {
     try_delete_clause(
@@ -53,9 +54,9 @@ pub fn drop_clause(parts: &mut SearchState, cref: ClauseRef) -> bool
 pub fn delete_long(parts: &mut SearchState, cref: ClauseRef)
     requires holds { SearchStateInvariant parts.old }
     requires empty { parts.old.trail.lits ≡ [] }
-    requires live { HasClause parts.old cref }
+    requires live { HasLongClause parts.old cref }
     ensures holds { SearchStateInvariant parts.new }
-    ensures dropped { DropsLongClause parts.old parts.new cref }
+    ensures dropped { DeletesLongClause parts.old parts.new cref }
     ensures word { TrailWordExtends parts.old parts.new }
 {
     delete_clause(
@@ -71,7 +72,7 @@ pub fn reduce_mids(parts: &mut SearchState)
     requires holds { SearchStateInvariant parts.old }
     ensures holds { SearchStateInvariant parts.new }
     ensures headers { PutsHeaders parts.old.clauses parts.new.clauses parts.old.db.refs
-        (λ o. reduced (header_at parts.old.clauses o)) }
+        (λ o. reduced_header (header_at parts.old.clauses o)) }
     ensures headed { ChangesHeaders parts.old parts.new }
     ensures word { TrailWordExtends parts.old parts.new }
 {
@@ -102,7 +103,7 @@ pub fn collect(alloc: Global, parts: &mut SearchState) -> Result<(), StoreError>
 /// the old one.
 pub fn put_header(parts: &mut SearchState, cref: ClauseRef, header: ClauseHeader)
     requires holds { SearchStateInvariant parts.old }
-    requires live { HasClause parts.old cref }
+    requires live { HasLongClause parts.old cref }
     requires deleted { header.deleted ≡ (header_at parts.old.clauses cref).deleted }
     requires tier { header.tier ≡ (header_at parts.old.clauses cref).tier }
     requires len { header.len ≡ (header_at parts.old.clauses cref).len }
@@ -120,10 +121,10 @@ pub fn put_header(parts: &mut SearchState, cref: ClauseRef, header: ClauseHeader
 /// stay irredundant.
 pub fn set_tier(parts: &mut SearchState, cref: ClauseRef, tier: Tier)
     requires holds { SearchStateInvariant parts.old }
-    requires live { HasClause parts.old cref }
+    requires live { HasLongClause parts.old cref }
     requires side { is_learned tier ≡ is_learned (header_at parts.old.clauses cref).tier }
     ensures holds { SearchStateInvariant parts.new }
-    ensures moves { MovesClause parts.old.clauses parts.old.db parts.new.clauses parts.new.db cref tier }
+    ensures moves { MovesClauseToTier parts.old.clauses parts.old.db parts.new.clauses parts.new.db cref tier }
     ensures headed { ChangesHeaders parts.old parts.new }
     ensures word { TrailWordExtends parts.old parts.new }
 {
@@ -133,7 +134,7 @@ pub fn set_tier(parts: &mut SearchState, cref: ClauseRef, tier: Tier)
 /// Swaps two literals of a live clause. `i` and `j` must be at least 2.
 pub fn swap_unwatched(parts: &mut SearchState, cref: ClauseRef, i: usize, j: usize)
     requires holds { SearchStateInvariant parts.old }
-    requires live { HasClause parts.old cref }
+    requires live { HasLongClause parts.old cref }
     requires first_unwatched { 2 ≤ i }
     requires second_unwatched { 2 ≤ j }
     requires first_within { i < size_of parts.old.clauses cref }
@@ -151,7 +152,7 @@ pub fn swap_unwatched(parts: &mut SearchState, cref: ClauseRef, i: usize, j: usi
 /// The negations of the first two literals must not have left the queue.
 pub fn shorten(parts: &mut SearchState, cref: ClauseRef, len: usize)
     requires holds { SearchStateInvariant parts.old }
-    requires live { HasClause parts.old cref }
+    requires live { HasLongClause parts.old cref }
     requires long { 3 ≤ len }
     requires no_longer { len ≤ size_of parts.old.clauses cref }
     requires fresh { (i : ℕ) → i < 2 → HasLeftQueue (state parts.old) (negated (lit_of parts.old.clauses cref i)) → ⊥ }
@@ -182,10 +183,10 @@ pub fn remove_binary(parts: &mut SearchState)
 /// Raises the activity of a live clause.
 pub fn bump_activity(parts: &mut SearchState, activity: &mut ClauseActivity, cref: ClauseRef)
     requires holds { SearchStateInvariant parts.old }
-    requires live { HasClause parts.old cref }
+    requires live { HasLongClause parts.old cref }
     ensures holds { SearchStateInvariant parts.new }
-    ensures raised { BumpsBelow parts.old.clauses parts.new.clauses parts.old.db.refs cref activity.old activity.new }
-    ensures rescaled { BumpsPast parts.old.clauses parts.new.clauses parts.old.db.refs cref activity.old activity.new }
+    ensures raised { BumpsIfBelowLimit parts.old.clauses parts.new.clauses parts.old.db.refs cref activity.old activity.new }
+    ensures rescaled { RescalesIfLimitReached parts.old.clauses parts.new.clauses parts.old.db.refs cref activity.old activity.new }
     ensures db { parts.new.db ≡ parts.old.db }
     ensures headed { ChangesHeaders parts.old parts.new }
     ensures word { TrailWordExtends parts.old parts.new }
@@ -210,10 +211,10 @@ pub fn bump_variable(parts: &mut SearchState, var: Var)
 pub fn decay_clauses(parts: &mut SearchState, activity: &mut ClauseActivity)
     requires holds { SearchStateInvariant parts.old }
     ensures holds { SearchStateInvariant parts.new }
-    ensures later { later_bump activity.old < 2 ^ 30
-        → (activity.new ≡ later_scale activity.old) × (parts.new.clauses ≡ parts.old.clauses) }
-    ensures rescaled { 2 ^ 30 ≤ later_bump activity.old
-        → DecaysAll parts.old.clauses parts.new.clauses parts.old.db.refs activity.old activity.new }
+    ensures later { decayed_bump activity.old < 2 ^ 30
+        → (activity.new ≡ decayed_scale activity.old) × (parts.new.clauses ≡ parts.old.clauses) }
+    ensures rescaled { 2 ^ 30 ≤ decayed_bump activity.old
+        → DecaysAndRescales parts.old.clauses parts.new.clauses parts.old.db.refs activity.old activity.new }
     ensures db { parts.new.db ≡ parts.old.db }
     ensures headed { ChangesHeaders parts.old parts.new }
     ensures word { TrailWordExtends parts.old parts.new }

@@ -7,11 +7,11 @@ ghost use Rattle.sat_parts.specs.clause.Orders.{AreDistinct};
 ghost use Rattle.sat_parts.specs.declared.prop.graph.Reason.TheVariants.{Unit as NoCause};
 ghost use Rattle.sat_parts.specs.prop.State.{HasLeftQueue, enqueued};
 ghost use Rattle.sat_parts.specs.prop.Values.{IsUnassignedLit, IsFalseLit, value_of};
-ghost use Rattle.sat_parts.specs.parts.Loadable.{IsLoadable, false_last, IsSorted};
+ghost use Rattle.sat_parts.specs.parts.Loadable.{IsLoadable, false_last, IsUnassignedThenFalse};
 ghost use Rattle.sat_parts.specs.parts.Whole.{state, SearchStateInvariant};
 ghost use Rattle.sat_parts.specs.parts.Frame.{AddsNoUnit, SameClauses, SameState, GainsUnit, AddsOriginalClause};
 ghost use Rattle.sat_parts.specs.parts.Frame.{SameQueues};
-ghost use Rattle.sat_parts.specs.parts.Full.{IsFull};
+ghost use Rattle.sat_parts.specs.parts.Full.{IsBufferFull};
 ghost use Rattle.sat_parts.specs.parts.Loading.{LoadEffect};
 ghost use Rattle.sat_parts.specs.parts.Words.{TrailWordExtends};
 ghost use Rattle.sat_store.specs.clause.Full.{IfStoreFull};
@@ -46,7 +46,7 @@ pub fn load_long(parts: &mut SearchState, lits: &[Lit]) -> Result<(), StoreError
     ensures holds { OnOk result (SearchStateInvariant parts.new) }
     ensures stores { OnOk result (AddsOriginalClause parts.old parts.new lits.now) }
     ensures kept { OnOk result (SameQueues parts.old parts.new) }
-    ensures full { IfStoreFull result (IsFull parts.new) }
+    ensures full { IfStoreFull result (IsBufferFull parts.new) }
 {
     let header = ClauseHeader::new();
     let cref = add_clause(
@@ -127,7 +127,7 @@ fn load_some(parts: &mut SearchState, lits: &[Lit]) -> Result<(), StoreError>
     ensures holds { OnOk result (SearchStateInvariant parts.new) }
     ensures stores { OnOk result (AddsOriginalClause parts.old parts.new lits.now) }
     ensures kept { OnOk result (SameQueues parts.old parts.new) }
-    ensures full { IfStoreFull result (IsFull parts.new) }
+    ensures full { IfStoreFull result (IsBufferFull parts.new) }
 {
     if lits.len() == 2 {
         load_binary(parts, lits)?;
@@ -142,11 +142,11 @@ fn load_sorted(parts: &mut SearchState, lits: &[Lit], kept: usize) -> Result<Loa
     requires holds { SearchStateInvariant parts.old }
     requires bottom { parts.old.trail.starts ≡ [] }
     requires fits { length lits.now < 2 ^ 32 }
-    requires sorted { IsSorted (state parts.old) parts.old.vsids lits.now kept }
+    requires sorted { IsUnassignedThenFalse (state parts.old) parts.old.vsids lits.now kept }
     ensures holds { OnOk result (SearchStateInvariant parts.new) }
     ensures says { IfOk result (λ r. LoadEffect r parts.old parts.new lits.now) }
     ensures kept { OnOk result ((parts.new.vsids ≡ parts.old.vsids) × (parts.new.trail.starts ≡ [])) }
-    ensures full { IfStoreFull result (IsFull parts.new) }
+    ensures full { IfStoreFull result (IsBufferFull parts.new) }
 {
     if lits.len() > 1 {
         load_some(parts, lits)?;
@@ -183,7 +183,7 @@ pub fn load(
     ensures says { IfOk result (λ r. LoadEffect r parts.old parts.new
         (false_last parts.old.assignment.current given.now)) }
     ensures kept { OnOk result ((parts.new.vsids ≡ parts.old.vsids) × (parts.new.trail.starts ≡ [])) }
-    ensures full { IfStoreFull result (IsFull parts.new) }
+    ensures full { IfStoreFull result (IsBufferFull parts.new) }
 {
     let found = split_false(sorting, given, &parts.assignment)?;
     let kept = join_false(sorting)?;

@@ -5,8 +5,8 @@ ghost use Rattle.std.specs.List.Sorted.{IsPermutation, IsNonDecreasingBy};
 ghost use Rattle.sat_store.specs.clause.Buffer.{IsClause};
 ghost use Rattle.sat_parts.specs.clause.Db.{is_live_in_tier};
 ghost use Rattle.sat_parts.specs.clause.Orders.{AreDistinct};
-ghost use Rattle.sat_parts.specs.parts.Whole.{SearchStateInvariant, HasClauses};
-ghost use Rattle.sat_parts.specs.parts.Reducing.{clause_rank, ranked};
+ghost use Rattle.sat_parts.specs.parts.Whole.{SearchStateInvariant, HasLongClauses};
+ghost use Rattle.sat_parts.specs.parts.Reducing.{clause_rank, with_rank};
 
 use crate::parts::SearchState;
 use sat_store::{ClauseAlloc, ClauseRef, Tier};
@@ -54,7 +54,7 @@ fn rank_all(
     ranks: &mut Vec<(u128, ClauseRef)>,
 ) -> Result<(), AllocError>
     requires { (k : ℕ) → k < length list.now → IsClause clauses.now (slice_index_or list.now k 0) }
-    ensures { OnOk result (ranks.new.items ≡ map (ranked clauses.now) list.now) }
+    ensures { OnOk result (ranks.new.items ≡ map (with_rank clauses.now) list.now) }
 {
     ranks.clear();
     for cref in list {
@@ -86,7 +86,7 @@ pub fn list_locals(
         list.new.items) }
     ensures rising { OnOk result (IsNonDecreasingBy (clause_rank parts.now.clauses) list.new.items) }
     ensures once { OnOk result (AreDistinct list.new.items) }
-    ensures live { OnOk result (HasClauses parts.now list.new.items) }
+    ensures live { OnOk result (HasLongClauses parts.now list.new.items) }
 {
     find_locals(parts, list)?;
     let mut ranks = Vec::new(alloc);

@@ -10,15 +10,16 @@ ghost use Rattle.sat_parts.specs.clause.Db.{live_refs};
 ghost use Rattle.sat_parts.specs.parts.Whole.{state, SearchStateInvariant, SearchStateInvariantBelow};
 ghost use Rattle.sat_parts.specs.parts.Whole.{IsFullyPropagated, IsPicked, AllAssigned};
 ghost use Rattle.sat_parts.specs.parts.Round.{UnitsHaveNoReason, LevelZeroInvariant};
-ghost use Rattle.sat_parts.specs.prop.Trails.{cut_to};
+ghost use Rattle.sat_parts.specs.prop.Trails.{without_levels_above};
 ghost use Rattle.sat_parts.specs.prop.TrailWord.{decided_on};
-ghost use Rattle.sat_parts.specs.parts.Words.{WordExtends, TrailWordExtendsFor, TrailWordStays, TrailWordExtends};
-ghost use Rattle.sat_parts.specs.parts.Words.{IsAwaited};
+ghost use Rattle.sat_parts.specs.parts.Words.{WordExtends, TrailWordExtendsFor, KeepsRemovedAndIdleForAll};
+ghost use Rattle.sat_parts.specs.parts.Words.{TrailWordExtends};
+ghost use Rattle.sat_parts.specs.parts.Words.{IsPickableOrAssumed};
 ghost use Rattle.sat_parts.specs.parts.Learned.{IsAnalyzedClause, IsUnitAfterBacktracking};
-ghost use Rattle.sat_parts.specs.parts.Frame.{AddsNoUnit, SameClauses, ReordersLits, AddsLearnedClause, KeepsTo};
-ghost use Rattle.sat_parts.specs.parts.Frame.{AddsNothing};
+ghost use Rattle.sat_parts.specs.parts.Frame.{AddsNoUnit, SameClauses, ReordersLits, AddsLearnedClause, KeepsLevelsTo};
+ghost use Rattle.sat_parts.specs.parts.Frame.{AddsNoClauseOrUnit};
 ghost use Rattle.sat_parts.specs.parts.Frame.{KeepsLevels, OpensLevel, EnqueuesFirst};
-ghost use Rattle.sat_parts.specs.parts.Full.{IsFull};
+ghost use Rattle.sat_parts.specs.parts.Full.{IsBufferFull};
 ghost use Rattle.sat_store.specs.clause.Full.{IfStoreFull};
 
 use crate::parts::SearchState;
@@ -87,7 +88,7 @@ fn decide_on(parts: &mut SearchState, var: Var) -> Result<(), AllocError>
     requires done { IsFullyPropagated parts.old }
     ensures holds { OnOk result (SearchStateInvariant parts.new) }
     ensures deeper { OnOk result (OpensLevel parts.old parts.new) }
-    ensures same { OnOk result (AddsNothing parts.old parts.new) }
+    ensures same { OnOk result (AddsNoClauseOrUnit parts.old parts.new) }
     ensures keeps { OnOk result (KeepsLevels parts.old parts.new) }
     ensures word { (assumed : List ℕ) (q : Queue) → is_available q var ≡ true
         → ((u : ℕ) → is_available q u ≡ false → is_available parts.old.vsids u ≡ false)
@@ -113,7 +114,7 @@ fn learn_unit(parts: &mut SearchState, header: ClauseHeader, lits: &[Lit])
     ensures holds { SearchStateInvariant parts.new }
     ensures trail { EnqueuesFirst lits.now parts.old parts.new }
     ensures learnt { AddsLearnedClause parts.old parts.new header lits.now }
-    ensures stay { TrailWordStays parts.old parts.new }
+    ensures stay { KeepsRemovedAndIdleForAll parts.old parts.new }
 {
     let _ = header;
     enqueue_assignment(
@@ -137,7 +138,7 @@ fn learn_binary(
     ensures holds { OnOk result (SearchStateInvariant parts.new) }
     ensures trail { OnOk result (EnqueuesFirst lits.now parts.old parts.new) }
     ensures learnt { OnOk result (AddsLearnedClause parts.old parts.new header lits.now) }
-    ensures stay { OnOk result (TrailWordStays parts.old parts.new) }
+    ensures stay { OnOk result (KeepsRemovedAndIdleForAll parts.old parts.new) }
 {
     let _ = header;
     let first = lits[0];
@@ -162,8 +163,8 @@ fn learn_long(parts: &mut SearchState, header: ClauseHeader, lits: &[Lit]) -> Re
     ensures holds { OnOk result (SearchStateInvariant parts.new) }
     ensures trail { OnOk result (EnqueuesFirst lits.now parts.old parts.new) }
     ensures learnt { OnOk result (AddsLearnedClause parts.old parts.new header lits.now) }
-    ensures stay { OnOk result (TrailWordStays parts.old parts.new) }
-    ensures full { IfStoreFull result (IsFull parts.new) }
+    ensures stay { OnOk result (KeepsRemovedAndIdleForAll parts.old parts.new) }
+    ensures full { IfStoreFull result (IsBufferFull parts.new) }
 {
     let cref = add_clause(
         &mut parts.clauses,
@@ -190,8 +191,8 @@ pub fn learn(parts: &mut SearchState, header: ClauseHeader, lits: &[Lit]) -> Res
     ensures holds { OnOk result (SearchStateInvariant parts.new) }
     ensures trail { OnOk result (EnqueuesFirst lits.now parts.old parts.new) }
     ensures learnt { OnOk result (AddsLearnedClause parts.old parts.new header lits.now) }
-    ensures stay { OnOk result (TrailWordStays parts.old parts.new) }
-    ensures full { IfStoreFull result (IsFull parts.new) }
+    ensures stay { OnOk result (KeepsRemovedAndIdleForAll parts.old parts.new) }
+    ensures full { IfStoreFull result (IsBufferFull parts.new) }
 {
     if lits.len() == 1 {
         learn_unit(parts, header, lits);
@@ -216,12 +217,12 @@ pub fn undo(parts: &mut SearchState, level: usize)
     ensures pending { (ls : List ℕ) → IsAnalyzedClause (state parts.old) ls level
         → IsUnitAfterBacktracking (state parts.new) parts.new.vsids ls }
     ensures starts { length parts.new.trail.starts ≡ level }
-    ensures trail { parts.new.trail ≡ cut_to level parts.old.trail }
+    ensures trail { parts.new.trail ≡ without_levels_above level parts.old.trail }
     ensures graph { parts.new.graph ≡ parts.old.graph }
     ensures same { SameClauses parts.old parts.new }
     ensures carries { AddsNoUnit (state parts.old) (state parts.new) }
-    ensures keeps { KeepsTo level (state parts.old) (state parts.new) }
-    ensures stay { TrailWordStays parts.old parts.new }
+    ensures keeps { KeepsLevelsTo level (state parts.old) (state parts.new) }
+    ensures stay { KeepsRemovedAndIdleForAll parts.old parts.new }
 {
     backtrack(
         &mut parts.assignment,
@@ -238,7 +239,7 @@ pub fn full_restart(parts: &mut SearchState)
     ensures bottom { parts.new.trail.starts ≡ [] }
     ensures same { SameClauses parts.old parts.new }
     ensures carries { AddsNoUnit (state parts.old) (state parts.new) }
-    ensures stay { TrailWordStays parts.old parts.new }
+    ensures stay { KeepsRemovedAndIdleForAll parts.old parts.new }
 {
     if parts.trail.current_level() == 0 {
         return;
@@ -252,7 +253,7 @@ pub fn make_decision(parts: &mut SearchState) -> Result<bool, AllocError>
     requires done { IsFullyPropagated parts.old }
     ensures holds { OnOk result (SearchStateInvariant parts.new) }
     ensures all { IfOk result (λ decided. decided ≡ false → IsFullyPropagated parts.new × AllAssigned parts.new) }
-    ensures same { OnOk result (AddsNothing parts.old parts.new) }
+    ensures same { OnOk result (AddsNoClauseOrUnit parts.old parts.new) }
     ensures keeps { OnOk result (KeepsLevels parts.old parts.new) }
     ensures word { OnOk result (TrailWordExtends parts.old parts.new) }
     ensures flat { IfOk result (λ decided. decided ≡ false → parts.new.trail ≡ parts.old.trail) }
@@ -275,9 +276,9 @@ pub fn assume(parts: &mut SearchState, lit: Lit) -> Result<(), AllocError>
     requires there { variable lit < length parts.old.assignment.current }
     requires open { IsUnassignedLit parts.old.assignment.current lit }
     ensures holds { OnOk result (SearchStateInvariant parts.new) }
-    ensures word { (assumed : List ℕ) → IsAwaited assumed parts.old.vsids (variable lit)
+    ensures word { (assumed : List ℕ) → IsPickableOrAssumed assumed parts.old.vsids (variable lit)
         → OnOk result (TrailWordExtendsFor assumed parts.old parts.new) }
-    ensures same { OnOk result (AddsNothing parts.old parts.new) }
+    ensures same { OnOk result (AddsNoClauseOrUnit parts.old parts.new) }
     ensures decided { OnOk result (state parts.new ≡ decided_on lit (state parts.old)) }
     ensures keeps { OnOk result (KeepsLevels parts.old parts.new) }
     ensures deeper { OnOk result (OpensLevel parts.old parts.new) }

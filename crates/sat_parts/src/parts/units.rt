@@ -5,9 +5,9 @@ ghost use Rattle.sat_parts.specs.prop.State.{HasLeftQueue};
 ghost use Rattle.sat_parts.specs.parts.Whole.{state, SearchStateInvariant, SearchStateInvariantBelow};
 ghost use Rattle.sat_parts.specs.parts.Whole.{IsFullyPropagated};
 ghost use Rattle.sat_parts.specs.parts.Words.{TrailWordExtends};
-ghost use Rattle.sat_parts.specs.parts.Units.{removed};
-ghost use Rattle.sat_parts.specs.parts.Frame.{AddsNoUnit, TakesOffUnits, SameClauses};
-ghost use Rattle.sat_parts.specs.clause.Glue.{HaveNodes};
+ghost use Rattle.sat_parts.specs.parts.Units.{with_removed_units};
+ghost use Rattle.sat_parts.specs.parts.Frame.{AddsNoUnit, ClearsUnits, SameClauses};
+ghost use Rattle.sat_parts.specs.clause.Glue.{LitsHaveNodes};
 
 use crate::parts::SearchState;
 use crate::{ImplGraph, Reason, Trail, enqueue_assignment};
@@ -15,8 +15,8 @@ use sat_base::Lit;
 
 /// Marks the literals on the trail as removed units.
 fn mark_removed(graph: &mut ImplGraph, trail: &Trail)
-    requires { HaveNodes graph.old trail.now.lits }
-    ensures { graph.new ≡ removed trail.now.lits graph.old }
+    requires { LitsHaveNodes graph.old trail.now.lits }
+    ensures { graph.new ≡ with_removed_units trail.now.lits graph.old }
 {
     for lit in trail.trail() {
         graph.update_removed_unit(lit.var());
@@ -34,7 +34,7 @@ pub fn clear_units(parts: &mut SearchState)
     ensures bottom { parts.new.trail.starts ≡ [] }
     ensures empty { parts.new.trail.lits ≡ [] }
     ensures same { SameClauses parts.old parts.new }
-    ensures clears { TakesOffUnits (state parts.old) (state parts.new) }
+    ensures clears { ClearsUnits (state parts.old) (state parts.new) }
     ensures word { TrailWordExtends parts.old parts.new }
 {
     mark_removed(&mut parts.graph, &parts.trail);

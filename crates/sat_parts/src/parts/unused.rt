@@ -2,7 +2,8 @@
 ghost use Rattle.std.specs.Prelude.{ℕ, ◌≡◌, ◌<◌, OnOk, true, false, length, slice_index_or};
 ghost use Rattle.sat_base.specs.values.Literals.{variable};
 ghost use Rattle.sat_parts.specs.parts.Whole.{SearchStateInvariant, InNoClause};
-ghost use Rattle.sat_parts.specs.parts.Using.{MarksJustWhere, IsAmong, InLong, InBinary};
+ghost use Rattle.sat_parts.specs.parts.Using.{MarksExactly, OccursInFirstLits, OccursInLongClauses};
+ghost use Rattle.sat_parts.specs.parts.Using.{OccursInBinaryClauses};
 ghost use Rattle.sat_parts.specs.clause.Glue.{VariablesBelow};
 
 use crate::parts::SearchState;
@@ -14,7 +15,7 @@ use std::alloc::AllocError;
 #[inline(always)] // called for each literal that simplification goes through
 fn mark_lit(used: &mut [bool], lit: Lit)
     requires { variable lit < length used.old }
-    ensures { MarksJustWhere used.old used.new (λ v. variable lit ≡ v) }
+    ensures { MarksExactly used.old used.new (λ v. variable lit ≡ v) }
 {
     used[lit.index()] = true;
 }
@@ -22,7 +23,7 @@ fn mark_lit(used: &mut [bool], lit: Lit)
 /// Marks the variables of literals.
 fn mark_lits(used: &mut [bool], lits: &[Lit])
     requires { VariablesBelow lits.now (length used.old) }
-    ensures { MarksJustWhere used.old used.new (IsAmong lits.now (length lits.now)) }
+    ensures { MarksExactly used.old used.new (OccursInFirstLits lits.now (length lits.now)) }
 {
     for at in 0..lits.len() {
         mark_lit(used, lits[at]);
@@ -33,7 +34,7 @@ fn mark_lits(used: &mut [bool], lits: &[Lit])
 #[inline(always)] // called for each clause that simplification goes through
 fn mark_clause(used: &mut [bool], lits: &Lits<'_>)
     requires { VariablesBelow lits.now (length used.old) }
-    ensures { MarksJustWhere used.old used.new (IsAmong lits.now (length lits.now)) }
+    ensures { MarksExactly used.old used.new (OccursInFirstLits lits.now (length lits.now)) }
 {
     for at in 0..lits.len() {
         mark_lit(used, lits.get(at));
@@ -44,8 +45,8 @@ fn mark_clause(used: &mut [bool], lits: &Lits<'_>)
 fn mark_long(used: &mut [bool], parts: &SearchState)
     requires holds { SearchStateInvariant parts.now }
     requires size { length used.old ≡ length parts.now.assignment.current }
-    ensures { MarksJustWhere used.old used.new
-        (InLong parts.now.clauses parts.now.db.refs (length parts.now.db.refs)) }
+    ensures { MarksExactly used.old used.new
+        (OccursInLongClauses parts.now.clauses parts.now.db.refs (length parts.now.db.refs)) }
 {
     for at in 0..parts.db.len() {
         let cref = parts.db.cref(at);
@@ -60,8 +61,8 @@ fn mark_long(used: &mut [bool], parts: &SearchState)
 fn mark_binary(used: &mut [bool], parts: &SearchState)
     requires holds { SearchStateInvariant parts.now }
     requires size { length used.old ≡ length parts.now.assignment.current }
-    ensures { MarksJustWhere used.old used.new
-        (InBinary parts.now.binary.implied (length parts.now.binary.implied)) }
+    ensures { MarksExactly used.old used.new
+        (OccursInBinaryClauses parts.now.binary.implied (length parts.now.binary.implied)) }
 {
     for code in 0..2 * used.len() {
         let lit = Lit::from_code(code);

@@ -2,7 +2,7 @@
 ghost use Rattle.std.specs.Prelude.{◌≡◌, ◌<◌, length, [], true, false, slice_set};
 ghost use Rattle.sat_base.specs.values.Literals.{variable};
 ghost use Rattle.sat_store.specs.heap.Vsids.{is_available, with_available};
-ghost use Rattle.sat_parts.specs.prop.State.{IsRemoved};
+ghost use Rattle.sat_parts.specs.prop.State.{IsRemovedUnit};
 ghost use Rattle.sat_parts.specs.prop.Values.{IsUnassignedLit, with_true_lit};
 ghost use Rattle.sat_parts.specs.parts.Whole.{state, SearchStateInvariant};
 ghost use Rattle.sat_parts.specs.parts.Frame.{SameClauses, GainsUnit, SameContents};
@@ -44,7 +44,7 @@ pub fn use_with_unit(parts: &mut SearchState, lit: Lit)
     ensures holds { SearchStateInvariant parts.new }
     ensures same { SameClauses parts.old parts.new }
     ensures gains { GainsUnit lit (state parts.old) (state parts.new) }
-    ensures removed { IsRemoved (state parts.new) lit }
+    ensures removed { IsRemovedUnit (state parts.new) lit }
     ensures values { parts.new.assignment ≡ with_true_lit lit parts.old.assignment }
     ensures queue { parts.new.vsids ≡ parts.old.vsids }
     ensures trail { parts.new.trail ≡ parts.old.trail }

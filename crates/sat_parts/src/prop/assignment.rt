@@ -1,12 +1,13 @@
 //! The values of variables.
-ghost use Rattle.std.specs.Prelude.{◌≡◌, ◌<◌, ◌≤◌, ◌↔◌, [], length, IsTrue, OnOk, OnErr, None, slice_index_or, slice_set};
+ghost use Rattle.std.specs.Prelude.{◌≡◌, ◌<◌, ◌≤◌, ◌↔◌, [], length, IsTrue, OnOk, OnErr, None, slice_index_or};
+ghost use Rattle.std.specs.Prelude.{slice_set};
 ghost use Rattle.sat_base.specs.values.Literals.{var_limit, variable, is_positive};
-ghost use Rattle.sat_parts.specs.prop.Values.{with_value, with_true_lit, with_var_count, value_of, seen_from};
+ghost use Rattle.sat_parts.specs.prop.Values.{with_value, with_true_lit, with_var_count, value_of, lit_value_from};
 ghost use Rattle.sat_parts.specs.prop.Values.{IsTrueLit};
 ghost use Rattle.sat_parts.specs.prop.Values.{IsFalseLit, IsUnassignedLit};
 ghost use Rattle.sat_parts.specs.clause.Glue.{VariablesBelow};
 ghost use Rattle.sat_parts.specs.prop.LitValues.{MirrorsValues};
-ghost use Rattle.sat_parts.specs.prop.Undone.{undone, was_true, values_of};
+ghost use Rattle.sat_parts.specs.prop.Undone.{with_values_lost, is_some_true, values_of};
 
 use crate::prop::lit_values::{LitValue, LitValues, is_true};
 use sat_base::{Lit, Var};
@@ -92,7 +93,7 @@ impl Assignment {
         self.values[var.index()]
     }
 
-    /// Returns the last value that a variable lost.
+    /// Returns the saved phase of a variable: the last value that it lost, or `false` if it has lost none.
     pub fn last_var_value(&self, var: Var) -> bool
         requires { var < length self.now.current }
         ensures { result ≡ slice_index_or self.now.last var result }
@@ -103,7 +104,7 @@ impl Assignment {
     /// Returns the value of a literal, or `None` if it is unassigned.
     pub fn lit_value(&self, lit: Lit) -> Option<bool>
         requires { variable lit < length self.now.current }
-        ensures { result ≡ seen_from (is_positive lit) (value_of self.now.current (variable lit)) }
+        ensures { result ≡ lit_value_from (is_positive lit) (value_of self.now.current (variable lit)) }
     {
         match self.values[lit.index()] {
             None => None,
@@ -159,7 +160,7 @@ impl Assignment {
     /// Removes the values of literals' variables, and records them as the last values that the variables lost.
     pub(crate) fn lose_all(&mut self, lits: &[Lit])
         requires { VariablesBelow lits.now (length self.old.current) }
-        ensures { self.new ≡ undone lits.now self.old }
+        ensures { self.new ≡ with_values_lost lits.now self.old }
     {
         lose_values(
             &mut self.values,
@@ -169,7 +170,7 @@ impl Assignment {
         );
     }
 
-    /// Sets or removes the value of a variable.
+    /// Sets the value of a variable, or removes it if `value` is `None`.
     pub fn set_var(&mut self, var: Var, value: Option<bool>)
         requires { var < length self.old.current }
         ensures { self.new ≡ with_value var value self.old }
@@ -184,7 +185,7 @@ fn lose_values(values: &mut [Option<bool>], last: &mut [bool], codes: &mut [LitV
     requires below { VariablesBelow lits.now (length values.old) }
     requires last { length last.old ≡ length values.old }
     requires mirrors { MirrorsValues values.old codes.old }
-    ensures values { values_of values.new last.new ≡ undone lits.now (values_of values.old last.old) }
+    ensures values { values_of values.new last.new ≡ with_values_lost lits.now (values_of values.old last.old) }
     ensures size { length values.new ≡ length values.old }
     ensures last { length last.new ≡ length last.old }
     ensures mirrors { MirrorsValues values.new codes.new }
@@ -201,7 +202,7 @@ fn lose_value(values: &mut [Option<bool>], last: &mut [bool], codes: &mut [LitVa
     requires last { length last.old ≡ length values.old }
     requires mirrors { MirrorsValues values.old codes.old }
     ensures values { values.new ≡ slice_set values.old index None }
-    ensures last { last.new ≡ slice_set last.old index (was_true (value_of values.old index)) }
+    ensures last { last.new ≡ slice_set last.old index (is_some_true (value_of values.old index)) }
     ensures mirrors { MirrorsValues values.new codes.new }
 {
     last[index] = is_true(codes[2 * index]);

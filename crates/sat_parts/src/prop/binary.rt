@@ -1,7 +1,7 @@
 //! Propagation over binary clauses.
 ghost use Rattle.std.specs.Prelude.{◌≡◌, length, IfOk, IsOk};
 ghost use Rattle.sat_parts.specs.prop.State.{StateIsConsistent, IsQueueCurrent, HasLeftQueue, level, current_level};
-ghost use Rattle.sat_parts.specs.prop.Ready.{state_of, AreLists};
+ghost use Rattle.sat_parts.specs.prop.Ready.{state_of, AreImpliedLists};
 ghost use Rattle.sat_parts.specs.prop.Walk.{BinaryWalkEffect};
 
 use crate::binary::BinaryClauses;
@@ -13,7 +13,8 @@ use std::alloc::AllocError;
 
 /// Assigns all literals that `lit` implies through binary clauses. `lit` must have left the queue. Never allocates.
 ///
-/// Returns `Ok(Err(conflict))` if both literals of a binary clause are false.
+/// Stops at the first binary clause whose literals are both false, and returns `Ok(Err(conflict))`. Never returns
+/// `Err`.
 pub fn propagate_binary(
     binary: &BinaryClauses,
     assignment: &mut Assignment,
@@ -21,7 +22,7 @@ pub fn propagate_binary(
     trail: &mut Trail,
     lit: Lit,
 ) -> Result<Result<(), Conflict>, AllocError>
-    requires lists { AreLists binary.now.implied (length assignment.old.current) }
+    requires lists { AreImpliedLists binary.now.implied (length assignment.old.current) }
     requires agrees { StateIsConsistent (state_of assignment.old graph.old trail.old) }
     requires queue { IsQueueCurrent (state_of assignment.old graph.old trail.old) }
     requires left { HasLeftQueue (state_of assignment.old graph.old trail.old) lit }

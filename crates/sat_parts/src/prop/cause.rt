@@ -3,7 +3,7 @@ ghost use Rattle.std.specs.Prelude.{ℕ, ◌≡◌, ◌<◌, ◌↔◌, ◌++◌
 ghost use Rattle.std.specs.Iterator.{at_most};
 ghost use Rattle.std.specs.Map.Iter.{TakesFirst, ShowsInOrder};
 ghost use Rattle.sat_store.specs.clause.Buffer.{IsClause, lits_at};
-ghost use Rattle.sat_parts.specs.prop.Causes.{causes, falsified};
+ghost use Rattle.sat_parts.specs.prop.ReasonLits.{reason_lits, conflict_lits};
 
 use crate::prop::graph::{Conflict, Reason};
 use sat_base::Lit;
@@ -61,8 +61,8 @@ impl<'a> CauseLits<'a> {
         }
     }
 
-    /// Returns the literals that the reason or conflict holds itself, and the literals of its long clause. One of the
-    /// two lists is empty.
+    /// Returns the literals that the reason or conflict holds itself, and the literals of its long clause. At least one
+    /// of the two lists is empty.
     #[inline(always)] // called for each reason that conflict analysis looks at
     pub fn parts(&self) -> (&'a [Lit], &Lits<'a>)
         ensures { result.0.now ++ result.1.now ≡ self.now }
@@ -123,7 +123,7 @@ impl Reason {
     pub fn lits<'a>(&'a self, clauses: &'a ClauseAlloc) -> CauseLits<'a>
         requires clause { (o : ℕ) → self.now ≡ Reason.Long o → IsClause clauses.now o }
         requires some { (o : ℕ) → self.now ≡ Reason.Long o → 0 < length (lits_at clauses.now o) }
-        ensures { result ≡ causes clauses.now self.now }
+        ensures { result ≡ reason_lits clauses.now self.now }
     {
         match self {
             Reason::Unit => CauseLits {
@@ -146,7 +146,7 @@ impl Conflict {
     /// Returns the literals of the falsified clause.
     pub fn lits<'a>(&'a self, clauses: &'a ClauseAlloc) -> CauseLits<'a>
         requires { (o : ℕ) → self.now ≡ Conflict.Long o → IsClause clauses.now o }
-        ensures { result ≡ falsified clauses.now self.now }
+        ensures { result ≡ conflict_lits clauses.now self.now }
     {
         match self {
             Conflict::Binary(lits) => CauseLits {

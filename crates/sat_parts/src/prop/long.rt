@@ -6,8 +6,9 @@ ghost use Rattle.sat_parts.specs.clause.Orders.{PermutesClause};
 ghost use Rattle.sat_parts.specs.clause.Stored.{lit_of, size_of};
 ghost use Rattle.sat_parts.specs.prop.Values.{IsFalseLit};
 ghost use Rattle.sat_parts.specs.prop.State.{HasLeftQueue, level, current_level};
-ghost use Rattle.sat_parts.specs.prop.Ready.{state_of, LongReady};
-ghost use Rattle.sat_parts.specs.prop.Walk.{WalkInvariant, WalkInvariantAtClause, VisitedIn, WatchWalkEffect, LongWalkEffect};
+ghost use Rattle.sat_parts.specs.prop.Ready.{state_of, LongPropagationInvariant};
+ghost use Rattle.sat_parts.specs.prop.Walk.{WalkInvariant, PutsFalseLitSecond, VisitedIn, WatchWalkEffect};
+ghost use Rattle.sat_parts.specs.prop.Walk.{LongWalkEffect};
 
 use crate::prop::assignment::Assignment;
 use crate::prop::graph::{Conflict, ImplGraph, Reason};
@@ -74,7 +75,7 @@ fn orient(clauses: &mut ClauseAlloc, cref: ClauseRef, lit: Lit) -> Option<Lit>
     ensures shuffles { PermutesClause clauses.old clauses.new cref }
     ensures oriented { MatchOption result
         ((lit_of clauses.old cref 0 ≢ lit) × (lit_of clauses.old cref 1 ≢ lit) × (clauses.new ≡ clauses.old))
-        (λ other. WalkInvariantAtClause clauses.old clauses.new cref lit × (other ≡ lit_of clauses.new cref 0)) }
+        (λ other. PutsFalseLitSecond clauses.old clauses.new cref lit × (other ≡ lit_of clauses.new cref 0)) }
 {
     let first = clauses.lit(cref, 0).code() as u32;
     let second = clauses.lit(cref, 1).code() as u32;
@@ -217,7 +218,7 @@ pub fn propagate_long(
     lit: Lit,
 ) -> Result<Result<(), Conflict>, AllocError>
     ghost live: { List ℕ }
-    requires ready { LongReady clauses.old live watchlists.old.lists (state_of assignment.old graph.old trail.old)
+    requires ready { LongPropagationInvariant clauses.old live watchlists.old.lists (state_of assignment.old graph.old trail.old)
         (λ l. l ≢ lit) }
     requires left { HasLeftQueue (state_of assignment.old graph.old trail.old) lit }
     requires top { level (state_of assignment.old graph.old trail.old) lit

@@ -1,6 +1,6 @@
 //! Propagation of all literals in the queue.
 ghost use Rattle.std.specs.Prelude.{ℕ, List, ◌≡◌, IfOk};
-ghost use Rattle.sat_parts.specs.prop.Ready.{state_of, IsReadyToPropagate, Propagated};
+ghost use Rattle.sat_parts.specs.prop.Ready.{state_of, IsReadyToPropagate, WatchedPropagationResult};
 
 use crate::binary::BinaryClauses;
 use crate::clause::db::ClauseDb;
@@ -30,7 +30,7 @@ pub(crate) fn propagate_queue(
     ghost live: { List ℕ }
     requires { IsReadyToPropagate clauses.old live watchlists.old.lists binary.now.implied
         (state_of assignment.old graph.old trail.old) }
-    ensures propagated { IfOk result (λ r. Propagated live binary.now.implied
+    ensures propagated { IfOk result (λ r. WatchedPropagationResult live binary.now.implied
         clauses.old (state_of assignment.old graph.old trail.old)
         clauses.new (state_of assignment.new graph.new trail.new) watchlists.new.lists r) }
     ensures last { assignment.new.last ≡ assignment.old.last }

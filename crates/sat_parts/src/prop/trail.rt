@@ -4,16 +4,17 @@ ghost use Rattle.std.specs.Prelude.{MatchOption, slice_get, IfNone, IfSome};
 ghost use Rattle.sat_base.specs.values.Literals.{var_limit, variable};
 ghost use Rattle.sat_parts.specs.clause.Glue.{VariablesBelow};
 ghost use Rattle.sat_parts.specs.prop.Values.{with_true_lit, IsUnassignedLit};
-ghost use Rattle.sat_parts.specs.prop.Graphs.{node_at, with_node};
-ghost use Rattle.sat_parts.specs.prop.Trails.{IsTrail, PopsNext, no_trail, first_start, with_lit, with_level};
+ghost use Rattle.sat_parts.specs.prop.Graphs.{enqueued_node, with_node};
+ghost use Rattle.sat_parts.specs.prop.Trails.{IsTrail, PopsQueue, no_trail, level_zero_end, with_lit, with_level};
 ghost use Rattle.sat_parts.specs.prop.Trails.{with_cleared};
-ghost use Rattle.sat_parts.specs.prop.Trails.{cut_to};
-ghost use Rattle.sat_parts.specs.prop.Undone.{undone, undone_to, all_available, undone_lits};
+ghost use Rattle.sat_parts.specs.prop.Trails.{without_levels_above};
+ghost use Rattle.sat_parts.specs.prop.Undone.{with_values_lost, with_levels_undone, with_all_available};
+ghost use Rattle.sat_parts.specs.prop.Undone.{lits_above_level};
 ghost use Rattle.sat_parts.specs.prop.State.{StateIsConsistent};
 ghost use Rattle.sat_parts.specs.prop.Ready.{state_of};
 ghost use Rattle.sat_parts.specs.prop.Backtracked.{BacktrackEffectOn, BacktrackPreservesInvariant};
 ghost use Rattle.sat_parts.specs.prop.Backtracked.{EnqueuePreservesInvariant, NewLevelPreservesInvariant};
-ghost use Rattle.sat_parts.specs.prop.Backtracked.{KeepsTurns};
+ghost use Rattle.sat_parts.specs.prop.Backtracked.{KeepsReasonsUnit};
 
 use crate::prop::assignment::Assignment;
 use crate::prop::graph::{ImplGraph, ImplNode, Reason};
@@ -24,7 +25,7 @@ use std::marker::Model;
 
 /// The true literals in the order of assignment, the queue of literals to propagate, and the starts of the levels.
 ///
-/// Contracts see a `Trailed`.
+/// Contracts see a `TrailState`.
 #[derive(Drop)]
 pub struct Trail {
     trail: Vec<Lit>,
@@ -40,13 +41,13 @@ pub struct Trail {
 
 impl Model for Trail {
     ghost use Rattle.std.specs.Prelude.{◌≤◌, vec_capacity};
-    ghost use Rattle.sat_parts.specs.prop.Trails.{Trailed, trailed, IsTrail};
+    ghost use Rattle.sat_parts.specs.prop.Trails.{TrailState, trail_state, IsTrail};
 
-    ghost Value = { Trailed };
+    ghost Value = { TrailState };
 
-    ghost view = { λ t. trailed t.trail.items t.queue_head_pos t.decisions.items t.units_removed t.room };
+    ghost view = { λ t. trail_state t.trail.items t.queue_head_pos t.decisions.items t.units_removed t.room };
 
-    ghost invariant = { λ t. IsTrail (trailed t.trail.items t.queue_head_pos t.decisions.items t.units_removed t.room)
+    ghost invariant = { λ t. IsTrail (trail_state t.trail.items t.queue_head_pos t.decisions.items t.units_removed t.room)
         × (t.room ≤ vec_capacity t.trail) };
 }
 
@@ -89,7 +90,7 @@ impl Trail {
     /// stays on the trail.
     pub fn pop_queue(&mut self) -> Option<Lit>
         ensures none { IfNone result ((self.old.head ≡ length self.old.lits) × (self.new ≡ self.old)) }
-        ensures next { IfSome result (λ l. PopsNext self.old l self.new) }
+        ensures next { IfSome result (λ l. PopsQueue self.old l self.new) }
     {
         if self.queue_head_pos == self.trail.len() {
             return None;
@@ -157,7 +158,7 @@ impl Trail {
     /// Returns the number of literals at level 0, including those that `clear` has removed. The number saturates at
     /// 2^64 - 1.
     pub fn top_level_assignment_count(&self) -> usize
-        ensures { result ≡ min (first_start self.now + self.now.cleared) (2 ^ 64 - 1) }
+        ensures { result ≡ min (level_zero_end self.now + self.now.cleared) (2 ^ 64 - 1) }
     {
         let end = match self.decisions.first() {
             Some(start) => *start as usize,
@@ -189,7 +190,7 @@ pub fn enqueue_assignment(
     // If the state is consistent, there is room for every unassigned literal.
     requires room { StateIsConsistent (state_of assignment.old graph.old trail.old) ⊎ (length trail.old.lits < trail.old.room) }
     ensures value { assignment.new ≡ with_true_lit lit assignment.old }
-    ensures node { graph.new ≡ with_node (variable lit) (node_at trail.old reason) graph.old }
+    ensures node { graph.new ≡ with_node (variable lit) (enqueued_node trail.old reason) graph.old }
     ensures trail { trail.new ≡ with_lit lit trail.old }
     ensures agrees { StateIsConsistent (state_of assignment.old graph.old trail.old)
         → StateIsConsistent (state_of assignment.new graph.new trail.new) }
@@ -213,7 +214,7 @@ fn push_assignment(
     requires open { IsUnassignedLit assignment.old.current lit }
     requires room { length trail.old.lits < trail.old.room }
     ensures value { assignment.new ≡ with_true_lit lit assignment.old }
-    ensures node { graph.new ≡ with_node (variable lit) (node_at trail.old reason) graph.old }
+    ensures node { graph.new ≡ with_node (variable lit) (enqueued_node trail.old reason) graph.old }
     ensures trail { trail.new ≡ with_lit lit trail.old }
 {
     assignment.assign_lit(lit);
@@ -229,8 +230,8 @@ fn push_assignment(
 fn undo(assignment: &mut Assignment, vsids: &mut Vsids, lits: &[Lit])
     requires values { VariablesBelow lits.now (length assignment.old.current) }
     requires queue { VariablesBelow lits.now (length vsids.old.available) }
-    ensures values { assignment.new ≡ undone lits.now assignment.old }
-    ensures available { vsids.new ≡ all_available lits.now vsids.old }
+    ensures values { assignment.new ≡ with_values_lost lits.now assignment.old }
+    ensures available { vsids.new ≡ with_all_available lits.now vsids.old }
 {
     assignment.lose_all(lits);
     for lit in lits {
@@ -248,14 +249,14 @@ pub fn backtrack(assignment: &mut Assignment, trail: &mut Trail, vsids: &mut Vsi
     ensures same_values { length trail.old.starts ≤ level → assignment.new ≡ assignment.old }
     ensures same_trail { length trail.old.starts ≤ level → trail.new ≡ trail.old }
     ensures same_queue { length trail.old.starts ≤ level → vsids.new ≡ vsids.old }
-    ensures values { level < length trail.old.starts → assignment.new ≡ undone_to level trail.old assignment.old }
-    ensures trail { level < length trail.old.starts → trail.new ≡ cut_to level trail.old }
+    ensures values { level < length trail.old.starts → assignment.new ≡ with_levels_undone level trail.old assignment.old }
+    ensures trail { level < length trail.old.starts → trail.new ≡ without_levels_above level trail.old }
     ensures available { level < length trail.old.starts
-        → vsids.new ≡ all_available (undone_lits level trail.old) vsids.old }
+        → vsids.new ≡ with_all_available (lits_above_level level trail.old) vsids.old }
     ensures kept { BacktrackEffectOn level assignment.old trail.old assignment.new trail.new }
     ensures preserves { level < length trail.old.starts
         → BacktrackPreservesInvariant level assignment.old trail.old assignment.new trail.new }
-    ensures turns { level < length trail.old.starts → KeepsTurns assignment.old trail.old assignment.new trail.new }
+    ensures turns { level < length trail.old.starts → KeepsReasonsUnit assignment.old trail.old assignment.new trail.new }
 {
     if level >= trail.current_level() {
         return;
@@ -268,9 +269,9 @@ fn undo_levels(assignment: &mut Assignment, trail: &mut Trail, vsids: &mut Vsids
     requires below { level < length trail.old.starts }
     requires values { VariablesBelow trail.old.lits (length assignment.old.current) }
     requires queue { VariablesBelow trail.old.lits (length vsids.old.available) }
-    ensures values { assignment.new ≡ undone_to level trail.old assignment.old }
-    ensures trail { trail.new ≡ cut_to level trail.old }
-    ensures available { vsids.new ≡ all_available (undone_lits level trail.old) vsids.old }
+    ensures values { assignment.new ≡ with_levels_undone level trail.old assignment.old }
+    ensures trail { trail.new ≡ without_levels_above level trail.old }
+    ensures available { vsids.new ≡ with_all_available (lits_above_level level trail.old) vsids.old }
 {
     let start = trail.decisions[level] as usize;
     undo(assignment, vsids, &trail.trail[start..]);

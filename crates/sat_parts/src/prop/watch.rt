@@ -4,10 +4,10 @@ ghost use Rattle.std.specs.Prelude.{true, false, slice_index_or, slice_set, if�
 ghost use Rattle.sat_base.specs.values.Literals.{var_limit, negated};
 ghost use Rattle.sat_store.specs.clause.Buffer.{HoldsClauses};
 ghost use Rattle.sat_parts.specs.clause.Db.{live_refs};
-ghost use Rattle.sat_parts.specs.clause.Stored.{AreClauses};
-ghost use Rattle.sat_parts.specs.prop.Building.{WatchesLive};
+ghost use Rattle.sat_parts.specs.clause.Stored.{AreLongClauses};
+ghost use Rattle.sat_parts.specs.prop.Building.{LiveClausesAreWatched};
 ghost use Rattle.sat_parts.specs.prop.WatchLists.{watches_of, no_watch, watch_on, with_watch, without_last_watch};
-ghost use Rattle.sat_parts.specs.prop.WatchLists.{with_clause_watches, with_lists, widened, HasListRoom};
+ghost use Rattle.sat_parts.specs.prop.WatchLists.{with_clause_watches, with_lists, with_lists_up_to, HasListRoom};
 
 use crate::clause::db::ClauseDb;
 use sat_base::Lit;
@@ -75,7 +75,7 @@ impl WatchList {
         watch.blocking
     }
 
-    /// Replaces the watch at position `at`.
+    /// Replaces the watch at position `at` with a watch of `cref` that has the blocking literal `blocking`.
     #[inline(always)] // called for each watch that propagation goes through
     pub fn set(&mut self, at: usize, cref: ClauseRef, blocking: Lit)
         requires { at < length self.old }
@@ -138,7 +138,7 @@ impl WatchList {
 
 /// For every literal, the watches to visit when the literal becomes true.
 ///
-/// Contracts see a `Watching`: the lists, indexed by literal code, and whether they are enabled.
+/// Contracts see a `WatchState`: the lists, indexed by literal code, and whether they are enabled.
 #[derive(Drop)]
 pub struct Watchlists {
     alloc: Global,
@@ -152,11 +152,11 @@ pub struct Watchlists {
 
 impl Model for Watchlists {
     ghost use Rattle.std.specs.Prelude.{vec_capacity};
-    ghost use Rattle.sat_parts.specs.prop.WatchLists.{Watching, widened, HasListRoom};
+    ghost use Rattle.sat_parts.specs.prop.WatchLists.{WatchState, with_lists_up_to, HasListRoom};
 
-    ghost Value = { Watching };
+    ghost Value = { WatchState };
 
-    ghost view = { λ w. record { lists = widened w.count w.watches.items; enabled = w.enabled } };
+    ghost view = { λ w. record { lists = with_lists_up_to w.count w.watches.items; enabled = w.enabled } };
 
     ghost invariant = { λ w. HasListRoom w.count (vec_capacity w.watches) w.watches.items };
 }
@@ -317,7 +317,7 @@ fn push_full(watches: &mut Vec<Watch>, watch: Watch) -> Result<(), AllocError>
 #[inline(never)] // called for the first watch, and for the first one after variables were added
 fn widen(alloc: Global, watches: &mut Vec<WatchList>, count: usize)
     requires { HasListRoom count (vec_capacity watches.old) watches.old.items }
-    ensures lists { watches.new.items ≡ widened count watches.old.items }
+    ensures lists { watches.new.items ≡ with_lists_up_to count watches.old.items }
     ensures capacity { vec_capacity watches.new ≡ vec_capacity watches.old }
 {
     for _added in watches.len()..count {
@@ -332,7 +332,7 @@ fn make_list(alloc: Global, watches: &mut Vec<WatchList>, count: usize, code: us
     requires below { code < count }
     ensures room { HasListRoom count (vec_capacity watches.new) watches.new.items }
     ensures made { code < length watches.new.items }
-    ensures same { widened count watches.new.items ≡ widened count watches.old.items }
+    ensures same { with_lists_up_to count watches.new.items ≡ with_lists_up_to count watches.old.items }
 {
     if code >= watches.len() {
         widen(alloc, watches, count);
@@ -374,11 +374,11 @@ pub fn enable_watchlists(
 ) -> Result<(), AllocError>
     ghost count: { ℕ }
     requires holds_clauses { HoldsClauses clauses.now db.now.refs }
-    requires clauses { AreClauses clauses.now (live_refs clauses.now db.now.refs) count }
+    requires clauses { AreLongClauses clauses.now (live_refs clauses.now db.now.refs) count }
     requires room { length watchlists.old.lists ≡ 2 * count }
     ensures kept { IsTrue watchlists.old.enabled → OnOk result (watchlists.new ≡ watchlists.old) }
     ensures built { watchlists.old.enabled ≡ false
-        → OnOk result (WatchesLive clauses.now db.now.refs watchlists.new.lists count) }
+        → OnOk result (LiveClausesAreWatched clauses.now db.now.refs watchlists.new.lists count) }
     ensures enabled { OnOk result (watchlists.new.enabled ≡ true) }
 {
     if watchlists.enabled {

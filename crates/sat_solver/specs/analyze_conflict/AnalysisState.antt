@@ -9,10 +9,9 @@ use Rattle.sat_parts.specs.declared.prop.graph.Conflict.{Conflict}
 use Rattle.sat_parts.specs.declared.prop.graph.Conflict.TheVariants as conflicts
 use Rattle.sat_parts.specs.prop.Graphs.{node_of}
 
--- The state of an analysis. `clause`: the false literals of lower levels. `used`: the true literals whose reasons
--- were used. `seen`: the variables of the literals that were seen. `antecedents`: the long clauses that took part.
--- `core`: the assumptions of a core. `flags`: a flag for each variable. `pending`: the number of flagged literals
--- that are still to be resolved.
+-- the state of an analysis: the false literals of lower levels (`clause`), the true literals whose reasons were used,
+-- the variables seen, the long clauses that took part (`antecedents`), the assumptions of a core, a flag per variable,
+-- and the number of flagged literals still to be resolved (`pending`)
 pub record AnalysisState : Type 0 where
   pub clause : List ℕ
   pub used : List ℕ
@@ -22,7 +21,7 @@ pub record AnalysisState : Type 0 where
   pub flags : List Bool
   pub pending : ℕ
 
--- the state of an analysis with these fields
+-- the state of an analysis with these fields, in the order of the parameters
 abbrev pub analysis_state : (clause used seen antecedents core : List ℕ) (flags : List Bool) (pending : ℕ) → AnalysisState
 analysis_state clause used seen antecedents core flags pending = record { clause = clause; used = used; seen = seen; antecedents = antecedents; core = core; flags = flags; pending = pending }
 
@@ -37,22 +36,23 @@ with_seen_literal nodes top r w =
     then record w { flags = set w.flags (variable r) true; seen = w.seen ++ variable r ∷ []; clause = w.clause ++ r ∷ [] }
     else record w { flags = set w.flags (variable r) true; seen = w.seen ++ variable r ∷ []; pending = min (w.pending + 1) (2 ^ 64 - 1) }))
 
--- the state after these literals are seen one after another
+-- the state after the literals of the list are seen one after another, as `with_seen_literal` says, for the level `top`
 abbrev pub with_seen_literals : (nodes : List ImplNode) (top : ℕ) → List ℕ → AnalysisState → AnalysisState
 with_seen_literals nodes top [] w = w
 with_seen_literals nodes top (r ∷ rs) w = with_seen_literals nodes top rs (with_seen_literal nodes top r w)
 
--- the state after the variable of a literal is unflagged, and one literal less is pending
+-- the state after the variable of the literal `l` is unflagged, and the pending count is one less (0 stays 0)
 abbrev pub unflagged : ℕ → AnalysisState → AnalysisState
 unflagged l w = record w { flags = set w.flags (variable l) false; pending = w.pending - 1 }
 
--- the long clause of a reason, if it has one
+-- the position in the buffer of the long clause that is this reason, as a list of one, or the empty list
 abbrev pub long_of : Reason → List ℕ
 long_of NoCause = []
 long_of (Binary ls) = []
 long_of (Long o) = o ∷ []
 
--- the long clause that was falsified, if the conflict has one
+-- the position in the buffer of the long clause that was falsified, as a list of one, or the empty list if the conflict
+-- is a binary clause
 abbrev pub long_falsified : Conflict → List ℕ
 long_falsified (conflicts.Binary ls) = []
 long_falsified (conflicts.Long o) = o ∷ []
@@ -62,19 +62,20 @@ long_falsified (conflicts.Long o) = o ∷ []
 abbrev pub with_reason_used : (r : Reason) (l : ℕ) → AnalysisState → AnalysisState
 with_reason_used r l w = record (unflagged l w) { used = w.used ++ l ∷ []; antecedents = w.antecedents ++ long_of r }
 
--- the state after a literal, which is no longer pending, was added to the core
+-- the state after the literal `l` was added to the core, its variable unflagged, and the pending count one less
 abbrev pub with_core_literal : ℕ → AnalysisState → AnalysisState
 with_core_literal l w = record (unflagged l w) { core = w.core ++ l ∷ [] }
 
--- the state when the analysis of a conflict begins; flags are unchanged
+-- the state when the analysis of the conflict `e` begins: all lists are empty, except that a long falsified clause is
+-- an antecedent; flags are unchanged
 abbrev pub begun_analysis : Conflict → AnalysisState → AnalysisState
 begun_analysis e w = record w { clause = []; used = []; seen = []; antecedents = long_falsified e; core = []; pending = 0 }
 
--- the state when the analysis of a failed assumption begins; the assumption is the first literal of the core, and
+-- the state when the analysis of the failed assumption `l` begins: `l` is the core, all other lists are empty, and
 -- flags are unchanged
 abbrev pub begun_core : ℕ → AnalysisState → AnalysisState
 begun_core l w = record w { clause = []; used = []; seen = []; antecedents = []; core = l ∷ []; pending = 0 }
 
--- the state after a literal was added to the clause and swapped with its first literal
+-- the state after the literal `r` was added to the clause and swapped with its first literal, so that it is first
 abbrev pub with_first : ℕ → AnalysisState → AnalysisState
 with_first r w = record w { clause = swap (w.clause ++ r ∷ []) 0 (length w.clause) }

@@ -13,20 +13,21 @@ use Rattle.sat_solver.specs.declared.variables.Variables.{Variables}
 use Rattle.sat_solver.specs.declared.context.Search.{Search}
 use Rattle.sat_solver.specs.cdcl.Rounds.{RoundResult}
 use Rattle.sat_solver.specs.variables.Shared.{SharesIndices}
-use Rattle.sat_solver.specs.unit_simplify.Freed.{KeepsAsked}
-use Rattle.sat_parts.specs.parts.Full.{IsFull}
+use Rattle.sat_solver.specs.unit_simplify.FreedIndices.{KeepsAsked}
+use Rattle.sat_parts.specs.parts.Full.{IsBufferFull}
 use Rattle.sat_solver.specs.unit_simplify.Passes.{PassFailsOr}
 
--- `RoundShares outcome n c` holds if names and search share their indices, unless the outcome is that unsat was
--- recorded
-abbrev pub RoundShares : RoundOutcome → Variables → Search → Type 0
-RoundShares outcomes.Learned n c = SharesIndices n c
-RoundShares outcomes.Model n c = SharesIndices n c
-RoundShares outcomes.Unsat n c = Unit {0}
-RoundShares outcomes.Failed n c = SharesIndices n c
+-- `RoundSharesIndices outcome n c` holds if the names `n` and the search `c` assign the same indices to proof
+-- variables, or the outcome is `Unsat`
+abbrev pub RoundSharesIndices : RoundOutcome → Variables → Search → Type 0
+RoundSharesIndices outcomes.Learned n c = SharesIndices n c
+RoundSharesIndices outcomes.Model n c = SharesIndices n c
+RoundSharesIndices outcomes.Unsat n c = Unit {0}
+RoundSharesIndices outcomes.Failed n c = SharesIndices n c
 
--- `RoundEnds seen outcome n n' p p' c c'` holds if a round has this outcome, and what it changed of names, proof and
--- search is as the outcome requires; the script state is unchanged
+-- `RoundEnds seen outcome n n' p p' c c'` holds if a round with the outcome `outcome` changed names, proof and search
+-- so: it learned an empowering clause, or found a model or a failed core, or recorded unsat; the script state and the
+-- assumptions are unchanged
 pub record RoundEnds {W L : Type 0} {G : Ghosts L} (seen : W → Writer) (outcome : RoundOutcome) (n n' : Variables) (p p' : Proof W L G) (c c' : Search) : Type 0 where
   pub steps : List Step
   pub adds : EmitsChecked seen steps p p'
@@ -34,9 +35,9 @@ pub record RoundEnds {W L : Type 0} {G : Ghosts L} (seen : W → Writer) (outcom
   pub does : KeepsScriptState n n' (steps_of p) (steps_of p')
   pub asked : KeepsAsked n n' (session_of p) (session_of p')
   pub says : RoundResult outcome (steps_of p) steps (session_of p') c c'
-  pub shares : RoundShares outcome n' c'
+  pub shares : RoundSharesIndices outcome n' c'
 
--- `EndsRound seen r n n' p p' c c'` holds if `r` is the result of a round: an outcome as by `RoundEnds`, or the call
--- failed; `StoreFull` only if the clause buffer is full
-abbrev pub EndsRound : {W L : Type 0} {G : Ghosts L} → (W → Writer) → Result RoundOutcome SolverError → Variables → Variables → Proof W L G → Proof W L G → Search → Search → Type 0
-EndsRound seen r n n' p p' c c' = MatchResult r (λ o. RoundEnds seen o n n' p p' c c') (λ e. PassFailsOr (IsFull c'.parts) seen e p p')
+-- `RoundEndsOrFails seen r n n' p p' c c'` holds if `r` is the result of a round: an outcome and what it changed of
+-- names, proof and search, or an error (`StoresError`); `StoreFull` only if the clause buffer is full
+abbrev pub RoundEndsOrFails : {W L : Type 0} {G : Ghosts L} → (W → Writer) → Result RoundOutcome SolverError → Variables → Variables → Proof W L G → Proof W L G → Search → Search → Type 0
+RoundEndsOrFails seen r n n' p p' c c' = MatchResult r (λ o. RoundEnds seen o n n' p p' c c') (λ e. PassFailsOr (IsBufferFull c'.parts) seen e p p')

@@ -9,26 +9,27 @@ use Rattle.sat_solver.specs.declared.cdcl.fault.FaultKind.TheVariants as kinds
 use Rattle.sat_solver.specs.declared.error.SolverError.{SolverError}
 use Rattle.sat_solver.specs.declared.error.SolverError.TheVariants as errors
 
--- the error that the solver reports for a fault of this kind
-abbrev pub reported_error : FaultKind → SolverError
-reported_error (kinds.Write cause) = errors.ProofIoError cause
-reported_error (kinds.Processor cause) = errors.ProofProcessorError cause
-reported_error kinds.OutOfMemory = errors.OutOfMemory
-reported_error kinds.StoreFull = errors.StoreFull
-reported_error kinds.VariableLimit = errors.VariableLimit
-reported_error kinds.CounterEnd = errors.CounterEnd
+-- the error that the solver reports for a fault of this kind, one to one
+abbrev pub error_of_fault : FaultKind → SolverError
+error_of_fault (kinds.Write cause) = errors.ProofIoError cause
+error_of_fault (kinds.Processor cause) = errors.ProofProcessorError cause
+error_of_fault kinds.OutOfMemory = errors.OutOfMemory
+error_of_fault kinds.StoreFull = errors.StoreFull
+error_of_fault kinds.VariableLimit = errors.VariableLimit
+error_of_fault kinds.CounterEnd = errors.CounterEnd
 
--- `IsKept e p` holds if the proof `p` stores the underlying error of `e`, if `e` has one
-abbrev pub IsKept : {W L : Type 0} {G : Ghosts L} → SolverError → Proof W L G → Type 0
-IsKept (errors.ProofIoError cause) p = p.cause ≡ Some cause
-IsKept (errors.ProofProcessorError cause) p = p.made.complaint ≡ Some cause
-IsKept e p = Unit {0}
+-- `StoresError e p` holds if the proof `p` stores the error that the target or the listener returned, if `e` reports
+-- one; otherwise nothing is demanded
+abbrev pub StoresError : {W L : Type 0} {G : Ghosts L} → SolverError → Proof W L G → Type 0
+StoresError (errors.ProofIoError cause) p = p.cause ≡ Some cause
+StoresError (errors.ProofProcessorError cause) p = p.made.complaint ≡ Some cause
+StoresError e p = Unit {0}
 
--- `NamesLoss e old new` holds if the checker misses further steps only if the error `e` reports a failed call of the
--- target or of the checker. When memory runs out, it misses none, unless the checker itself ran out of memory.
-abbrev pub NamesLoss : {W L : Type 0} {G : Ghosts L} → SolverError → Proof W L G → Proof W L G → Type 0
-NamesLoss (errors.ProofIoError cause) old new = Unit {0}
-NamesLoss (errors.ProofProcessorError cause) old new = Unit {0}
-NamesLoss errors.CounterEnd old new = Unit {0}
-NamesLoss errors.OutOfMemory old new = (has_missed_step new ≡ has_missed_step old) ⊎ CheckerFailed checks.OutOfMemory new
-NamesLoss e old new = has_missed_step new ≡ has_missed_step old
+-- `MissesOnlyByFault e old new` holds if `e` is an error of the target or of the own checker, or the checker has missed
+-- a step by `new` exactly if it had by `old`. An `OutOfMemory` outside the checker never makes it miss one.
+abbrev pub MissesOnlyByFault : {W L : Type 0} {G : Ghosts L} → SolverError → Proof W L G → Proof W L G → Type 0
+MissesOnlyByFault (errors.ProofIoError cause) old new = Unit {0}
+MissesOnlyByFault (errors.ProofProcessorError cause) old new = Unit {0}
+MissesOnlyByFault errors.CounterEnd old new = Unit {0}
+MissesOnlyByFault errors.OutOfMemory old new = (has_missed_step new ≡ has_missed_step old) ⊎ CheckerFailed checks.OutOfMemory new
+MissesOnlyByFault e old new = has_missed_step new ≡ has_missed_step old

@@ -8,15 +8,15 @@ use Rattle.sat_solver.specs.session.Session.{Session}
 use Rattle.sat_solver.specs.declared.context.Search.{Search}
 use Rattle.sat_solver.specs.cdcl.Joint.{SearchInvariant, SameVarsAndAssumptions}
 
--- `AreBelow vars n` holds if all variables `vars` are below `n`
+-- `AreBelow vars n` holds if all variables in `vars` are less than `n`
 abbrev pub AreBelow : List ℕ → ℕ → Type 0
 AreBelow vars n = (v : ℕ) → Contains vars v → v < n
 
--- `AreDecays c` holds if both decays of the parameters are 500 to 999 thousandths
-abbrev pub AreDecays : SolverConfig → Type 0
-AreDecays c = (500 ≤ c.vsids_decay) × (c.vsids_decay ≤ 999) × (500 ≤ c.clause_activity_decay) × (c.clause_activity_decay ≤ 999)
+-- `DecaysAreInRange c` holds if both decays of the parameters are 500 to 999 thousandths
+abbrev pub DecaysAreInRange : SolverConfig → Type 0
+DecaysAreInRange c = (500 ≤ c.vsids_decay) × (c.vsids_decay ≤ 999) × (500 ≤ c.clause_activity_decay) × (c.clause_activity_decay ≤ 999)
 
--- the queue after the variables were bumped one after another
+-- the queue of variables after each variable in the list was bumped, one after another
 abbrev pub all_bumped : List ℕ → Queue → Queue
 all_bumped [] q = q
 all_bumped (v ∷ vs) q = all_bumped vs (bumped v q)

@@ -14,10 +14,11 @@ use Rattle.sat_solver.specs.declared.proof.Proof.{Proof}
 use Rattle.sat_solver.specs.declared.proof.checker.Checked.{Checked}
 use Rattle.sat_solver.specs.declared.solver.Engine.{Engine}
 use Rattle.sat_solver.specs.solver.View.{EngineIsInState}
-use Rattle.sat_solver.specs.solver.Whole.{IsSolver}
+use Rattle.sat_solver.specs.solver.Whole.{EngineInvariant}
 use Rattle.sat_solver.specs.facade.View.{SolverView, Checking, OwnChecker}
 
--- the numbers that `progress` returns
+-- the numbers that `progress` returns: rounds (as `conflicts`), restarts, variables with an index and no value, and
+-- stored clauses: binary ones, and longer ones by tier
 abbrev pub progress_of : {W L : Type 0} {G : Ghosts L} → Engine W L G → Progress
 progress_of s = record {
   conflicts = s.clock.rounds;
@@ -30,16 +31,17 @@ progress_of s = record {
   local = live_count_of_tier s.context.search.parts tiers.Local;
 }
 
--- the own checker, as callers see it
+-- the own checker as callers see it: the width it was last set to, and whether a unit conflict is pending in it; `None`
+-- without a checker
 abbrev pub own_checker : {L : Type 0} → Option (Checked L) → Option OwnChecker
 own_checker None = None
 own_checker (Some own) = Some (record { width = own.bits; has_conflict = is_some (kernel_of own.checker).state.formula.status.conflict })
 
--- the width of hashes in a proof, and its own checker
+-- the width of the hashes in the text of a proof, and the state of its own checker
 abbrev pub checking_of : {W L : Type 0} {G : Ghosts L} → Proof W L G → Checking
 checking_of p = record { width = p.counting.bits; own = own_checker p.made.own }
 
--- the fields of the engine and the script state, as callers see them
+-- the view of the engine `s` with the script state `j`; `seen` says which `Writer` callers see for the target's writer
 abbrev pub view_of : {W L : Type 0} {G : Ghosts L} → (W → Writer) → ScriptState → Engine W L G → SolverView L
 view_of seen j s = record {
   failed = s.failed;
@@ -64,15 +66,17 @@ view_of seen j s = record {
   checking = checking_of s.context.proof;
 }
 
--- `MatchesEngine s j` holds if names and steps of the engine agree with the script state `j`, unless a call failed
+-- `MatchesEngine s j` holds if a call failed, or the names and steps of the engine agree with the script state `j`
 abbrev pub MatchesEngine : {W L : Type 0} {G : Ghosts L} → Engine W L G → ScriptState → Type 0
 MatchesEngine s j = s.failed ≡ false → (live : LiveVariables) × EngineIsInState s j live
 
--- `IsJudged s j` holds if a call may be made on the engine, and `j` is its script state
+-- `IsJudged s j` holds if the engine's invariant holds, so that calls may be made, and its script state is `j`, unless
+-- a call failed
 pub record IsJudged {W L : Type 0} {G : Ghosts L} (s : Engine W L G) (j : ScriptState) : Type 0 where
-  pub solver : IsSolver s
+  pub solver : EngineInvariant s
   pub matches : MatchesEngine s j
 
--- `Between G seen R old new` holds if `R` holds for some fields which callers see as the views `old` and `new`
+-- `Between G seen R old new` holds if there are engines `a` and `b` whose views are `old` and `new`, and which are
+-- related by `R a b`; `seen` says which `Writer` callers see for the target's writer
 abbrev pub Between : {W L : Type 0} (G : Ghosts L) → (W → Writer) → (Engine W L G → Engine W L G → Type 0) → SolverView L → SolverView L → Type 0
 Between {W} {L} G seen R old new = (a : Engine W L G) × (b : Engine W L G) × (view_of seen old.state a ≡ old) × (view_of seen new.state b ≡ new) × R a b

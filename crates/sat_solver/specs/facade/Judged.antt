@@ -14,12 +14,13 @@ use Rattle.sat_solver.specs.declared.facade.judged.Call.TheVariants as calls
 use Rattle.sat_solver.specs.declared.facade.judged.Change.{Change}
 use Rattle.sat_solver.specs.declared.variables.Variables.{Variables}
 
--- the script state after a new name was introduced, if any; script states count names from 1
+-- the script state after the new name with index `user` (counted from 0) was introduced; unchanged for `None`. Script
+-- states count names from 1.
 abbrev pub state_after_name : Option ℕ → ScriptState → ScriptState
 state_after_name None j = j
 state_after_name (Some user) j = introduce (user + 1) j
 
--- the script state after a call that succeeded
+-- the script state after this call, if it succeeded; names in calls are counted from 0, in script states from 1
 abbrev pub state_after_call : Call → ScriptState → ScriptState
 state_after_call (calls.AddClause lits) j = with_added lits.now j
 state_after_call (calls.Assume lits) j = introduce_all (names_in lits.now) j
@@ -28,22 +29,24 @@ state_after_call (calls.WitnessVar user) j = state_after_accepted (Witness ((use
 state_after_call (calls.SampleVar user) j = state_after_accepted (Sample ((user + 1) ∷ [])) j
 state_after_call (calls.NewVar user) j = state_after_name user j
 
--- the script state after a call, which is unchanged if the call did not succeed
-abbrev pub state_after : Change → ScriptState → ScriptState
-state_after change j = if change.done then state_after_call change.call j else j
+-- the script state after a call: changed as the call says if it succeeded (`change.done`), otherwise unchanged
+abbrev pub state_after_change : Change → ScriptState → ScriptState
+state_after_change change j = if change.done then state_after_call change.call j else j
 
--- the steps before the last steps that gave the names `users` to hidden variables, two steps for each name
+-- `steps_before steps users` is `steps` (newest first) without the newest ones, two for each name in `users`: the steps
+-- before hidden variables got these names
 abbrev pub steps_before : List Step → (users : List ℕ) → List Step
 steps_before steps users = drop (2 * length users) steps
 
--- `IsObserved j k n steps users` holds if the last of the steps gave the names `users` to hidden variables, which changed
--- the script state from `j` to `k`; the names `n` agree with it
+-- `IsObserved j k n steps users` holds if the newest of `steps` gave the names `users` to hidden variables, which
+-- changed the script state from `j` to `k`; the names `n` and the steps agree with `k`
 pub record IsObserved (j k : ScriptState) (n : Variables) (steps : List Step) (users : List ℕ) : Type 0 where
   pub live : LiveVariables
   pub before : IsBridge checker_rules j (steps_before steps users) live
   pub observes : Observes 0 (steps_before steps users) j live steps k users
   pub agree : NamesAgree n steps k live
 
--- `CanBeObserved j n steps users` holds if there is such a script state
+-- `CanBeObserved j n steps users` holds if some script state arises from `j` when the newest of `steps` give the names
+-- `users` to hidden variables; the names `n` and the steps agree with that state
 abbrev pub CanBeObserved : ScriptState → Variables → List Step → (users : List ℕ) → Type 0
 CanBeObserved j n steps users = (k : ScriptState) × IsObserved j k n steps users

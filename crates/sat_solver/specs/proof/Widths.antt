@@ -19,18 +19,21 @@ abbrev pub KeepsWidth : Step → Type 0
 KeepsWidth (ChangeHashBits bits) = ⊥
 KeepsWidth step = Unit {0}
 
--- `IsNarrowedTo wide written width` holds if `written` is what is written for steps with complete hashes, and the
--- last width is `width`. The width may change before any step. Lists have the newest step first.
+-- `IsNarrowedTo wide written width` holds if `written` is what is written for the steps `wide`, which have hashes of 64
+-- bits, when the width may change before any step; it is 64 at first and `width` at last. Lists have the newest step
+-- first.
 pub data IsNarrowedTo : List Step → List Step → ℕ → Type 0 where
   none_yet : IsNarrowedTo [] [] 64
   width_changes : {wide written : List Step} {width : ℕ} (bits : ℕ) → IsNarrowedTo wide written width → IsNarrowedTo wide (ChangeHashBits bits ∷ written) bits
   one_more : {wide written : List Step} {width : ℕ} (step : Step) → KeepsWidth step → IsNarrowedTo wide written width → IsNarrowedTo (step ∷ wide) (narrowed width step ∷ written) width
 
--- `MayAt wide written width` holds if what is written is allowed, and leaves the same session except for its width
-pub record MayAt (wide written : List Step) (width : ℕ) : Type 0 where
+-- `IsAllowedAtWidth wide written width` holds if the steps `written` are allowed, and leave the same session as the
+-- steps `wide`, except that its width is `width`
+pub record IsAllowedAtWidth (wide written : List Step) (width : ℕ) : Type 0 where
   pub may : AreAllowedSteps written
   pub session : session_after written ≡ record (session_after wide) { width = width }
 
--- `WidthsAreFree` holds if, at whatever widths allowed steps are written, what is written is allowed
+-- `WidthsAreFree` holds if allowed steps stay allowed when they are written with hashes cut to any widths, and leave
+-- the same session except for its width
 abbrev pub WidthsAreFree : Type 0
-WidthsAreFree = (wide written : List Step) (width : ℕ) → IsNarrowedTo wide written width → AreAllowedSteps wide → MayAt wide written width
+WidthsAreFree = (wide written : List Step) (width : ℕ) → IsNarrowedTo wide written width → AreAllowedSteps wide → IsAllowedAtWidth wide written width

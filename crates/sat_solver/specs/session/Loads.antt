@@ -6,16 +6,16 @@ use Rattle.sat_solver.specs.session.LiveClauses.{with_var}
 use Rattle.sat_parts.specs.declared.parts.SearchState.{SearchState}
 use Rattle.sat_parts.specs.declared.parts.load.Loaded.{Loaded}
 use Rattle.sat_parts.specs.declared.parts.load.Loaded.TheVariants.{Stored, Unit as One, Satisfied, Falsified}
-use Rattle.sat_solver.specs.session.Fits.{SessionMatchesParts}
+use Rattle.sat_solver.specs.session.Matching.{SessionMatchesParts}
 
--- `LoadFits loaded p s global given ls` holds if the session still matches after the step that adds the clause as it
--- was given. A clause with a true literal is then deleted, with its literals in the order `ls`, unless it has only one
--- literal. The step of a falsified clause records unsat.
-abbrev pub LoadFits : Loaded → SearchState → Session → (ℕ → ℕ) → (given ls : List ℕ) → Type 0
-LoadFits Stored p s global given ls = SessionMatchesParts p (after (AddClause (map (with_var global) given)) s) global
-LoadFits One p s global given ls = SessionMatchesParts p (after (AddClause (map (with_var global) given)) s) global
-LoadFits Satisfied p s global given ls =
+-- `LoadMatches loaded p s global given ls` holds if the parts `p` match the session after the clause `given` is added
+-- and, if it is satisfied and has two or more literals, deleted again, in the order `ls`. If it is falsified, unsat is
+-- recorded.
+abbrev pub LoadMatches : Loaded → SearchState → Session → (ℕ → ℕ) → (given ls : List ℕ) → Type 0
+LoadMatches Stored p s global given ls = SessionMatchesParts p (after (AddClause (map (with_var global) given)) s) global
+LoadMatches One p s global given ls = SessionMatchesParts p (after (AddClause (map (with_var global) given)) s) global
+LoadMatches Satisfied p s global given ls =
     (length ls ≡ 1 → SessionMatchesParts p (after (AddClause (map (with_var global) given)) s) global)
     × (2 ≤ length ls → IsAllowedStep (after (AddClause (map (with_var global) given)) s) (DeleteClause (map (with_var global) ls) True)
     × SessionMatchesParts p (after (DeleteClause (map (with_var global) ls) True) (after (AddClause (map (with_var global) given)) s)) global)
-LoadFits Falsified p s global given ls = (after (AddClause (map (with_var global) given)) s).unsat ≡ true
+LoadMatches Falsified p s global given ls = (after (AddClause (map (with_var global) given)) s).unsat ≡ true

@@ -2,8 +2,8 @@
 use Rattle.std.specs.Prelude.{ℕ, ◌<◌, ◌≡◌, ◌⊎◌, true, Option, Some, List, [], ◌∷◌, map}
 use Rattle.std.specs.List.{AllByRecursion}
 use Rattle.sat_base.specs.values.Literals.{mk_lit, variable}
-use Rattle.sat_base.specs.values.Clauses.{Valuation, EachHolds}
-use Rattle.sat_base.specs.script.Script.{Literal, names_of, Among, InOrder}
+use Rattle.sat_base.specs.values.Clauses.{Valuation, AllClausesTrue}
+use Rattle.sat_base.specs.script.Script.{Literal, names_of, Among, AreSortedLiterals}
 use Rattle.sat_base.specs.script.ScriptState.{ScriptState, identity_of, IsRightModel, IsRightCore}
 use Rattle.sat_base.specs.steps.Steps.{Step, DeleteVar, Model, FailedAssumptions}
 use Rattle.sat_checker.specs.Fold.{Holds}
@@ -11,53 +11,56 @@ use Rattle.sat_solver.specs.session.Session.{AreAllowedSteps, session_after}
 use Rattle.sat_solver.specs.session.LiveClauses.{with_var}
 use Rattle.sat_solver.specs.session.Promises.{added}
 
--- `AgreeOn j variable_of a b` holds if a valuation of proof variables and one of identities agree on every name in use,
--- whose proof variable is `variable_of`
+-- `AgreeOn j variable_of a b` holds if the valuation `a` of proof variables and `b` of identities agree on every name
+-- in use in `j` that has a proof variable by `variable_of`
 abbrev pub AgreeOn : ScriptState → (ℕ → Option ℕ) → Valuation → Valuation → Type 0
 AgreeOn j variable_of a b = (name i v : ℕ) → identity_of j name ≡ Some i → variable_of name ≡ Some v → a v ≡ b i
 
--- `MeansAcceptedClauses j variable_of steps` holds if the steps and the accepted clauses admit the same valuations of
--- the names in use
+-- `MeansAcceptedClauses j variable_of steps` holds if the steps and the accepted clauses of `j` admit the same
+-- valuations of the names in use, whose proof variables are given by `variable_of`
 pub record MeansAcceptedClauses (j : ScriptState) (variable_of : ℕ → Option ℕ) (steps : List Step) : Type 0 where
-  pub to : (a : Valuation) → Holds steps a → (b : Valuation) × AgreeOn j variable_of a b × EachHolds b j.clauses
-  pub back : (b : Valuation) → EachHolds b j.clauses → (a : Valuation) × AgreeOn j variable_of a b × Holds steps a
+  pub to : (a : Valuation) → Holds steps a → (b : Valuation) × AgreeOn j variable_of a b × AllClausesTrue b j.clauses
+  pub back : (b : Valuation) → AllClausesTrue b j.clauses → (a : Valuation) × AgreeOn j variable_of a b × Holds steps a
 
--- `IsReadAs j variable_of l code` holds if `l` is over a name in use, and `code` is the literal over its proof variable
-pub record IsReadAs (j : ScriptState) (variable_of : ℕ → Option ℕ) (l : Literal) (code : ℕ) : Type 0 where
+-- `IsRepresentedBy j variable_of l code` holds if the literal `l` is over a name in use in `j`, and `code` is the
+-- literal over the proof variable that `variable_of` gives for the name
+pub record IsRepresentedBy (j : ScriptState) (variable_of : ℕ → Option ℕ) (l : Literal) (code : ℕ) : Type 0 where
   pub identity : ℕ
   pub in_use : identity_of j l.name ≡ Some identity
   pub var : ℕ
   pub named : variable_of l.name ≡ Some var
   pub is : code ≡ mk_lit var l.positive
 
--- `AllReadAmong j variable_of ls codes` holds if every literal in `ls` is represented by a literal over proof variables
--- in `codes`
-abbrev pub AllReadAmong : ScriptState → (ℕ → Option ℕ) → List Literal → List ℕ → Type 0
-AllReadAmong j variable_of ls codes = AllByRecursion (λ l. (code : ℕ) × IsReadAs j variable_of l code × Among code codes) ls
+-- `AllRepresentedIn j variable_of ls codes` holds if for every literal over names in `ls`, the literal over its proof
+-- variable is in `codes`
+abbrev pub AllRepresentedIn : ScriptState → (ℕ → Option ℕ) → List Literal → List ℕ → Type 0
+AllRepresentedIn j variable_of ls codes = AllByRecursion (λ l. (code : ℕ) × IsRepresentedBy j variable_of l code × Among code codes) ls
 
--- `AllFrom j variable_of codes ls` holds if every literal over proof variables in `codes` represents a literal over
--- names in `ls`
-abbrev pub AllFrom : ScriptState → (ℕ → Option ℕ) → List ℕ → List Literal → Type 0
-AllFrom j variable_of codes ls = AllByRecursion (λ code. (l : Literal) × IsReadAs j variable_of l code × Among l ls) codes
+-- `AllRepresent j variable_of codes ls` holds if every literal over proof variables in `codes` is that of a literal
+-- over names in `ls`
+abbrev pub AllRepresent : ScriptState → (ℕ → Option ℕ) → List ℕ → List Literal → Type 0
+AllRepresent j variable_of codes ls = AllByRecursion (λ code. (l : Literal) × IsRepresentedBy j variable_of l code × Among l ls) codes
 
 -- CORRECT ANSWERS
 
--- `NamedModelsAreRight` holds if a model that may be written gives a correct model over names, with one literal for
--- every name in use
+-- `NamedModelsAreRight` holds if a line with one literal for every name in use, all of them in a model that may be
+-- written after steps that mean the accepted clauses, and with all literals of the ask, is a correct model
 abbrev pub NamedModelsAreRight : Type 0
 NamedModelsAreRight = (j : ScriptState) (variable_of : ℕ → Option ℕ) (steps : List Step) (codes : List ℕ) (ask line : List Literal)
     → MeansAcceptedClauses j variable_of steps → AreAllowedSteps (Model codes ∷ steps)
-    → names_of line ≡ map (λ n. n.name) j.in_use → AllReadAmong j variable_of line codes → AllByRecursion (λ l. Among l line) ask
+    → names_of line ≡ map (λ n. n.name) j.in_use → AllRepresentedIn j variable_of line codes → AllByRecursion (λ l. Among l line) ask
     → IsRightModel j ask line
 
--- `NamedCoresAreRight` holds if a failed core that may be written gives a correct core, of literals of the ask
+-- `NamedCoresAreRight` holds if sorted literals of an ask are a correct core whenever they include all literals of a
+-- failed core that may be written, after steps that mean the accepted clauses
 abbrev pub NamedCoresAreRight : Type 0
 NamedCoresAreRight = (j : ScriptState) (variable_of : ℕ → Option ℕ) (steps : List Step) (codes hashes : List ℕ) (ask core : List Literal)
     → MeansAcceptedClauses j variable_of steps → AreAllowedSteps (FailedAssumptions codes hashes ∷ steps)
-    → InOrder core → AllByRecursion (λ l. Among l ask) core → AllFrom j variable_of codes core
+    → AreSortedLiterals core → AllByRecursion (λ l. Among l ask) core → AllRepresent j variable_of codes core
     → IsRightCore j ask core
 
--- `NamedUnsatIsRight` holds if the empty core is correct for every ask, once unsat is recorded
+-- `NamedUnsatIsRight` holds if the empty core is correct for every ask, once allowed steps that mean the accepted
+-- clauses have recorded unsat
 abbrev pub NamedUnsatIsRight : Type 0
 NamedUnsatIsRight = (j : ScriptState) (variable_of : ℕ → Option ℕ) (steps : List Step) (ask : List Literal)
     → MeansAcceptedClauses j variable_of steps → AreAllowedSteps steps → (session_after steps).unsat ≡ true → IsRightCore j ask []
@@ -73,9 +76,10 @@ abbrev pub DeletesNoVar : Step → Type 0
 DeletesNoVar (DeleteVar v) = ⊥
 DeletesNoVar step = Unit {0}
 
--- `NoneHidden j variable_of steps` holds if every identity has a proof variable of its own, none was deleted, and the
--- added clauses are the accepted ones, over proof variables. Once unsat is recorded, accepted clauses may be left out.
-pub record NoneHidden (j : ScriptState) (variable_of : ℕ → Option ℕ) (steps : List Step) : Type 0 where
+-- `NamesNeverHidden j variable_of steps` holds if every identity has a proof variable of its own, none was deleted, and
+-- the added clauses are the accepted clauses of `j`, over proof variables. Once unsat is recorded, accepted clauses may
+-- be left out.
+pub record NamesNeverHidden (j : ScriptState) (variable_of : ℕ → Option ℕ) (steps : List Step) : Type 0 where
   pub global : ℕ → ℕ  -- the proof variable of an identity
   pub identity : ℕ → ℕ  -- and back
   pub back : (i : ℕ) → i < j.identity_count → identity (global i) ≡ i
@@ -86,7 +90,7 @@ pub record NoneHidden (j : ScriptState) (variable_of : ℕ → Option ℕ) (step
   pub added_from : AllByRecursion (λ c. (d : List ℕ) × Among d j.clauses × SameLits c (map (with_var global) d)) (added steps)
   pub all_added : ((session_after steps).unsat ≡ true) ⊎ AllByRecursion (λ d. (c : List ℕ) × Among c (added steps) × SameLits c (map (with_var global) d)) j.clauses
 
--- `NoneHiddenMeans` holds if allowed steps for which `NoneHidden` holds admit the same valuations of the names as the
--- accepted clauses
-abbrev pub NoneHiddenMeans : Type 0
-NoneHiddenMeans = (j : ScriptState) (variable_of : ℕ → Option ℕ) (steps : List Step) → AreAllowedSteps steps → NoneHidden j variable_of steps → MeansAcceptedClauses j variable_of steps
+-- `NeverHiddenMeans` holds if allowed steps under which no variable was deleted and the added clauses are the accepted
+-- ones (`NamesNeverHidden`) admit the same valuations of the names in use as the accepted clauses
+abbrev pub NeverHiddenMeans : Type 0
+NeverHiddenMeans = (j : ScriptState) (variable_of : ℕ → Option ℕ) (steps : List Step) → AreAllowedSteps steps → NamesNeverHidden j variable_of steps → MeansAcceptedClauses j variable_of steps

@@ -7,7 +7,7 @@ use Rattle.sat_solver.specs.declared.error.SolverError.{SolverError}
 use Rattle.sat_solver.specs.declared.error.SolverError.TheVariants as errors
 use Rattle.sat_solver.specs.declared.solver.Engine.{Engine}
 
--- the solver's error for an error of a text
+-- the solver's error for an error of a DIMACS text; the number of its line is dropped
 abbrev pub text_fault : DimacsError → SolverError
 text_fault (texts.Malformed line) = errors.Malformed
 text_fault (texts.Limit line) = errors.VariableLimit

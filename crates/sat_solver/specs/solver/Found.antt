@@ -5,90 +5,97 @@ use Rattle.sat_checker.specs.declared.processing.ProofProcessor.{Ghosts}
 use Rattle.sat_solver.specs.declared.schedule.RoundOutcome.{RoundOutcome}
 use Rattle.sat_solver.specs.declared.schedule.RoundOutcome.TheVariants as outcomes
 use Rattle.sat_solver.specs.declared.error.SolverError.{SolverError}
-use Rattle.sat_solver.specs.cdcl.Iterations.{IsComplete, IsFailing}
+use Rattle.sat_solver.specs.cdcl.Iterations.{IsComplete, IsFalseAssumption}
 use Rattle.sat_solver.specs.schedule.Rounds.{LastRoundAnswers}
-use Rattle.sat_solver.specs.schedule.Solving.{Ended, ComesByRounds, Restarted, ReducedAt, RoundOf}
+use Rattle.sat_solver.specs.schedule.Solving.{AskEnds, RoundsLeadTo, Restarted, ReducedAt, RoundOf}
 use Rattle.sat_solver.specs.declared.variables.Variables.{Variables}
 use Rattle.sat_solver.specs.declared.context.Context.{Context}
 use Rattle.sat_solver.specs.declared.state.SatState.{SatState}
 use Rattle.sat_solver.specs.declared.state.SatState.TheVariants as states
 use Rattle.sat_solver.specs.solver.Joined.{NamesSearchInvariant}
-use Rattle.sat_solver.specs.solver.Answering.{EngineBreaksOff, Shown, WritesFailedCore}
+use Rattle.sat_solver.specs.solver.Answering.{CallFailsWithStoredError, WritesModel, WritesFailedCore}
 use Rattle.sat_solver.specs.declared.solver.find.Schedule.{Schedule}
 use Rattle.sat_solver.specs.declared.solver.find.LastAnswers.{LastAnswers}
 
--- `FoundModel seen rounds n m a b` holds if a model was found in the last of `rounds` rounds, and written
+-- `FoundModel seen rounds n m a b` holds if a model was found in the last of `rounds` rounds from `a` (names `n`) on,
+-- all others ended in a conflict, and it was then written, which gives `b` (names `m`)
 pub record FoundModel {W L : Type 0} {G : Ghosts L} (seen : W → Writer) (rounds : ℕ) (n m : Variables) (a b : Context W L G) : Type 0 where
   pub mid : Context W L G
-  pub ended : Ended seen a n (rounds - 1) outcomes.Model mid m
-  pub shown : Shown seen m mid b
+  pub ended : AskEnds seen a n (rounds - 1) outcomes.Model mid m
+  pub shown : WritesModel seen m mid b
 
--- `FoundCore seen rounds n m a b core` holds if the failed core `core` was found in the last of `rounds` rounds, and
--- written
+-- `FoundCore seen rounds n m a b core` holds if a failed core was found in the last of `rounds` rounds from `a` (names
+-- `n`) on, all others ended in a conflict, and it was then written, which gives `b`; `core` has its literals over names
 pub record FoundCore {W L : Type 0} {G : Ghosts L} (seen : W → Writer) (rounds : ℕ) (n m : Variables) (a b : Context W L G) (core : List ℕ) : Type 0 where
   pub mid : Context W L G
-  pub ended : Ended seen a n (rounds - 1) outcomes.Failed mid m
+  pub ended : AskEnds seen a n (rounds - 1) outcomes.Failed mid m
   pub failed : WritesFailedCore seen m mid b core
 
--- `FoundSays seen state rounds n m a b core` holds if the answer that `state` represents was found in the last of
--- `rounds` rounds, and a model or a failed core was written; `Unknown` represents none
-abbrev pub FoundSays : {W L : Type 0} {G : Ghosts L} → (W → Writer) → SatState → (rounds : ℕ) → Variables → Variables → Context W L G → Context W L G → List ℕ → Type 0
-FoundSays seen states.Unknown rounds n m a b core = ⊥
-FoundSays seen states.Sat rounds n m a b core = FoundModel seen rounds n m a b
-FoundSays seen states.UnsatUnderAssumptions rounds n m a b core = FoundCore seen rounds n m a b core
-FoundSays seen states.Unsat rounds n m a b core = Ended seen a n (rounds - 1) outcomes.Unsat b m
+-- `AnswerFound seen state rounds n m a b core` holds if the answer `state` was found in the last of `rounds` rounds: a
+-- model, or a failed core (`core`, over names), and written as a step; or unsat, without such a step. Never for
+-- `Unknown`.
+abbrev pub AnswerFound : {W L : Type 0} {G : Ghosts L} → (W → Writer) → SatState → (rounds : ℕ) → Variables → Variables → Context W L G → Context W L G → List ℕ → Type 0
+AnswerFound seen states.Unknown rounds n m a b core = ⊥
+AnswerFound seen states.Sat rounds n m a b core = FoundModel seen rounds n m a b
+AnswerFound seen states.UnsatUnderAssumptions rounds n m a b core = FoundCore seen rounds n m a b core
+AnswerFound seen states.Unsat rounds n m a b core = AskEnds seen a n (rounds - 1) outcomes.Unsat b m
 
--- `FoundNone seen rounds n m a b` holds if `rounds` rounds were made, and no answer was found so far
-pub record FoundNone {W L : Type 0} {G : Ghosts L} (seen : W → Writer) (rounds : ℕ) (n m : Variables) (a b : Context W L G) : Type 0 where
+-- `NoAnswerFound seen rounds n m a b` holds if `rounds` rounds were made from `a` (names `n`) to `b` (names `m`), each
+-- ended in a conflict from which a clause was learned, and the search can continue
+pub record NoAnswerFound {W L : Type 0} {G : Ghosts L} (seen : W → Writer) (rounds : ℕ) (n m : Variables) (a b : Context W L G) : Type 0 where
   pub joined : NamesSearchInvariant m b
-  pub gone : ComesByRounds seen a n rounds b m
+  pub gone : RoundsLeadTo seen a n rounds b m
 
--- `FindsAnswer seen r rounds n m a b core` holds if an answer was found in the last of `rounds` rounds or, if `r` is
--- `None`, none was found so far
-abbrev pub FindsAnswer : {W L : Type 0} {G : Ghosts L} → (W → Writer) → Option SatState → (rounds : ℕ) → Variables → Variables → Context W L G → Context W L G → List ℕ → Type 0
-FindsAnswer seen None rounds n m a b core = FoundNone seen rounds n m a b
-FindsAnswer seen (Some state) rounds n m a b core = FoundSays seen state rounds n m a b core
+-- `SearchFindsAnswer seen r rounds n m a b core` holds if `r` is the answer found in the last of `rounds` rounds from
+-- `a` to `b`, with `core` as the failed core if there is one, or `r` is `None` and every round learned a clause
+abbrev pub SearchFindsAnswer : {W L : Type 0} {G : Ghosts L} → (W → Writer) → Option SatState → (rounds : ℕ) → Variables → Variables → Context W L G → Context W L G → List ℕ → Type 0
+SearchFindsAnswer seen None rounds n m a b core = NoAnswerFound seen rounds n m a b
+SearchFindsAnswer seen (Some state) rounds n m a b core = AnswerFound seen state rounds n m a b core
 
--- `FindsBy seen o before now n m a b reported` holds if `FindsAnswer` does for the rounds between the clocks `before`
--- and `now`, with the reported core
-abbrev pub FindsBy : {W L : Type 0} {G : Ghosts L} → (W → Writer) → Option SatState → Schedule → Schedule → Variables → Variables → Context W L G → Context W L G → LastAnswers → Type 0
-FindsBy seen o before now n m a b reported = FindsAnswer seen o (now.rounds - before.rounds) n m a b reported.failed_core.items
+-- `ScheduleFindsAnswer seen o before now n m a b reported` holds if `o` is the answer found in the last of the rounds
+-- counted between the schedules `before` and `now`, or `None` if every round learned a clause; `reported` has the
+-- failed core
+abbrev pub ScheduleFindsAnswer : {W L : Type 0} {G : Ghosts L} → (W → Writer) → Option SatState → Schedule → Schedule → Variables → Variables → Context W L G → Context W L G → LastAnswers → Type 0
+ScheduleFindsAnswer seen o before now n m a b reported = SearchFindsAnswer seen o (now.rounds - before.rounds) n m a b reported.failed_core.items
 
--- `OutcomeHolds outcome n c` holds if the search is in a state for this outcome: complete for `Model`, with a failed
--- assumption for `Failed`, any state for `Unsat`, and none for `Learned`
+-- `OutcomeHolds outcome n c` holds if the search state fits the outcome of a round: everything assigned without
+-- conflict for `Model`, a false assumption for `Failed`; nothing is said for `Unsat`, and `Learned` never fits
 abbrev pub OutcomeHolds : {W L : Type 0} {G : Ghosts L} → RoundOutcome → Variables → Context W L G → Type 0
 OutcomeHolds outcomes.Learned n c = ⊥
 OutcomeHolds outcomes.Model n c = NamesSearchInvariant n c × IsComplete c.search.assumptions.lits.items c.search.parts
-OutcomeHolds outcomes.Failed n c = NamesSearchInvariant n c × IsFailing c.search.assumptions.lits.items c.search.parts c.search.failed
+OutcomeHolds outcomes.Failed n c = NamesSearchInvariant n c × IsFalseAssumption c.search.assumptions.lits.items c.search.parts c.search.failed
 OutcomeHolds outcomes.Unsat n c = Unit {0}
 
--- `ReportEffect seen state outcome n a b core` holds if the outcome was reported as this state; no step is made for
--- `Unsat`
+-- `ReportEffect seen state outcome n a b core` holds if the outcome of a round was reported as the answer `state`:
+-- `Model` as `Sat`, by a step with the model; `Failed` as `UnsatUnderAssumptions`, by a step with the core; `Unsat` as
+-- `Unsat`, without a step
 abbrev pub ReportEffect : {W L : Type 0} {G : Ghosts L} → (W → Writer) → Option SatState → RoundOutcome → Variables → Context W L G → Context W L G → List ℕ → Type 0
-ReportEffect seen (Some states.Sat) outcomes.Model n a b core = Shown seen n a b
+ReportEffect seen (Some states.Sat) outcomes.Model n a b core = WritesModel seen n a b
 ReportEffect seen (Some states.UnsatUnderAssumptions) outcomes.Failed n a b core = WritesFailedCore seen n a b core
 ReportEffect seen (Some states.Unsat) outcomes.Unsat n a b core = b ≡ a
 ReportEffect seen o outcome n a b core = ⊥
 
--- `ReportsOutcome seen r outcome n a b core` holds if the outcome was reported or, if `r` is an error, the call failed
+-- `ReportsOutcome seen r outcome n a b core` holds if `r` is the answer for this outcome of a round, and the step with
+-- the model or failed core was made, or `r` is an error (`StoresError`)
 abbrev pub ReportsOutcome : {W L : Type 0} {G : Ghosts L} → (W → Writer) → Result (Option SatState) SolverError → RoundOutcome → Variables → Context W L G → Context W L G → List ℕ → Type 0
-ReportsOutcome seen r outcome n a b core = MatchResult r (λ o. ReportEffect seen o outcome n a b core) (λ e. EngineBreaksOff seen e a b)
+ReportsOutcome seen r outcome n a b core = MatchResult r (λ o. ReportEffect seen o outcome n a b core) (λ e. CallFailsWithStoredError seen e a b)
 
--- the state after an answer, or `Unknown` if there is none
+-- the answer, or `Unknown` for `None`
 abbrev pub state_found : Option SatState → SatState
 state_found None = states.Unknown
 state_found (Some state) = state
 
--- `ReportsLast seen outcome state n a b core` holds if the last round's outcome was reported as this state, which is
--- `Unknown` only if a clause was learned
+-- `ReportsLast seen outcome state n a b core` holds if the outcome of the last round was reported as the answer
+-- `state`; `state` is `Unknown`, and nothing changed, if `outcome` is `None`: no round, or the last one learned a
+-- clause
 abbrev pub ReportsLast : {W L : Type 0} {G : Ghosts L} → (W → Writer) → Option RoundOutcome → SatState → Variables → Context W L G → Context W L G → List ℕ → Type 0
 ReportsLast seen None states.Unknown n a b core = b ≡ a
 ReportsLast seen None state n a b core = ⊥
 ReportsLast seen (Some outcome) state n a b core = ReportEffect seen (Some state) outcome n a b core
 
--- `SearchedBy seen state before now n m a b core` holds if rounds were made. Restarts and reductions came exactly
--- before the rounds for which they are due, by the schedule and the parameters. The state represents the outcome of the
--- last round.
+-- `SearchedBy seen state before now n m a b core` holds if rounds were made from `a` to `b`, as counted from `before`
+-- to `now`, and then the answer `state` was reported. Before each round came a restart if the schedule said so, and the
+-- reductions due by the parameters.
 pub record SearchedBy {W L : Type 0} {G : Ghosts L} (seen : W → Writer) (state : SatState) (before now : Schedule) (n m : Variables) (a b : Context W L G) (core : List ℕ) : Type 0 where
   pub outcome : Option RoundOutcome
   pub found : Context W L G

@@ -13,32 +13,33 @@ use Rattle.sat_solver.specs.declared.solver.Engine.{Engine}
 use Rattle.sat_solver.specs.declared.state.SatState.TheVariants as states
 use Rattle.sat_solver.specs.variables.Counting.{count_to}
 use Rattle.sat_solver.specs.variables.Variables.{global_at, indices_used}
-use Rattle.sat_solver.specs.solver.View.{answer_in, has_failed}
-use Rattle.sat_solver.specs.solver.Whole.{IsSolver}
+use Rattle.sat_solver.specs.solver.View.{answer_in, engine_has_failed}
+use Rattle.sat_solver.specs.solver.Whole.{EngineInvariant}
 
--- `is_unassigned_at n values x` is true if a variable has the index `x`, and no value
+-- `is_unassigned_at n values x` is true if a proof variable has the index `x`, and `values` has no value for it
 abbrev pub is_unassigned_at : Variables → List (Option Bool) → ℕ → Bool
 is_unassigned_at n values x = is_some (global_at n x) && (nat_lt x (length values) && not (is_some (value_of values x)))
 
--- the number of search variables without a value
+-- the number of indices that a proof variable has and that have no value in `values`
 abbrev pub unassigned_count : Variables → List (Option Bool) → ℕ
 unassigned_count n values = count_to (indices_used n) (is_unassigned_at n values)
 
--- the number of search variables of a solver without a value
+-- the number of indices that a proof variable has and that have no value in the search
 abbrev pub solver_unassigned_count : {W L : Type 0} {G : Ghosts L} → Engine W L G → ℕ
 solver_unassigned_count s = unassigned_count s.names s.context.search.parts.assignment.current
 
--- `EngineIsOngoing s` holds if no call failed, and the clauses are not known to be unsatisfiable
+-- `EngineIsOngoing s` holds if the invariant holds, no call failed, and the clauses are not known to be unsatisfiable
 pub record EngineIsOngoing {W L : Type 0} {G : Ghosts L} (s : Engine W L G) : Type 0 where
-  pub solver : IsSolver s
-  pub going : has_failed s ≡ false
+  pub solver : EngineInvariant s
+  pub going : engine_has_failed s ≡ false
   pub left : answer_in s ≡ states.Unsat → ⊥
 
--- the number of long clauses of a tier that were not deleted
+-- the number of stored clauses of three or more literals that have this tier and were not deleted
 abbrev pub live_count_of_tier : SearchState → Tier → ℕ
 live_count_of_tier p tier = count_by (is_live_in_tier p.clauses tier) p.db.refs
 
--- `CountsClauses r p` holds if the counts are those of the search's clauses; a binary clause is two implications
+-- `CountsClauses r p` holds if the counts of clauses in `r` are those of the search: binary ones (two implications
+-- each), and longer ones by tier
 pub record CountsClauses (r : Progress) (p : SearchState) : Type 0 where
   pub binary : r.binary ≡ implications p.binary.implied / 2
   pub irred : r.irred ≡ live_count_of_tier p tiers.Irred
@@ -46,6 +47,7 @@ pub record CountsClauses (r : Progress) (p : SearchState) : Type 0 where
   pub mid : r.mid ≡ live_count_of_tier p tiers.Mid
   pub local : r.local ≡ live_count_of_tier p tiers.Local
 
--- `CountsClausesIn r s` holds if `CountsClauses` does for the search of `s`
+-- `CountsClausesIn r s` holds if the counts of clauses in `r` are those of the engine's search: binary ones, and longer
+-- ones by tier
 abbrev pub CountsClausesIn : {W L : Type 0} {G : Ghosts L} → Progress → Engine W L G → Type 0
 CountsClausesIn r s = CountsClauses r s.context.search.parts

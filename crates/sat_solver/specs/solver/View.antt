@@ -17,15 +17,15 @@ use Rattle.sat_solver.specs.declared.variables.Variables.{Variables}
 use Rattle.sat_solver.specs.declared.state.SatState.{SatState}
 use Rattle.sat_solver.specs.solver.Whole.{steps_in}
 
--- `has_failed s` is true if a call failed; then every later call fails
-abbrev pub has_failed : {W L : Type 0} {G : Ghosts L} → Engine W L G → Bool
-has_failed s = s.failed
+-- `engine_has_failed s` is true if a call failed; then every later call fails
+abbrev pub engine_has_failed : {W L : Type 0} {G : Ghosts L} → Engine W L G → Bool
+engine_has_failed s = s.failed
 
 -- `is_used s` is true if a clause, a name, assumptions or an ask came before; then no proof can be opened
 abbrev pub is_used : {W L : Type 0} {G : Ghosts L} → Engine W L G → Bool
 is_used s = s.used
 
--- what the solver knows about the answer
+-- what the solver knows about the answer for its current clauses and assumptions
 abbrev pub answer_in : {W L : Type 0} {G : Ghosts L} → Engine W L G → SatState
 answer_in s = s.state
 
@@ -33,19 +33,19 @@ answer_in s = s.state
 abbrev pub assumptions_in : {W L : Type 0} {G : Ghosts L} → Engine W L G → List ℕ
 assumptions_in s = s.assumed.items
 
--- the assumptions as they are stored
+-- the assumptions as stored: a vector of literal codes over names
 abbrev pub assumed_in : {W L : Type 0} {G : Ghosts L} → Engine W L G → Vec ℕ
 assumed_in s = s.assumed
 
--- the names, and the variables that they refer to
+-- the names, and the proof variables and indices that they refer to
 abbrev pub known_names : {W L : Type 0} {G : Ghosts L} → Engine W L G → Variables
 known_names s = s.names
 
--- the last answers: a model over variables, and a failed core
+-- the last answers: a model over proof variables, and a failed core over names
 abbrev pub reported_in : {W L : Type 0} {G : Ghosts L} → Engine W L G → LastAnswers
 reported_in s = s.reported
 
--- the last failed core, over names
+-- the last failed core, as literal codes over names
 abbrev pub reported_core : {W L : Type 0} {G : Ghosts L} → Engine W L G → List ℕ
 reported_core s = s.reported.failed_core.items
 
@@ -65,7 +65,7 @@ restarts_in s = s.clock.restarts.count
 abbrev pub parameters_in : {W L : Type 0} {G : Ghosts L} → Engine W L G → SolverConfig
 parameters_in s = s.context.config
 
--- everything besides names: the proof, the search and the parameters
+-- the engine's proof, search and parameters, without its names
 abbrev pub context_of : {W L : Type 0} {G : Ghosts L} → Engine W L G → Context W L G
 context_of s = s.context
 
@@ -74,8 +74,8 @@ abbrev pub proof_in : {W L : Type 0} {G : Ghosts L} → Engine W L G → Proof W
 proof_in s = s.context.proof
 
 -- where the text of the proof's steps is written
-abbrev pub target_in : {W L : Type 0} {G : Ghosts L} → (W → Writer) → Engine W L G → Target
-target_in seen s = target_of seen s.context.proof
+abbrev pub engine_target : {W L : Type 0} {G : Ghosts L} → (W → Writer) → Engine W L G → Target
+engine_target seen s = target_of seen s.context.proof
 
 -- `OnlyProofDiffers old new` holds if at most the proof has changed
 abbrev pub OnlyProofDiffers : {W L : Type 0} {G : Ghosts L} → Engine W L G → Engine W L G → Type 0
@@ -85,6 +85,7 @@ OnlyProofDiffers old new = new ≡ record old { context = record old.context { p
 abbrev pub used_now : {W L : Type 0} {G : Ghosts L} → Engine W L G → Engine W L G
 used_now s = record s { used = true }
 
--- `EngineIsInState s j live` holds if names and steps agree with the script state `j` and its live variables `live`
+-- `EngineIsInState s j live` holds if names and steps agree with the script state `j` when its identities are assigned
+-- to live proof variables as `live` says
 abbrev pub EngineIsInState : {W L : Type 0} {G : Ghosts L} → Engine W L G → ScriptState → LiveVariables → Type 0
 EngineIsInState s j live = NamesAgree s.names (steps_in s) j live

@@ -9,8 +9,9 @@ use Rattle.sat_solver.specs.variables.Search.{KeepsSearch, GivesIndices}
 use Rattle.sat_solver.specs.declared.variables.solver_vars.Given.{Given}
 use Rattle.sat_solver.specs.declared.variables.Variables.{Variables}
 
--- `Indexes old new from to before after v x` holds if variable `v` has index `x`: either it had it before, or one step
--- gave it the next index, which was appended to the list
+-- `Indexes old new from to before after v x` holds if the proof variable `v` has index `x` now: it had it before and no
+-- step was made, or one step gave it the lowest free index, which is appended to the list of given indices (from
+-- `before` to `after`)
 pub record Indexes (old new : Variables) (from to : List Step) (before after : List Given) (v x : ℕ) : Type 0 where
   pub does : KeepsScriptState old new from to
   pub has : solver_of new v ≡ Some x
@@ -22,8 +23,8 @@ pub record Indexes (old new : Variables) (from to : List Step) (before after : L
   pub gives : GivesIndices old new (session_after from) fresh
   pub step : (to ≡ from) ⊎ ((to ≡ SolverVarName v (Some x) ∷ from) × (solver_of old v ≡ None) × IsNextIndex old x)
 
--- `Unindexes old new from to v x` holds if one step took the index from variable `v`; other indices, names and data of
--- variables are unchanged
+-- `Unindexes old new from to v x` holds if exactly one step was made, which took the index (which was `x`) from the
+-- proof variable `v`; other indices, names, data of variables and clauses are unchanged
 pub record Unindexes (old new : Variables) (from to : List Step) (v x : ℕ) : Type 0 where
   pub does : KeepsScriptState old new from to
   pub step : to ≡ SolverVarName v None ∷ from

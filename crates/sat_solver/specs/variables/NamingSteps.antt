@@ -3,76 +3,80 @@ use Rattle.std.specs.Prelude.{ℕ, ◌≡◌, ◌≢◌, ◌<◌, ◌⊎◌, Boo
 use Rattle.sat_base.specs.script.Script.{Among}
 use Rattle.sat_base.specs.steps.Steps.{Step, SolverVarName, UserVarName, DeleteVar, ChangeSamplingMode, DeleteClause, ChangeHashBits}
 use Rattle.sat_checker.specs.Stored.{Mode, Sample, Witness}
-use Rattle.sat_solver.specs.session.AllowedSteps.{DeletesAdded}
+use Rattle.sat_solver.specs.session.AllowedSteps.{DeletesJustAdded}
 use Rattle.sat_solver.specs.session.Session.{Session, session_after}
-use Rattle.sat_checker.specs.matching.Checking.{is_ordered, variable_of}
+use Rattle.sat_checker.specs.matching.Checking.{is_ordered, variable_named}
 use Rattle.sat_solver.specs.variables.Variables.{data_at, solver_of}
 use Rattle.sat_solver.specs.declared.variables.Variables.{Variables}
 
--- `IsNextVariable s user v` holds if `v` is the variable for a new name `user`: the one with the name's own number if
--- that is free, otherwise the lowest free one
+-- `IsNextVariable s user v` holds if `v` is the proof variable for a new name `user` (counted from 0): the one with the
+-- same number if it is not known in the session, otherwise the lowest one not known
 abbrev pub IsNextVariable : Session → ℕ → ℕ → Type 0
 IsNextVariable s user v = ((s.variables user).known ≡ false → v ≡ user) × ((s.variables user).known ≡ true → ((s.variables v).known ≡ false) × ((w : ℕ) → w < v → (s.variables w).known ≡ true))
 
--- `IsNextSolver s index` holds if the index is the lowest one that no variable has
-abbrev pub IsNextSolver : Session → Option ℕ → Type 0
-IsNextSolver s None = ⊥
-IsNextSolver s (Some x) = ((v : ℕ) → s.solver_names v ≡ Some x → ⊥) × ((y : ℕ) → y < x → (v : ℕ) × (s.solver_names v ≡ Some y))
+-- `IsNextIndexInSession s index` holds if `index` is the lowest one that no variable of the session has; never for
+-- `None`
+abbrev pub IsNextIndexInSession : Session → Option ℕ → Type 0
+IsNextIndexInSession s None = ⊥
+IsNextIndexInSession s (Some x) = ((v : ℕ) → s.solver_names v ≡ Some x → ⊥) × ((y : ℕ) → y < x → (v : ℕ) × (s.solver_names v ≡ Some y))
 
--- `IsDue earlier step` holds if `step` is an ordered step; a step that gives a name gives it to the next variable
+-- `IsDue earlier step` holds if `step` is an ordered step; if it gives a name, it gives it to the next variable: the
+-- one with the name's number if free, otherwise the lowest free one
 abbrev pub IsDue : List Step → Step → Type 0
 IsDue earlier (UserVarName v (Some user)) = IsNextVariable (session_after earlier) user v
 IsDue earlier step = is_ordered step ≡ true
 
--- `IsLiteralsStep names earlier step` holds if `IsDue earlier step` does, or `step` changes the width, or gives the
--- next index to the variable of one of the names, which has no index
+-- `IsLiteralsStep names earlier step` holds if `step` is ordered (and as `IsDue` says), changes the width, or gives the
+-- lowest free index to the variable of one of `names` (counted from 1) that has no index
 abbrev pub IsLiteralsStep : List ℕ → List Step → Step → Type 0
-IsLiteralsStep names earlier (SolverVarName v index) = IsNextSolver (session_after earlier) index × ((session_after earlier).solver_names v ≡ None) × ((name : ℕ) × Among name names × (variable_of earlier name ≡ Some v))
+IsLiteralsStep names earlier (SolverVarName v index) = IsNextIndexInSession (session_after earlier) index × ((session_after earlier).solver_names v ≡ None) × ((name : ℕ) × Among name names × (variable_named earlier name ≡ Some v))
 IsLiteralsStep names earlier (ChangeHashBits bits) = Unit {0}
 IsLiteralsStep names earlier step = IsDue earlier step
 
--- `IsClauseStep names earlier step` holds if `IsLiteralsStep names earlier step` does, or `step` deletes the clause
--- that the last step added, since one of its literals is true
+-- `IsClauseStep names earlier step` holds if `step` is one that setting literals with these names may make
+-- (`IsLiteralsStep`), or deletes the clause that the last step added, since one of its literals is true
 abbrev pub IsClauseStep : List ℕ → List Step → Step → Type 0
-IsClauseStep names earlier (DeleteClause clause proof) = DeletesAdded earlier (DeleteClause clause proof)
+IsClauseStep names earlier (DeleteClause clause proof) = DeletesJustAdded earlier (DeleteClause clause proof)
 IsClauseStep names earlier step = IsLiteralsStep names earlier step
 
--- `IsHiddenLast earlier v` holds if the last step removed the name of variable `v`, which has no index
+-- `IsHiddenLast earlier v` holds if the newest of the steps `earlier` removed the name of variable `v`, which has no
+-- index
 pub record IsHiddenLast (earlier : List Step) (v : ℕ) : Type 0 where
   pub before : List Step
   pub last : earlier ≡ UserVarName v None ∷ before
   pub without : (session_after earlier).solver_names v ≡ None
 
--- `IsHidingStep earlier step` holds if `step` is an ordered step, or deletes a variable without an index right after
--- the step that removes its name
+-- `IsHidingStep earlier step` holds if `step` is an ordered step as `IsDue` says, or deletes a variable without an
+-- index right after the step that removes its name
 abbrev pub IsHidingStep : List Step → Step → Type 0
 IsHidingStep earlier (DeleteVar v) = IsHiddenLast earlier v
 IsHidingStep earlier step = IsDue earlier step
 
--- `LeavesNoneIdle steps` holds if the last step did not remove the name of a variable that has no index: such a
--- variable is deleted at once
-abbrev pub LeavesNoneIdle : List Step → Type 0
-LeavesNoneIdle steps = (v : ℕ) → IsHiddenLast steps v → ⊥
+-- `LeavesNoIdleVariable steps` holds if the newest step did not remove the name of a variable without an index; such a
+-- variable must be deleted at once, by a further step
+abbrev pub LeavesNoIdleVariable : List Step → Type 0
+LeavesNoIdleVariable steps = (v : ℕ) → IsHiddenLast steps v → ⊥
 
 -- the checker's mode for the flag of a step: sample if it is true, witness otherwise
-abbrev pub mode_said : Bool → Mode
-mode_said true = Sample
-mode_said false = Witness
+abbrev pub mode_of_flag : Bool → Mode
+mode_of_flag true = Sample
+mode_of_flag false = Witness
 
--- `TurnsMode s v sample` holds if the mode of variable `v` is not the one that the flag `sample` of a step sets
-abbrev pub TurnsMode : Session → ℕ → Bool → Type 0
-TurnsMode s v sample = (s.variables v).mode ≢ mode_said sample
+-- `ChangesModeTo s v sample` holds if variable `v` of the session does not have the mode that the flag sets: sample if
+-- it is true, witness otherwise
+abbrev pub ChangesModeTo : Session → ℕ → Bool → Type 0
+ChangesModeTo s v sample = (s.variables v).mode ≢ mode_of_flag sample
 
--- `IsModeStep name sample earlier step` holds if `step` is an ordered step, or sets this mode for the variable of
--- `name` if the variable has another one. So there is no step if it has this mode, and never a second one.
+-- `IsModeStep name sample earlier step` holds if `step` is an ordered step as `IsDue` says, or sets the mode of the
+-- variable of `name` (counted from 1) to sample or, if the flag is false, witness, and the variable had another mode
 abbrev pub IsModeStep : ℕ → Bool → List Step → Step → Type 0
-IsModeStep name sample earlier (ChangeSamplingMode v mode) = (variable_of earlier name ≡ Some v) × (mode ≡ sample) × TurnsMode (session_after earlier) v mode
+IsModeStep name sample earlier (ChangeSamplingMode v mode) = (variable_named earlier name ≡ Some v) × (mode ≡ sample) × ChangesModeTo (session_after earlier) v mode
 IsModeStep name sample earlier step = IsDue earlier step
 
 -- INSIDE
 
--- `ForgetsIdle n from to v` holds if variable `v`, which has no index, was deleted; or no step was made, and the
--- variable is assumed or has an index
-abbrev pub ForgetsIdle : Variables → List Step → List Step → ℕ → Type 0
-ForgetsIdle n from to v =
+-- `DeletesIdleVariable n from to v` holds if exactly one step was made, which deletes variable `v`, since it has no
+-- index; or no step was made, since the variable is assumed or has an index
+abbrev pub DeletesIdleVariable : Variables → List Step → List Step → ℕ → Type 0
+DeletesIdleVariable n from to v =
     ((to ≡ DeleteVar v ∷ from) × (solver_of n v ≡ None)) ⊎ ((to ≡ from) × (((data_at n v).assumed ≡ true) ⊎ (solver_of n v ≢ None)))

@@ -4,8 +4,8 @@ use Rattle.sat_solver.specs.variables.Variables.{global_at, indices_used}
 use Rattle.sat_solver.specs.declared.variables.Variables.{Variables}
 use Rattle.sat_solver.specs.declared.context.Search.{Search}
 
--- `SharesIndices n c` holds if the search has every index that a variable has, with the same variable, and no more
--- indices than were ever used
+-- `SharesIndices n c` holds if every index that a proof variable has by the names `n` exists in the search `c`, which
+-- lists the same variable for it; the search has no more indices than were ever used
 pub record SharesIndices (n : Variables) (c : Search) : Type 0 where
   pub size : length c.parts.assignment.current ≡ length c.globals.items
   pub few : length c.globals.items ≤ indices_used n

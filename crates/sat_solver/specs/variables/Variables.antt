@@ -1,63 +1,65 @@
--- What a solver stores about names, variables and indices: whether it is consistent, and whether it matches the proof and the script state.
+-- What a solver stores about names, variables and indices: whether it is consistent, and whether it matches the proof
+-- and the script state.
 use Rattle.std.specs.Prelude.{ℕ, ◌+◌, ◌<◌, ◌≤◌, ◌≡◌, ◌≢◌, Bool, true, false, not, ◌&&◌, Option, None, Some, is_some, List, length, get_or, nat_lt, if◌then◌else◌}
 use Rattle.std.specs.List.{AllByRecursion}
 use Rattle.sat_base.specs.values.Literals.{var_limit, mk_lit}
 use Rattle.sat_base.specs.script.ScriptState.{ScriptState, Sampled, Witnessed, identity_of}
 use Rattle.sat_base.specs.script.ScriptState as judged
-use Rattle.sat_base.specs.script.ScriptStateLaws.{NamesIncrease}
+use Rattle.sat_base.specs.script.ScriptStateLaws.{NamesAreIncreasing}
 use Rattle.sat_store.specs.declared.data.VarData.{VarData}
 use Rattle.sat_store.specs.declared.data.SamplingMode.{SamplingMode}
 use Rattle.sat_store.specs.declared.data.SamplingMode.TheVariants as kept
 use Rattle.sat_store.specs.variables.VarData.{unused_variable}
 use Rattle.sat_store.specs.variables.Maps.{target, AreInverse}
 use Rattle.sat_checker.specs.LiteralSets.{mentions}
-use Rattle.sat_checker.specs.Stored.{Mode, Sample, Witness, Hide, Variable, unknown}
+use Rattle.sat_checker.specs.Stored.{Mode, Sample, Witness, Hide, Variable, initial_variable}
 use Rattle.sat_solver.specs.session.Session.{Session}
 use Rattle.sat_solver.specs.variables.Counting.{HasEqualCounts}
-use Rattle.sat_solver.specs.variables.Free.{is_free, Spans}
+use Rattle.sat_solver.specs.variables.Free.{is_free, IsTreeWithLeaves}
 use Rattle.sat_checker.specs.matching.Bridge.{LiveVariables, AreDistinctVariables}
 use Rattle.sat_solver.specs.variables.Live.{given, given_of}
 use Rattle.sat_solver.specs.declared.variables.Variables.{Variables}
 
--- the stored data of a proof variable; a variable past the end of the list is not in use
+-- the stored data of the proof variable `v`; past the end of the list, that of a variable not in use
 abbrev pub data_at : Variables → ℕ → VarData
 data_at n v = get_or n.var_data.items v unused_variable
 
--- the variable of a name, or `None`
+-- the proof variable that the name `user` (counted from 0) refers to, or `None` if the name is not in use
 abbrev pub global_of : Variables → ℕ → Option ℕ
 global_of n user = target n.global_from_user.fwd user
 
--- the name of a variable, or `None`
+-- the name (counted from 0) of the proof variable `v`, or `None` if it has none
 abbrev pub user_of : Variables → ℕ → Option ℕ
 user_of n v = target n.global_from_user.bwd v
 
--- the index of a variable, or `None`
+-- the index in the search of the proof variable `v`, or `None` if it has none
 abbrev pub solver_of : Variables → ℕ → Option ℕ
 solver_of n v = target n.solver_from_global.fwd v
 
--- the variable of an index, or `None`
+-- the proof variable that has index `x` of the search now, or `None` if no variable has it
 abbrev pub global_at : Variables → ℕ → Option ℕ
 global_at n x = target n.solver_from_global.bwd x
 
--- the number of names that were ever used
+-- one more than the highest name (counted from 0) that was ever used; all lower names were used as well
 abbrev pub names_used : Variables → ℕ
 names_used n = length n.global_from_user.fwd
 
--- the number of variables that were ever used
+-- one more than the highest proof variable that was ever used, including deleted ones
 abbrev pub variables_used : Variables → ℕ
 variables_used n = length n.var_data.items
 
--- the number of indices that were ever used, including released ones
+-- one more than the highest index of the search that was ever used, including released ones
 abbrev pub indices_used : Variables → ℕ
 indices_used n = length n.solver_from_global.bwd
 
--- `is_witness_kept mode` is true if a variable is stored as one of mode witness
+-- `is_witness_kept mode` is true if the stored mode is witness
 abbrev pub is_witness_kept : SamplingMode → Bool
 is_witness_kept kept.Sample = false
 is_witness_kept kept.Witness = true
 is_witness_kept kept.Hide = false
 
--- `VariablesInvariant n` holds if the maps, the data of variables and the sets of free numbers are consistent
+-- `VariablesInvariant n` holds if what is stored about names is consistent in itself: the maps from names and from
+-- indices to proof variables and back, the data of variables, the sets of free numbers, and the limits
 pub record VariablesInvariant (n : Variables) : Type 0 where
   pub users : AreInverse n.global_from_user
   pub solvers : AreInverse n.solver_from_global
@@ -79,9 +81,9 @@ pub record VariablesInvariant (n : Variables) : Type 0 where
   -- as many variables have names as names have variables, and likewise for indices
   pub even_users : HasEqualCounts n.global_from_user
   pub even_solvers : HasEqualCounts n.solver_from_global
-  pub spans_users : Spans n.free_users (names_used n)
-  pub spans_globals : Spans n.free_globals (variables_used n)
-  pub spans_solvers : Spans n.free_solvers (indices_used n)
+  pub spans_users : IsTreeWithLeaves n.free_users (names_used n)
+  pub spans_globals : IsTreeWithLeaves n.free_globals (variables_used n)
+  pub spans_solvers : IsTreeWithLeaves n.free_solvers (indices_used n)
   pub reach : names_used n ≤ variables_used n
   pub indices : indices_used n ≤ variables_used n
   pub within : variables_used n ≤ var_limit
@@ -89,34 +91,35 @@ pub record VariablesInvariant (n : Variables) : Type 0 where
   pub free_globals : (v : ℕ) → is_free n.free_globals v ≡ (nat_lt v (variables_used n) && (data_at n v).deleted)
   pub free_solvers : (x : ℕ) → is_free n.free_solvers x ≡ (nat_lt x (indices_used n) && not (is_some (global_at n x)))
 
--- the checker's mode for a stored mode
+-- the mode that the checker has for a variable with this stored mode: sample, witness or hidden
 abbrev pub checker_mode : SamplingMode → Mode
 checker_mode kept.Sample = Sample
 checker_mode kept.Witness = Witness
 checker_mode kept.Hide = Hide
 
--- the checker's state of a variable, as the stored names have it
+-- the state (known, mode, name) that the checker has for the proof variable `v`, according to the stored names
 abbrev pub checker_variable_at : Variables → ℕ → Variable
 checker_variable_at n v =
-    if (data_at n v).deleted then unknown
+    if (data_at n v).deleted then initial_variable
     else record { known = true; mode = checker_mode (data_at n v).sampling_mode; name = user_of n v }
 
--- `says_unit unit b` is true if `b` is the value of a variable's unit
-abbrev pub says_unit : Option Bool → Bool → Bool
-says_unit None b = false
-says_unit (Some value) true = value
-says_unit (Some value) false = not value
+-- `is_unit_value unit b` is true if `unit`, the stored value of a variable's unit or `None`, is `Some b`
+abbrev pub is_unit_value : Option Bool → Bool → Bool
+is_unit_value None b = false
+is_unit_value (Some value) true = value
+is_unit_value (Some value) false = not value
 
--- `IsUnitOf n s v` holds if the stored unit of variable `v` is that of the session
+-- `IsUnitOf n s v` holds if the unit stored for the proof variable `v` (its value, or `None`) is exactly its unit in
+-- the session `s`
 abbrev pub IsUnitOf : Variables → Session → ℕ → Type 0
-IsUnitOf n s v = (b : Bool) → s.units (mk_lit v b) ≡ says_unit (data_at n v).unit b
+IsUnitOf n s v = (b : Bool) → s.units (mk_lit v b) ≡ is_unit_value (data_at n v).unit b
 
--- `IsInNoNonUnitClause s v` holds if no clause with two or more literals has variable `v`
+-- `IsInNoNonUnitClause s v` holds if no live clause of the session with two or more literals has the proof variable `v`
 abbrev pub IsInNoNonUnitClause : Session → ℕ → Type 0
 IsInNoNonUnitClause s v = (r : Bool) (set : List ℕ) → 0 < s.live r set → mentions set v ≡ false
 
--- `NamesMatchSteps n s` holds if the stored names match the proof. The unit of a variable that has an index is stored
--- by the search.
+-- `NamesMatchSteps n s` holds if the stored names match the session: known variables, modes, names, indices, and marks
+-- of assumptions. Variables without an index are in no clause of two or more literals, and their units are stored.
 pub record NamesMatchSteps (n : Variables) (s : Session) : Type 0 where
   pub variables : (v : ℕ) → s.variables v ≡ checker_variable_at n v
   pub solver_names : (v : ℕ) → s.solver_names v ≡ solver_of n v
@@ -125,14 +128,15 @@ pub record NamesMatchSteps (n : Variables) (s : Session) : Type 0 where
   pub unused : (v : ℕ) → solver_of n v ≡ None → IsInNoNonUnitClause s v
   pub marked : (v : ℕ) → mentions s.assumed v ≡ (data_at n v).assumed
 
--- `IsModeOf mode m` holds if the mode `m` of an identity matches the stored mode of its variable; if the variable is
--- hidden, every mode does
+-- `IsModeOf mode m` holds if `m`, the mode of an identity in the script state, is the stored mode of its variable; for
+-- a hidden variable it may be any mode
 abbrev pub IsModeOf : SamplingMode → judged.NameMode → Type 0
 IsModeOf kept.Sample m = m ≡ Sampled
 IsModeOf kept.Witness m = m ≡ Witnessed
 IsModeOf kept.Hide m = Unit {0}
 
--- `NamesMatchState n j live` holds if the stored names match the script state. Name k has index k - 1.
+-- `NamesMatchState n j live` holds if the stored names match the script state `j`, when its identities are assigned to
+-- live proof variables as `live` says. The name k of a script is stored as k - 1.
 pub record NamesMatchState (n : Variables) (j : ScriptState) (live : LiveVariables) : Type 0 where
   pub first_unused : j.first_unused ≡ names_used n + 1
   pub no_zero : identity_of j 0 ≡ None
@@ -144,15 +148,15 @@ pub record NamesMatchState (n : Variables) (j : ScriptState) (live : LiveVariabl
   -- there are at least as many identities as variables ever used
   pub identities : variables_used n ≤ j.identity_count
   pub modes_count : length j.modes ≡ j.identity_count
-  pub increasing : NamesIncrease j.in_use
+  pub increasing : NamesAreIncreasing j.in_use
   pub modes : (v i : ℕ) → given live v ≡ Some i → IsModeOf (data_at n v).sampling_mode (get_or j.modes i Sampled)
 
--- the stored mode for a flag: sample if it is true, witness otherwise
+-- the stored mode for a flag of a step: sample if it is true, witness otherwise
 abbrev pub mode_for : Bool → SamplingMode
 mode_for true = kept.Sample
 mode_for false = kept.Witness
 
--- the mode of a name in scripts: sample if the flag is true, witness otherwise
+-- the mode in script states for a flag of a step: sample if it is true, witness otherwise
 abbrev pub script_mode : Bool → judged.NameMode
 script_mode true = Sampled
 script_mode false = Witnessed

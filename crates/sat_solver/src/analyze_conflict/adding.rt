@@ -1,7 +1,7 @@
 //! Adds literals to an analysis whose lists have capacity for them.
 ghost use Rattle.std.specs.Prelude.{◌≡◌, ◌+◌, ◌<◌, ◌≤◌, length, OnOk, vec_len, vec_capacity};
 ghost use Rattle.sat_base.specs.values.Literals.{variable};
-ghost use Rattle.sat_parts.specs.clause.Glue.{HaveNodes};
+ghost use Rattle.sat_parts.specs.clause.Glue.{LitsHaveNodes};
 ghost use Rattle.sat_solver.specs.analyze_conflict.AddedState.{added_state};
 ghost use Rattle.sat_solver.specs.analyze_conflict.AnalysisState.{with_seen_literal, with_seen_literals};
 
@@ -100,7 +100,7 @@ pub(crate) fn add_lits(
     top: usize,
     lits: &[Lit],
 )
-    requires nodes { HaveNodes graph.now lits.now }
+    requires nodes { LitsHaveNodes graph.now lits.now }
     requires flags { length flags.old ≡ length graph.now }
     requires clause_room { vec_len clause.old + length lits.now ≤ vec_capacity clause.old }
     requires seen_room { vec_len seen.old + length lits.now ≤ vec_capacity seen.old }
@@ -124,7 +124,7 @@ pub(crate) fn add_long_lits(
     top: usize,
     lits: &Lits<'_>,
 )
-    requires nodes { HaveNodes graph.now lits.now }
+    requires nodes { LitsHaveNodes graph.now lits.now }
     requires flags { length flags.old ≡ length graph.now }
     requires clause_room { vec_len clause.old + length lits.now ≤ vec_capacity clause.old }
     requires seen_room { vec_len seen.old + length lits.now ≤ vec_capacity seen.old }

@@ -2,11 +2,11 @@
 ghost use Rattle.std.specs.Prelude.{ℕ, ◌≡◌, ◌<◌, length, OnOk, IfOk};
 ghost use Rattle.std.specs.List.{Contains};
 ghost use Rattle.sat_parts.specs.clause.Db.{live_refs};
-ghost use Rattle.sat_parts.specs.clause.Glue.{AreClear};
+ghost use Rattle.sat_parts.specs.clause.Glue.{FlagsAreClear};
 ghost use Rattle.sat_parts.specs.prop.Ready.{IsConflict, state_of};
-ghost use Rattle.sat_parts.specs.prop.TrailWord.{IsLevelled};
+ghost use Rattle.sat_parts.specs.prop.TrailWord.{LevelsBeginWithDecisions};
 ghost use Rattle.sat_solver.specs.analyze_conflict.Derivation.{AnalysisResultOf};
-ghost use Rattle.sat_solver.specs.analyze_conflict.Involved.{IsResolution};
+ghost use Rattle.sat_solver.specs.analyze_conflict.Seen.{IsResolution};
 ghost use Rattle.sat_solver.specs.analyze_conflict.Marks.{PropagationInvariantBelow, AreInTurnAbove};
 
 use crate::analyze_conflict::analyze::analyze_conflict;
@@ -32,18 +32,18 @@ pub fn learn_from_conflict(
     requires conflict { IsConflict clauses.now (live_refs clauses.now db.now.refs) binary.now.implied
         assignment.now.current conflict.now }
     requires above { 0 < length trail.now.starts }
-    requires levelled { IsLevelled (state_of assignment.now graph.now trail.now) }
+    requires levelled { LevelsBeginWithDecisions (state_of assignment.now graph.now trail.now) }
     requires turns { AreInTurnAbove clauses.now db.now.refs binary.now.implied
         (state_of assignment.now graph.now trail.now) }
     requires size { length analysis.old.flags ≡ length assignment.now.current }
-    requires clear { AreClear analysis.old.flags }
+    requires clear { FlagsAreClear analysis.old.flags }
     ensures learns { IfOk result (λ back. AnalysisResultOf clauses.now (state_of assignment.now graph.now trail.now)
         conflict.now analysis.new back) }
     ensures resolution { OnOk result
         (IsResolution clauses.now (state_of assignment.now graph.now trail.now) conflict.now analysis.new) }
     ensures live { OnOk result ((o : ℕ) → Contains analysis.new.antecedents o
         → Contains (live_refs clauses.now db.now.refs) o) }
-    ensures clear { OnOk result (AreClear analysis.new.flags) }
+    ensures clear { OnOk result (FlagsAreClear analysis.new.flags) }
     ensures size { OnOk result (length analysis.new.flags ≡ length assignment.now.current) }
 {
     analyze_conflict(analysis, clauses, assignment, graph, trail, conflict)

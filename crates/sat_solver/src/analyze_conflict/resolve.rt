@@ -1,14 +1,14 @@
 //! Resolution up to the first unique implication point.
 ghost use Rattle.std.specs.Prelude.{ℕ, ◌≡◌, ◌<◌, length, OnOk, IfOk};
 ghost use Rattle.sat_store.specs.clause.Buffer.{IsClause};
-ghost use Rattle.sat_parts.specs.clause.Glue.{AreClear, HaveNodes};
-ghost use Rattle.sat_parts.specs.prop.Causes.{falsified};
+ghost use Rattle.sat_parts.specs.clause.Glue.{FlagsAreClear, LitsHaveNodes};
+ghost use Rattle.sat_parts.specs.prop.ReasonLits.{conflict_lits};
 ghost use Rattle.sat_parts.specs.prop.Ready.{state_of, AreAllFalse};
 ghost use Rattle.sat_solver.specs.analyze_conflict.AnalysisState.{with_seen_literals};
 ghost use Rattle.sat_solver.specs.analyze_conflict.Marks.{CanAnalyze, IsResolvent, IsFirstResolvent};
 ghost use Rattle.sat_solver.specs.analyze_conflict.Marks.{HasCurrentLevelLit};
 ghost use Rattle.sat_solver.specs.analyze_conflict.Derivation.{IsUipClause};
-ghost use Rattle.sat_solver.specs.analyze_conflict.Involved.{CollectionInvariant, BeginsCollecting, CollectionResult};
+ghost use Rattle.sat_solver.specs.analyze_conflict.Seen.{CollectionInvariant, BeginsCollecting, CollectionResult};
 
 use crate::analyze_conflict::state::AnalyzeConflict;
 use sat_parts::{Assignment, CauseLits, Conflict, ImplGraph, Trail};
@@ -24,7 +24,7 @@ pub(crate) fn add_all(
     top: usize,
     lits: &CauseLits,
 ) -> Result<(), AllocError>
-    requires nodes { HaveNodes graph.now lits.now }
+    requires nodes { LitsHaveNodes graph.now lits.now }
     requires flags { length analysis.old.flags ≡ length graph.now }
     ensures { OnOk result (analysis.new ≡ with_seen_literals graph.now top lits.now analysis.old) }
 {
@@ -59,7 +59,7 @@ fn resolve_next(
     let place = analysis.last_flagged(lits, before);
     let lit = lits[place];
     let reason = graph.reason(lit.var());
-    analysis.take_up(&reason, lit)?;
+    analysis.use_reason(&reason, lit)?;
     add_all(
         analysis,
         graph,
@@ -106,10 +106,10 @@ pub(crate) fn begin_conflict(
 ) -> Result<(), AllocError>
     requires can { CanAnalyze clauses.now (state_of assignment.now graph.now trail.now) }
     requires size { length analysis.old.flags ≡ length assignment.now.current }
-    requires clear { AreClear analysis.old.flags }
+    requires clear { FlagsAreClear analysis.old.flags }
     requires valid { (o : ℕ) → conflict.now ≡ Conflict.Long o → IsClause clauses.now o }
-    requires fails { AreAllFalse assignment.now.current (falsified clauses.now conflict.now) }
-    requires top { HasCurrentLevelLit (state_of assignment.now graph.now trail.now) (falsified clauses.now conflict.now) }
+    requires fails { AreAllFalse assignment.now.current (conflict_lits clauses.now conflict.now) }
+    requires top { HasCurrentLevelLit (state_of assignment.now graph.now trail.now) (conflict_lits clauses.now conflict.now) }
     ensures resolving { OnOk result
         (IsFirstResolvent clauses.now (state_of assignment.now graph.now trail.now) conflict.now analysis.new) }
     ensures collecting { OnOk result
@@ -150,7 +150,7 @@ pub(crate) fn finish_conflict(
     let lits = trail.trail();
     let place = analysis.last_flagged(lits, before);
     let lit = lits[place];
-    analysis.pass_by(lit);
-    analysis.put_first(!lit)?;
+    analysis.unflag_pending(lit);
+    analysis.add_first(!lit)?;
     Ok(())
 }

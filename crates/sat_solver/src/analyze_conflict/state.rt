@@ -3,13 +3,14 @@ ghost use Rattle.std.specs.Prelude.{ℕ, ◌≡◌, ◌-◌, replicate, ◌<◌,
 ghost use Rattle.std.specs.Prelude.{false, [], ◌∷◌, reverse, take, slice_set, OnOk};
 ghost use Rattle.std.specs.List.Sorted.{IsPermutation, IsNonDecreasingBy};
 ghost use Rattle.sat_base.specs.values.Literals.{variable};
-ghost use Rattle.sat_parts.specs.clause.Glue.{AreClear, VariablesBelow, HaveNodes};
+ghost use Rattle.sat_parts.specs.clause.Glue.{FlagsAreClear, VariablesBelow, LitsHaveNodes};
 ghost use Rattle.sat_solver.specs.analyze_conflict.AnalysisState.{AnalysisState, with_seen_literals, unflagged};
 ghost use Rattle.sat_solver.specs.analyze_conflict.AnalysisState.{with_reason_used};
 ghost use Rattle.sat_solver.specs.analyze_conflict.AnalysisState.{with_core_literal, begun_analysis, begun_core};
 ghost use Rattle.sat_solver.specs.analyze_conflict.AnalysisState.{with_first};
-ghost use Rattle.sat_solver.specs.analyze_conflict.Derivation.{FlagsAmong, PutsSecond};
-ghost use Rattle.sat_solver.specs.analyze_conflict.Minimal.{FallsBefore, depth_in, marked, used_up, Undoes};
+ghost use Rattle.sat_solver.specs.analyze_conflict.Derivation.{FlagsAmong, PutsHighestSecond};
+ghost use Rattle.sat_solver.specs.analyze_conflict.Minimization.{IsSortedBefore, depth_in, with_mark, with_used};
+ghost use Rattle.sat_solver.specs.analyze_conflict.Minimization.{UndoesMarks};
 
 use crate::analyze_conflict::adding::{add_lits, add_long_lits, make_room};
 use crate::analyze_conflict::lists::{order_used, put_highest_second, unflag};
@@ -64,7 +65,7 @@ impl AnalyzeConflict {
     /// Sets the number of variables to `count`. Variables that are added are not flagged.
     pub fn set_var_count(&mut self, count: usize) -> Result<(), AllocError>
         ensures size { OnOk result (length self.new.flags ≡ count) }
-        ensures clear { OnOk result (AreClear self.old.flags → AreClear self.new.flags) }
+        ensures clear { OnOk result (FlagsAreClear self.old.flags → FlagsAreClear self.new.flags) }
     {
         self.resize_flags(count)
     }
@@ -169,7 +170,7 @@ impl AnalyzeConflict {
         top: usize,
         lits: &[Lit],
     ) -> Result<(), AllocError>
-        requires nodes { HaveNodes graph.now lits.now }
+        requires nodes { LitsHaveNodes graph.now lits.now }
         requires flags { length self.old.flags ≡ length graph.now }
         ensures seen { OnOk result (self.new ≡ with_seen_literals graph.now top lits.now self.old) }
         ensures flags { OnOk result (length self.new.flags ≡ length self.old.flags) }
@@ -195,7 +196,7 @@ impl AnalyzeConflict {
         top: usize,
         lits: &Lits<'_>,
     ) -> Result<(), AllocError>
-        requires nodes { HaveNodes graph.now lits.now }
+        requires nodes { LitsHaveNodes graph.now lits.now }
         requires flags { length self.old.flags ≡ length graph.now }
         ensures { OnOk result (self.new ≡ with_seen_literals graph.now top lits.now self.old) }
     {
@@ -233,7 +234,7 @@ impl AnalyzeConflict {
     }
 
     /// Clears the flag of a true literal, which then no longer has to be resolved.
-    pub(crate) fn pass_by(&mut self, lit: Lit)
+    pub(crate) fn unflag_pending(&mut self, lit: Lit)
         requires flag { variable lit < length self.old.flags }
         ensures { self.new ≡ unflagged lit self.old }
     {
@@ -244,11 +245,11 @@ impl AnalyzeConflict {
     /// Uses `reason`, the reason for the true literal `lit`. Clears the literal's flag, and adds the literal to the
     /// used literals. If the reason is a long clause, adds it to the antecedents.
     #[inline(always)] // called for each literal that is resolved
-    pub(crate) fn take_up(&mut self, reason: &Reason, lit: Lit) -> Result<(), AllocError>
+    pub(crate) fn use_reason(&mut self, reason: &Reason, lit: Lit) -> Result<(), AllocError>
         requires flag { variable lit < length self.old.flags }
         ensures { OnOk result (self.new ≡ with_reason_used reason.now lit self.old) }
     {
-        self.pass_by(lit);
+        self.unflag_pending(lit);
         make_room(&mut self.used, &mut self.antecedents, 1)?;
         self.used.push_reserved(lit);
         if let Reason::Long(cref) = reason {
@@ -267,17 +268,17 @@ impl AnalyzeConflict {
     }
 
     /// Clears the flag of a true literal, and adds the literal to the core.
-    pub(crate) fn choose(&mut self, lit: Lit) -> Result<(), AllocError>
+    pub(crate) fn add_decision_to_core(&mut self, lit: Lit) -> Result<(), AllocError>
         requires flag { variable lit < length self.old.flags }
         ensures { OnOk result (self.new ≡ with_core_literal lit self.old) }
     {
-        self.pass_by(lit);
+        self.unflag_pending(lit);
         self.core.push(lit)?;
         Ok(())
     }
 
     /// Adds a literal to the learned clause, and swaps it with the clause's first literal.
-    pub(crate) fn put_first(&mut self, lit: Lit) -> Result<(), AllocError>
+    pub(crate) fn add_first(&mut self, lit: Lit) -> Result<(), AllocError>
         ensures { OnOk result (self.new ≡ with_first lit self.old) }
     {
         let last = self.clause.len();
@@ -291,7 +292,7 @@ impl AnalyzeConflict {
         requires clause { VariablesBelow self.old.clause (length self.old.flags) }
         requires used { VariablesBelow self.old.used (length self.old.flags) }
         requires only { FlagsAmong self.old }
-        ensures clear { AreClear self.new.flags }
+        ensures clear { FlagsAreClear self.new.flags }
         ensures same { self.new ≡ record self.old { flags = self.new.flags } }
         ensures size { length self.new.flags ≡ length self.old.flags }
     {
@@ -311,7 +312,7 @@ impl AnalyzeConflict {
     /// Flags a false literal, and adds its negation to the used literals.
     pub(crate) fn mark(&mut self, lit: Lit) -> Result<(), AllocError>
         requires flag { variable lit < length self.old.flags }
-        ensures { OnOk result (self.new ≡ marked lit self.old) }
+        ensures { OnOk result (self.new ≡ with_mark lit self.old) }
     {
         self.flags[lit.index()] = true;
         self.used.push(!lit)?;
@@ -319,8 +320,8 @@ impl AnalyzeConflict {
     }
 
     /// Adds a true literal to the used literals.
-    pub(crate) fn use_up(&mut self, lit: Lit) -> Result<(), AllocError>
-        ensures { OnOk result (self.new ≡ used_up lit self.old) }
+    pub(crate) fn add_used(&mut self, lit: Lit) -> Result<(), AllocError>
+        ensures { OnOk result (self.new ≡ with_used lit self.old) }
     {
         self.used.push(lit)?;
         Ok(())
@@ -330,7 +331,7 @@ impl AnalyzeConflict {
     pub(crate) fn undo(&mut self, top: usize)
         requires top { top < length self.old.used }
         requires flags { VariablesBelow self.old.used (length self.old.flags) }
-        ensures { Undoes top self.old self.new }
+        ensures { UndoesMarks top self.old self.new }
     {
         unflag(&mut self.flags, &self.used, top + 1);
         self.used.truncate(top);
@@ -354,8 +355,8 @@ impl AnalyzeConflict {
     /// Moves to position 1 of the learned clause a literal of the highest level among all its literals except the
     /// first. Returns that level, or 0 if the clause has fewer than two literals.
     pub(crate) fn put_second(&mut self, graph: &ImplGraph) -> usize
-        requires nodes { HaveNodes graph.now self.old.clause }
-        ensures second { PutsSecond graph.now self.old.clause self.new.clause result }
+        requires nodes { LitsHaveNodes graph.now self.old.clause }
+        ensures second { PutsHighestSecond graph.now self.old.clause self.new.clause result }
         ensures same { self.new ≡ record self.old { clause = self.new.clause } }
     {
         if self.clause.len() < 2 {
@@ -371,7 +372,7 @@ impl AnalyzeConflict {
         graph: &ImplGraph,
         resolved: usize,
     ) -> Result<(), AllocError>
-        requires { FallsBefore graph.now self.old.used resolved }
+        requires { IsSortedBefore graph.now self.old.used resolved }
         ensures permutation { OnOk result (IsPermutation self.old.used self.new.used) }
         ensures rising { OnOk result (IsNonDecreasingBy (depth_in graph.now) self.new.used) }
         ensures same { self.new ≡ record self.old { used = self.new.used } }

@@ -1,12 +1,12 @@
 //! Finds the assumptions that, together with the clauses, falsify an assumption.
 ghost use Rattle.std.specs.Prelude.{◌≡◌, ◌<◌, false, length, OnOk, IfOk};
-ghost use Rattle.sat_parts.specs.clause.Glue.{AreClear};
+ghost use Rattle.sat_parts.specs.clause.Glue.{FlagsAreClear};
 ghost use Rattle.sat_parts.specs.prop.Graphs.{has_no_clause};
 ghost use Rattle.sat_parts.specs.prop.Ready.{state_of};
 ghost use Rattle.sat_parts.specs.prop.State.{StateIsConsistent, node, level};
 ghost use Rattle.sat_parts.specs.prop.Values.{IsFalseLit};
 ghost use Rattle.sat_solver.specs.analyze_conflict.Marks.{CanAnalyze};
-ghost use Rattle.sat_solver.specs.assumptions.Failing.{IsFailedAssumption, TraceInvariant, TraceResult};
+ghost use Rattle.sat_solver.specs.assumptions.FailedAssumptions.{IsFailedAssumption, TraceInvariant, TraceResult};
 
 use crate::analyze_conflict::resolve::add_all;
 use crate::analyze_conflict::state::AnalyzeConflict;
@@ -27,7 +27,7 @@ fn begin_trace(
 ) -> Result<usize, AllocError>
     requires can { CanAnalyze clauses.now (state_of assignment.now graph.now trail.now) }
     requires size { length analysis.old.flags ≡ length assignment.now.current }
-    requires clear { AreClear analysis.old.flags }
+    requires clear { FlagsAreClear analysis.old.flags }
     requires fails { IsFalseLit assignment.now.current failed }
     requires above { 0 < level (state_of assignment.now graph.now trail.now) failed }
     requires caused { has_no_clause (node (state_of assignment.now graph.now trail.now) failed).reason ≡ false }
@@ -35,7 +35,7 @@ fn begin_trace(
         p) }
 {
     analysis.begin_core(failed)?;
-    analysis.use_up(!failed)?;
+    analysis.add_used(!failed)?;
     let reason = graph.reason(failed.var());
     add_all(analysis, graph, 1, &reason.lits(clauses))?;
     Ok(graph.depth(failed.var()) - 1)
@@ -63,10 +63,10 @@ fn trace_next(
     let lit = lits[place];
     let reason = graph.reason(lit.var());
     if reason.is_unit() {
-        analysis.choose(lit)?;
+        analysis.add_decision_to_core(lit)?;
         return Ok(place);
     }
-    analysis.take_up(&reason, lit)?;
+    analysis.use_reason(&reason, lit)?;
     add_all(analysis, graph, 1, &reason.lits(clauses))?;
     Ok(place)
 }
@@ -107,11 +107,11 @@ pub fn analyze_assumption(
     requires agrees { StateIsConsistent (state_of assignment.now graph.now trail.now) }
     requires can { 0 < length trail.now.starts → CanAnalyze clauses.now (state_of assignment.now graph.now trail.now) }
     requires size { length analysis.old.flags ≡ length assignment.now.current }
-    requires clear { AreClear analysis.old.flags }
+    requires clear { FlagsAreClear analysis.old.flags }
     requires fails { IsFalseLit assignment.now.current failed }
     ensures fails { OnOk result (IsFailedAssumption clauses.now (state_of assignment.now graph.now trail.now) failed
         analysis.new.core analysis.new.used) }
-    ensures clear { OnOk result (AreClear analysis.new.flags) }
+    ensures clear { OnOk result (FlagsAreClear analysis.new.flags) }
     ensures size { OnOk result (length analysis.new.flags ≡ length assignment.now.current) }
 {
     if graph.level(failed.var()) == 0 {

@@ -4,9 +4,9 @@ ghost use Rattle.sat_solver.specs.session.LiveClauses.{with_var};
 ghost use Rattle.sat_solver.specs.proof.ProofView.{HasAllowedSteps, session_of};
 ghost use Rattle.sat_parts.specs.parts.Assumed.{HaveVariablesIn};
 ghost use Rattle.sat_parts.specs.parts.Whole.{SearchStateInvariant};
-ghost use Rattle.sat_solver.specs.assumptions.Core.{causes_hashes, WritesCoreStep, FailsBy};
-ghost use Rattle.sat_solver.specs.cdcl.Joint.{global_in, IsFree, SearchInvariant};
-ghost use Rattle.sat_solver.specs.cdcl.Iterations.{IsFailing};
+ghost use Rattle.sat_solver.specs.assumptions.Core.{causes_hashes, WritesCoreStep, AssumptionFails};
+ghost use Rattle.sat_solver.specs.cdcl.Joint.{global_in, HasClearFlags, SearchInvariant};
+ghost use Rattle.sat_solver.specs.cdcl.Iterations.{IsFalseAssumption};
 
 use crate::analyze_conflict::analyze_assumption;
 use crate::cdcl::fault::Fault;
@@ -19,12 +19,12 @@ use std::alloc::AllocError;
 
 /// Fills `search.scratch` for the step that states a core: the core's literals over proof variables, and the hashes of
 /// the clauses that show that the core contradicts the clauses.
-fn name_core(search: &mut Search) -> Result<(), AllocError>
+fn prepare_core(search: &mut Search) -> Result<(), AllocError>
     requires holds { SearchStateInvariant search.old.parts }
     requires names { length search.old.parts.assignment.current ≤ length search.old.globals.items }
     requires there { HaveVariablesIn search.old.assumptions.lits.items search.old.parts }
-    requires failing { IsFailing search.old.assumptions.lits.items search.old.parts search.old.failed }
-    requires fails { FailsBy search.old.parts search.old.failed search.old.analysis }
+    requires failing { IsFalseAssumption search.old.assumptions.lits.items search.old.parts search.old.failed }
+    requires fails { AssumptionFails search.old.parts search.old.failed search.old.analysis }
     ensures same { search.new ≡ record search.old { scratch = search.new.scratch } }
     ensures clause { OnOk result (search.new.scratch.clause.items
         ≡ map (with_var (global_in search.old)) search.old.analysis.core) }
@@ -47,12 +47,12 @@ fn name_core(search: &mut Search) -> Result<(), AllocError>
 /// this core.
 fn find_core(search: &mut Search) -> Result<(), AllocError>
     requires holds { SearchStateInvariant search.old.parts }
-    requires free { IsFree search.old }
+    requires free { HasClearFlags search.old }
     requires there { HaveVariablesIn search.old.assumptions.lits.items search.old.parts }
-    requires failing { IsFailing search.old.assumptions.lits.items search.old.parts search.old.failed }
+    requires failing { IsFalseAssumption search.old.assumptions.lits.items search.old.parts search.old.failed }
     ensures same { search.new ≡ record search.old { analysis = search.new.analysis; scratch = search.new.scratch } }
-    ensures free { OnOk result (IsFree search.new) }
-    ensures fails { OnOk result (FailsBy search.old.parts search.old.failed search.new.analysis) }
+    ensures free { OnOk result (HasClearFlags search.new) }
+    ensures fails { OnOk result (AssumptionFails search.old.parts search.old.failed search.new.analysis) }
     ensures clause { OnOk result (search.new.scratch.clause.items
         ≡ map (with_var (global_in search.old)) search.new.analysis.core) }
     ensures hashes { OnOk result (search.new.scratch.hashes.items
@@ -67,7 +67,7 @@ fn find_core(search: &mut Search) -> Result<(), AllocError>
         &parts.trail,
         search.failed,
     )?;
-    name_core(search)
+    prepare_core(search)
 }
 
 /// Finds a failed core, and writes the step that states it. Afterwards, `search.analysis` contains the core.
@@ -77,7 +77,7 @@ pub fn write_core<W: CountedWrite + Drop, P: ProofProcessor>(
 ) -> Result<(), Fault>
     requires keeps { HasAllowedSteps proof.old }
     requires search { SearchInvariant (session_of proof.old) search.old }
-    requires failing { IsFailing search.old.assumptions.lits.items search.old.parts search.old.failed }
+    requires failing { IsFalseAssumption search.old.assumptions.lits.items search.old.parts search.old.failed }
     ensures { WritesCoreStep W.seen result proof.old proof.new search.old search.new }
 {
     find_core(search)?;

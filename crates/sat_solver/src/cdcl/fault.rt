@@ -1,6 +1,6 @@
 //! Why a call failed. The underlying error is stored with the proof until the solver reports it.
 ghost use Rattle.std.specs.Prelude.{◌≡◌};
-ghost use Rattle.sat_solver.specs.cdcl.Faults.{reported_error, IsKept};
+ghost use Rattle.sat_solver.specs.cdcl.Faults.{error_of_fault, StoresError};
 ghost use Rattle.sat_solver.specs.proof.ProofView.{without_listener_error};
 
 use crate::SolverError;
@@ -42,18 +42,18 @@ pub struct Fault {
 }
 
 impl Model for Fault {
-    ghost use Rattle.sat_solver.specs.cdcl.Faults.{reported_error};
+    ghost use Rattle.sat_solver.specs.cdcl.Faults.{error_of_fault};
     ghost use Rattle.sat_solver.specs.declared.error.SolverError.{SolverError};
 
     ghost Value = { SolverError };
 
-    ghost view = { λ f. reported_error f.kind };
+    ghost view = { λ f. error_of_fault f.kind };
 }
 
 impl Fault {
     /// Creates a fault of the kind `kind`.
     pub fn of(kind: FaultKind) -> Fault
-        ensures { result ≡ reported_error kind }
+        ensures { result ≡ error_of_fault kind }
     {
         Fault { kind }
     }
@@ -72,9 +72,9 @@ impl From<AllocError> for Fault {
 
 impl From<StoreError> for Fault {
     ghost use Rattle.std.specs.Prelude.{◌≡◌};
-    ghost use Rattle.sat_solver.specs.Recovery.{buffer_failure};
+    ghost use Rattle.sat_solver.specs.Recovery.{error_of_buffer};
 
-    ghost from_gives = { λ s e. e ≡ buffer_failure s };
+    ghost from_gives = { λ s e. e ≡ error_of_buffer s };
 
     fn from(error: StoreError) -> Fault {
         match error {
@@ -86,9 +86,9 @@ impl From<StoreError> for Fault {
 
 impl From<CheckFault> for Fault {
     ghost use Rattle.std.specs.Prelude.{◌≡◌};
-    ghost use Rattle.sat_solver.specs.cdcl.StepEffects.{check_fault_of};
+    ghost use Rattle.sat_solver.specs.cdcl.StepEffects.{error_of_check};
 
-    ghost from_gives = { λ f e. e ≡ check_fault_of f };
+    ghost from_gives = { λ f e. e ≡ error_of_check f };
 
     fn from(fault: CheckFault) -> Fault {
         match fault {
@@ -101,9 +101,9 @@ impl From<CheckFault> for Fault {
 
 impl From<ProofError> for Fault {
     ghost use Rattle.std.specs.Prelude.{◌≡◌};
-    ghost use Rattle.sat_solver.specs.cdcl.StepEffects.{proof_fault};
+    ghost use Rattle.sat_solver.specs.cdcl.StepEffects.{error_of_proof};
 
-    ghost from_gives = { λ p e. e ≡ proof_fault p };
+    ghost from_gives = { λ p e. e ≡ error_of_proof p };
 
     fn from(error: ProofError) -> Fault {
         match error {
@@ -120,7 +120,7 @@ pub fn report<W: CountedWrite + Drop, P: ProofProcessor>(
     fault: Fault,
     proof: &mut Proof<W, P>,
 ) -> SolverError
-    requires kept { IsKept fault proof.old }
+    requires kept { StoresError fault proof.old }
     ensures error { result ≡ fault }
     ensures proof { proof.new ≡ without_listener_error proof.old }
 {

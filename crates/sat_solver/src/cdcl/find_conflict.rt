@@ -1,11 +1,11 @@
 //! The iterations of a search: propagation, and then an assumption or a decision.
 ghost use Rattle.std.specs.Prelude.{IfOk};
 ghost use Rattle.sat_solver.specs.proof.ProofView.{HasAllowedSteps, session_of};
-ghost use Rattle.sat_parts.specs.parts.Assumed.{HaveVariablesIn, ArePlaced};
+ghost use Rattle.sat_parts.specs.parts.Assumed.{HaveVariablesIn, PlacesAreCorrect};
 ghost use Rattle.sat_parts.specs.parts.Whole.{state, SearchStateInvariant, IsFullyPropagated};
 ghost use Rattle.sat_solver.specs.cdcl.StepEffects.{EmitsSteps};
 ghost use Rattle.sat_solver.specs.cdcl.Joint.{SearchInvariant};
-ghost use Rattle.sat_solver.specs.cdcl.Iterations.{GoesDeeper, StopsSearch};
+ghost use Rattle.sat_solver.specs.cdcl.Iterations.{DecisionEffect, StopsSearch};
 
 use crate::cdcl::fault::Fault;
 use crate::context::Search;
@@ -38,8 +38,8 @@ fn assume_or_decide(
     requires holds { SearchStateInvariant parts.old }
     requires done { IsFullyPropagated parts.old }
     requires there { HaveVariablesIn assumptions.old.lits.items parts.old }
-    requires placed { ArePlaced assumptions.old (state parts.old) }
-    ensures { IfOk result (λ found. GoesDeeper found assumptions.old assumptions.new parts.old parts.new) }
+    requires placed { PlacesAreCorrect assumptions.old (state parts.old) }
+    ensures { IfOk result (λ found. DecisionEffect found assumptions.old assumptions.new parts.old parts.new) }
 {
     match enqueue_assumption(parts, assumptions)? {
         EnqueueAssumption::Conflict(lit) => return Ok(Some(FoundConflict::Failed(lit))),

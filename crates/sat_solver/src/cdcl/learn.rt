@@ -5,17 +5,17 @@ ghost use Rattle.sat_solver.specs.session.LiveClauses.{with_var};
 ghost use Rattle.sat_solver.specs.proof.ProofView.{HasAllowedSteps, session_of};
 ghost use Rattle.sat_solver.specs.analyze_conflict.Derivation.{AnalysisResult, AnalysisResultOf};
 ghost use Rattle.sat_parts.specs.parts.Round.{UnitsHaveNoReason, LevelZeroInvariant};
-ghost use Rattle.sat_parts.specs.parts.Full.{IsFull};
+ghost use Rattle.sat_parts.specs.parts.Full.{IsBufferFull};
 ghost use Rattle.sat_parts.specs.parts.Learned.{IsAnalyzedClause};
-ghost use Rattle.sat_parts.specs.parts.Whole.{state, SearchStateInvariantBelow, IsRefuted};
-ghost use Rattle.sat_solver.specs.session.Fits.{FlagFits};
+ghost use Rattle.sat_parts.specs.parts.Whole.{state, SearchStateInvariantBelow, HasConflict};
+ghost use Rattle.sat_solver.specs.session.Matching.{FlagMatches};
 ghost use Rattle.sat_solver.specs.clause.Activity.{AreBelow};
 ghost use Rattle.sat_solver.specs.clause.Assessed.{learned_header, AreAntecedents};
-ghost use Rattle.sat_solver.specs.cdcl.Joint.{global_in, IsFree};
+ghost use Rattle.sat_solver.specs.cdcl.Joint.{global_in, HasClearFlags};
 ghost use Rattle.sat_solver.specs.cdcl.Learning.{UndoesAndLearns, BumpsAntecedents, SearchBumpsAntecedents};
 ghost use Rattle.sat_solver.specs.cdcl.Learning.{BumpsSeenVars, LearnsClause};
 ghost use Rattle.sat_solver.specs.cdcl.Learning.{learned_hashes};
-ghost use Rattle.sat_solver.specs.cdcl.Iterations.{IsStopped};
+ghost use Rattle.sat_solver.specs.cdcl.Iterations.{IsFalsifiedAt};
 ghost use Rattle.sat_store.specs.clause.Full.{IfStoreFull};
 
 use crate::analyze_conflict::learn_from_conflict;
@@ -34,8 +34,12 @@ use std::alloc::AllocError;
 
 /// Fills `search.scratch` for the step that derives a learned clause: the clause's literals over proof variables, and
 /// the hashes of the clauses from which it follows.
-fn name_learned(search: &mut Search, _level: usize, conflict: &Conflict) -> Result<(), AllocError>
-    requires refuted { IsRefuted search.old.parts conflict.now }
+fn prepare_learned(
+    search: &mut Search,
+    _level: usize,
+    conflict: &Conflict,
+) -> Result<(), AllocError>
+    requires refuted { HasConflict search.old.parts conflict.now }
     requires names { length search.old.parts.assignment.current ≤ length search.old.globals.items }
     requires learns { AnalysisResultOf search.old.parts.clauses (state search.old.parts) conflict.now search.old.analysis
         _level }
@@ -62,7 +66,7 @@ fn name_learned(search: &mut Search, _level: usize, conflict: &Conflict) -> Resu
 /// `header`.
 ///
 /// Also updates the headers of the antecedents, based on the levels of their literals before backtracking.
-fn take_in(search: &mut Search, header: ClauseHeader, level: usize) -> Result<(), StoreError>
+fn store_learned(search: &mut Search, header: ClauseHeader, level: usize) -> Result<(), StoreError>
     requires holds { SearchStateInvariantBelow (length search.old.parts.trail.starts) search.old.parts }
     requires units { UnitsHaveNoReason (state search.old.parts) }
     requires base { LevelZeroInvariant search.old.parts.trail }
@@ -76,7 +80,7 @@ fn take_in(search: &mut Search, header: ClauseHeader, level: usize) -> Result<()
         level) }
     ensures rated { OnOk result (BumpsAntecedents search.old.parts search.old.activity search.old.analysis header search.new.parts
         search.new.activity) }
-    ensures full { IfStoreFull result (IsFull search.new.parts) }
+    ensures full { IfStoreFull result (IsBufferFull search.new.parts) }
 {
     undo(&mut search.parts, level);
     bump_clauses(
@@ -90,8 +94,8 @@ fn take_in(search: &mut Search, header: ClauseHeader, level: usize) -> Result<()
 
 /// Returns `true` if the step that derives the clause `lits` marks it as redundant: if `header` does, and there are
 /// at least three literals.
-fn says_redundant(header: &ClauseHeader, lits: &[Lit]) -> bool
-    ensures { FlagFits result header.now lits.now }
+fn is_marked_redundant(header: &ClauseHeader, lits: &[Lit]) -> bool
+    ensures { FlagMatches result header.now lits.now }
 {
     if lits.len() < 3 {
         return false;
@@ -102,12 +106,12 @@ fn says_redundant(header: &ClauseHeader, lits: &[Lit]) -> bool
 /// Analyzes a conflict above level 0, and fills `search.scratch` for the step that derives the learned clause. Returns
 /// the level to backtrack to, and the header of the learned clause.
 fn analyze(search: &mut Search, conflict: &Conflict) -> Result<(usize, ClauseHeader), AllocError>
-    requires refuted { IsRefuted search.old.parts conflict.now }
+    requires refuted { HasConflict search.old.parts conflict.now }
     requires above { 0 < length search.old.parts.trail.starts }
-    requires free { IsFree search.old }
+    requires free { HasClearFlags search.old }
     ensures same { search.new ≡ record search.old
         { analysis = search.new.analysis; flags = search.new.flags; scratch = search.new.scratch } }
-    ensures free { OnOk result (IsFree search.new) }
+    ensures free { OnOk result (HasClearFlags search.new) }
     ensures learns { IfOk result (λ r. AnalysisResultOf search.old.parts.clauses (state search.old.parts) conflict.now
         search.new.analysis r.0) }
     ensures header { IfOk result (λ r. r.1
@@ -137,7 +141,7 @@ fn analyze(search: &mut Search, conflict: &Conflict) -> Result<(usize, ClauseHea
         &search.parts.graph,
         search.analysis.clause(),
     );
-    name_learned(search, level, conflict)?;
+    prepare_learned(search, level, conflict)?;
     Ok((level, header))
 }
 
@@ -148,7 +152,7 @@ fn learn_clause<W: CountedWrite + Drop, P: ProofProcessor>(
     conflict: &Conflict,
 ) -> Result<(), Fault>
     requires keeps { HasAllowedSteps proof.old }
-    requires stopped { IsStopped (session_of proof.old) search.old conflict.now }
+    requires stopped { IsFalsifiedAt (session_of proof.old) search.old conflict.now }
     requires above { 0 < length search.old.parts.trail.starts }
     ensures learned { LearnsClause W.seen result proof.old proof.new search.old search.new }
     ensures seen { OnOk result (AreBelow search.new.analysis.seen (length search.new.parts.assignment.current)) }
@@ -156,12 +160,12 @@ fn learn_clause<W: CountedWrite + Drop, P: ProofProcessor>(
 {
     let (level, header) = analyze(search, conflict)?;
     let step = ProofStep::AtClause {
-        redundant: says_redundant(&header, search.analysis.clause()),
+        redundant: is_marked_redundant(&header, search.analysis.clause()),
         clause: &search.scratch.clause,
         propagation_hashes: &search.scratch.hashes,
     };
     proof.add_step(&step)?;
-    take_in(search, header, level)?;
+    store_learned(search, header, level)?;
     search.assumptions.cut(level);
     Ok(())
 }
@@ -175,7 +179,7 @@ pub fn learn_from<W: CountedWrite + Drop, P: ProofProcessor>(
     conflict: &Conflict,
 ) -> Result<(), Fault>
     requires keeps { HasAllowedSteps proof.old }
-    requires stopped { IsStopped (session_of proof.old) search.old conflict.now }
+    requires stopped { IsFalsifiedAt (session_of proof.old) search.old conflict.now }
     requires above { 0 < length search.old.parts.trail.starts }
     ensures learned { LearnsClause W.seen result proof.old proof.new search.old search.new }
     ensures raised { OnOk result (BumpsSeenVars search.old search.new) }

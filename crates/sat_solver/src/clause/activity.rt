@@ -2,12 +2,12 @@
 ghost use Rattle.std.specs.Prelude.{◌≡◌, length};
 ghost use Rattle.sat_store.specs.clause.Buffer.{header_at, lits_at};
 ghost use Rattle.sat_store.specs.heap.Vsids.{decayed};
-ghost use Rattle.sat_parts.specs.clause.Glue.{HaveFlags, AreClear};
+ghost use Rattle.sat_parts.specs.clause.Glue.{LevelsHaveFlags, FlagsAreClear};
 ghost use Rattle.sat_solver.specs.session.Session.{Session};
 ghost use Rattle.sat_parts.specs.parts.Frame.{SameClauses, SameContents};
-ghost use Rattle.sat_parts.specs.parts.Whole.{SearchStateInvariant, HasClause};
+ghost use Rattle.sat_parts.specs.parts.Whole.{SearchStateInvariant, HasLongClause};
 ghost use Rattle.sat_parts.specs.parts.Words.{TrailWordExtends};
-ghost use Rattle.sat_solver.specs.clause.Activity.{AreBelow, AreDecays, all_bumped, BumpEffect};
+ghost use Rattle.sat_solver.specs.clause.Activity.{AreBelow, DecaysAreInRange, all_bumped, BumpEffect};
 ghost use Rattle.sat_solver.specs.clause.Assessed.{clause_level_count, with_updated_glue, BumpsClause, BumpsClauses};
 ghost use Rattle.sat_solver.specs.clause.Assessed.{ChangesOnlyHeaders, AreAntecedents};
 ghost use Rattle.sat_solver.specs.cdcl.Joint.{SearchInvariant};
@@ -51,7 +51,7 @@ pub fn bump_seen_vars(search: &mut Search)
 /// Sets the decays of variable activities and clause activities to those in `config`.
 pub fn config_changed(search: &mut Search, config: &SolverConfig)
     requires holds { SearchStateInvariant search.old.parts }
-    requires decays { AreDecays config.now }
+    requires decays { DecaysAreInRange config.now }
     ensures bumped { (s : Session) → SearchInvariant s search.old → BumpEffect s search.old search.new }
     ensures rest { search.new ≡ record search.old { parts = search.new.parts; activity = search.new.activity } }
     ensures parts { search.new.parts
@@ -64,13 +64,13 @@ pub fn config_changed(search: &mut Search, config: &SolverConfig)
 
 /// Returns the number of distinct levels of a learned clause's literals, or the clause's glue if that is lower.
 ///
-/// The result is used by `update_glue`, which only ever lowers the glue. Returns 0 for an irredundant clause, whose glue is
-/// never set.
+/// The result is used by `update_glue`, which only ever lowers the glue. Returns 0 for an irredundant clause, whose
+/// glue is never set.
 fn count_levels(parts: &SearchState, flags: &mut TmpFlags, cref: ClauseRef) -> usize
     requires holds { SearchStateInvariant parts.now }
-    requires live { HasClause parts.now cref }
-    requires levels { HaveFlags parts.now.graph flags.old.flags.items (lits_at parts.now.clauses cref) }
-    requires clear { AreClear flags.old.flags.items }
+    requires live { HasLongClause parts.now cref }
+    requires levels { LevelsHaveFlags parts.now.graph flags.old.flags.items (lits_at parts.now.clauses cref) }
+    requires clear { FlagsAreClear flags.old.flags.items }
     ensures improves { with_updated_glue result (header_at parts.now.clauses cref)
         ≡ with_updated_glue (clause_level_count parts.now cref) (header_at parts.now.clauses cref) }
     ensures flags { flags.new.flags.items ≡ flags.old.flags.items }
@@ -92,9 +92,9 @@ fn bump_clause(
     cref: ClauseRef,
 )
     requires holds { SearchStateInvariant parts.old }
-    requires live { HasClause parts.old cref }
-    requires levels { HaveFlags parts.old.graph flags.old.flags.items (lits_at parts.old.clauses cref) }
-    requires clear { AreClear flags.old.flags.items }
+    requires live { HasLongClause parts.old cref }
+    requires levels { LevelsHaveFlags parts.old.graph flags.old.flags.items (lits_at parts.old.clauses cref) }
+    requires clear { FlagsAreClear flags.old.flags.items }
     ensures rates { ChangesOnlyHeaders parts.old parts.new }
     ensures flags { flags.new.flags.items ≡ flags.old.flags.items }
     ensures takes { BumpsClause (clause_level_count parts.old cref) parts.old.clauses parts.new.clauses parts.old.db.refs cref

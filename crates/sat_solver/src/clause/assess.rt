@@ -2,8 +2,8 @@
 ghost use Rattle.std.specs.Prelude.{◌≡◌, ◌<◌};
 ghost use Rattle.sat_store.specs.clause.Buffer.{header_at};
 ghost use Rattle.sat_parts.specs.clause.Db.{PutsHeader};
-ghost use Rattle.sat_parts.specs.clause.Glue.{levels_of, count_distinct, HaveNodes, HaveFlags, AreClear};
-ghost use Rattle.sat_parts.specs.parts.Whole.{SearchStateInvariant, HasClause};
+ghost use Rattle.sat_parts.specs.clause.Glue.{levels_of, count_distinct, LitsHaveNodes, LevelsHaveFlags, FlagsAreClear};
+ghost use Rattle.sat_parts.specs.parts.Whole.{SearchStateInvariant, HasLongClause};
 ghost use Rattle.sat_solver.specs.clause.Assessed.{tier_for, learned_header, with_updated_glue, ChangesOnlyHeaders};
 
 use sat_base::Lit;
@@ -24,9 +24,9 @@ fn select_tier(glue: usize) -> Tier
 /// Returns the header of the learned clause `lits`, whose glue is one less than the number of distinct levels of
 /// its literals.
 pub fn assess_learned_clause(flags: &mut TmpFlags, graph: &ImplGraph, lits: &[Lit]) -> ClauseHeader
-    requires nodes { HaveNodes graph.now lits.now }
-    requires levels { HaveFlags graph.now flags.old.flags.items lits.now }
-    requires clear { AreClear flags.old.flags.items }
+    requires nodes { LitsHaveNodes graph.now lits.now }
+    requires levels { LevelsHaveFlags graph.now flags.old.flags.items lits.now }
+    requires clear { FlagsAreClear flags.old.flags.items }
     ensures header { result ≡ learned_header (count_distinct (levels_of graph.now lits.now)) }
     ensures clear { flags.new.flags.items ≡ flags.old.flags.items }
 {
@@ -41,7 +41,7 @@ pub fn assess_learned_clause(flags: &mut TmpFlags, graph: &ImplGraph, lits: &[Li
 /// `levels`, and its tier is set accordingly.
 pub fn update_glue(parts: &mut SearchState, cref: ClauseRef, levels: usize)
     requires holds { SearchStateInvariant parts.old }
-    requires live { HasClause parts.old cref }
+    requires live { HasLongClause parts.old cref }
     ensures rates { ChangesOnlyHeaders parts.old parts.new }
     ensures put { PutsHeader parts.old.clauses parts.new.clauses parts.old.db.refs cref
         (with_updated_glue levels (header_at parts.old.clauses cref)) }

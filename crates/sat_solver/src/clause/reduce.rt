@@ -8,7 +8,7 @@ ghost use Rattle.sat_parts.specs.parts.Whole.{SearchStateInvariant};
 ghost use Rattle.sat_solver.specs.session.Naming.{global_of_index};
 ghost use Rattle.sat_solver.specs.cdcl.StepEffects.{EmitsSteps};
 ghost use Rattle.sat_solver.specs.cdcl.Joint.{SearchInvariant};
-ghost use Rattle.sat_solver.specs.clause.Reduced.{IsLearnedLong, DeletesIf, ReductionEffect, ReducesLocals};
+ghost use Rattle.sat_solver.specs.clause.Reduced.{IsLearnedLong, TriesToDelete, ReductionEffect, ReducesLocals};
 ghost use Rattle.sat_solver.specs.clause.Reduced.{ReducesMids};
 ghost use Rattle.sat_solver.specs.clause.Reduced.{CollectsWhereDue, Reduces, ReductionBySteps};
 ghost use Rattle.sat_parts.specs.clause.Glue.{VariablesBelow};
@@ -58,7 +58,7 @@ fn delete_learned<W: CountedWrite + Drop, P: ProofProcessor>(
     requires search { SearchInvariant (session_of proof.old) search.old }
     requires learned { IsLearnedLong search.old.parts cref }
     ensures { EmitsSteps W.seen result proof.old proof.new
-        (λ deleted _. DeletesIf deleted cref (session_of proof.new) search.old search.new) }
+        (λ deleted _. TriesToDelete deleted cref (session_of proof.new) search.old search.new) }
 {
     map_clause(
         &search.parts,

@@ -1,9 +1,9 @@
 //! Reads formulas in chunks, and adds their clauses.
 ghost use Rattle.std.specs.Io.{ReadsAtMost};
 ghost use Rattle.std.specs.Prelude.{◌≡◌, ◌<◌, ◌≤◌, ◌+◌, false, IfOk};
-ghost use Rattle.sat_base.specs.device.Device.{most_reads};
-ghost use Rattle.sat_base.specs.dimacs.Faults.{ReadsNext};
-ghost use Rattle.sat_base.specs.dimacs.Parsing.{all_taken, no_progress, ReportsEnded, StopsReading};
+ghost use Rattle.sat_base.specs.device.Device.{max_reads};
+ghost use Rattle.sat_base.specs.dimacs.Faults.{ReadsOnceUnlessEnded};
+ghost use Rattle.sat_base.specs.dimacs.Parsing.{with_all_taken, no_progress, ReportsEnded, MakesNoReadAfterEnd};
 ghost use Rattle.sat_solver.specs.facade.Formulas.{AddsFormulaRead, AddsText, with_fault};
 ghost use Rattle.sat_solver.specs.solver.Formulas.{text_fault};
 
@@ -28,8 +28,8 @@ fn read_next<R: CountedRead>(
     room: &mut [u8],
 ) -> io::Result<usize>
     ensures bound { ReadsAtMost result room.new }
-    ensures reads { ReadsNext result room.new parser.now.fed (R.seen reader.old) (R.seen reader.new) }
-    ensures goes_on { IfOk result (λ n. 0 < n → ReportsEnded false parser.now) }
+    ensures reads { ReadsOnceUnlessEnded result room.new parser.now.fed (R.seen reader.old) (R.seen reader.new) }
+    ensures goes_on { (R.seen reader.old).calls < (R.seen reader.new).calls → ReportsEnded false parser.now }
 {
     if parser.has_ended() {
         return Ok(0);
@@ -66,7 +66,7 @@ impl<W: CountedWrite + Drop, P: ProofProcessor> Solver<W, P> {
         answer: Result<(), DimacsError>,
     ) -> Result<(), SolverError>
         requires { self.old.failed ≡ false }
-        ensures taken { parser.new ≡ all_taken parser.old }
+        ensures taken { parser.new ≡ with_all_taken parser.old }
         ensures adds { AddsFormulaRead P.takes result answer parser.old self.old self.new }
     {
         let formula = parser.take_formula();
@@ -86,8 +86,8 @@ impl<W: CountedWrite + Drop, P: ProofProcessor> Solver<W, P> {
         requires going { self.old.failed ≡ false }
         requires fresh { parser.old ≡ no_progress }
         ensures adds { AddsText P.takes result self.old self.new (R.seen reader.old) (R.seen reader.new) }
-        ensures stops { StopsReading (R.seen reader.old) (R.seen reader.new) }
-        ensures reads { (R.seen reader.new).calls ≤ (R.seen reader.old).calls + most_reads }
+        ensures stops { MakesNoReadAfterEnd (R.seen reader.old) (R.seen reader.new) }
+        ensures reads { (R.seen reader.new).calls ≤ (R.seen reader.old).calls + max_reads }
     {
         let mut piece = [0; PIECE];
         for _ in 0..MAX_READS {

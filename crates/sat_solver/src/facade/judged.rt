@@ -2,7 +2,7 @@
 ghost use Rattle.std.specs.Prelude.{◌≡◌};
 ghost use Rattle.std.specs.Borrow.{ftrue};
 ghost use Rattle.sat_base.specs.script.ScriptState.{ScriptState, initial_state};
-ghost use Rattle.sat_solver.specs.facade.Judged.{CanBeObserved, IsObserved, state_after};
+ghost use Rattle.sat_solver.specs.facade.Judged.{CanBeObserved, IsObserved, state_after_change};
 
 use crate::session::history::History;
 use crate::variables::Variables;
@@ -66,7 +66,7 @@ impl Judged {
 
     /// Returns the state after a call. A call that did not succeed changes nothing.
     pub fn after(&self, _change: &Change<'_>) -> Judged
-        ensures { result.state ≡ state_after _change.now self.now.state }
+        ensures { result.state ≡ state_after_change _change.now self.now.state }
     {
         Judged {}
     }

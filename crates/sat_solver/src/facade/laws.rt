@@ -1,6 +1,6 @@
 //! Laws about solvers. Each law is the contract of a function that does nothing.
 ghost use Rattle.std.specs.Prelude.{◌≡◌, false};
-ghost use Rattle.sat_solver.specs.facade.Laws.{CallsGoOn, FlushedIsText};
+ghost use Rattle.sat_solver.specs.facade.Laws.{CallsReachBySteps, FlushedIsText};
 ghost use Rattle.sat_solver.specs.facade.Recording.{RecordsAnswer};
 ghost use Rattle.sat_solver.specs.facade.States.{MatchesState};
 ghost use Rattle.sat_solver.specs.session.Session.{AreAllowedSteps};
@@ -14,7 +14,7 @@ pub fn calls_go_on<W: CountedWrite + Drop, P: ProofProcessor>(
     _old: &Solver<W, P>,
     _new: &Solver<W, P>,
 )
-    ensures { CallsGoOn _old.now _new.now }
+    ensures { CallsReachBySteps _old.now _new.now }
 {}
 
 /// States that the names and the steps of a solver that has not failed agree with its script state, and that its own

@@ -6,10 +6,10 @@ ghost use Rattle.sat_solver.specs.session.Session.{session_after};
 ghost use Rattle.sat_solver.specs.session.LiveClauses.{with_var};
 ghost use Rattle.sat_store.specs.variables.VarData.{unused_variable};
 ghost use Rattle.sat_solver.specs.variables.Variables.{VariablesInvariant, data_at};
-ghost use Rattle.sat_solver.specs.load.Literals.{NoWitness, Images, global_with_index};
-ghost use Rattle.sat_solver.specs.load.Assumed.{MarksAssumed, PutsMarks, IntroducesAssumptions};
+ghost use Rattle.sat_solver.specs.load.Literals.{HaveNoWitness, AreImages, global_with_index};
+ghost use Rattle.sat_solver.specs.load.Assumed.{MarksAssumed, StoresMarks, IntroducesAssumptions};
 ghost use Rattle.sat_solver.specs.variables.Calls.{NamesInvariant};
-ghost use Rattle.sat_solver.specs.variables.Failing.{EmitsOrFails, FailsOnlyByFault};
+ghost use Rattle.sat_solver.specs.variables.NameFailures.{EmitsOrFails, FailsOnlyByFault};
 ghost use Rattle.sat_solver.specs.variables.VariableRoom.{user_vars_in};
 ghost use Rattle.sat_parts.specs.clause.Glue.{VariablesBelow};
 
@@ -44,8 +44,8 @@ fn change_marks(
 ) -> Result<(), AllocError>
     requires tidy { VariablesInvariant variables.old }
     requires marked { (v : ℕ) → mentions asked.old.globals.items v ≡ (data_at variables.old v).assumed }
-    requires images { Images variables.old _user.now asked.old.order.items }
-    ensures puts { OnOk result (PutsMarks variables.old variables.new asked.new.globals.items) }
+    requires images { AreImages variables.old _user.now asked.old.order.items }
+    ensures puts { OnOk result (StoresMarks variables.old variables.new asked.new.globals.items) }
     ensures globals { OnOk result (asked.new.globals.items
         ≡ map (with_var (global_with_index variables.old)) asked.old.order.items) }
     ensures order { asked.new.order ≡ asked.old.order }
@@ -67,7 +67,7 @@ pub fn assume<W: StepLog>(
 ) -> Result<(), NameError>
     requires valid { NamesInvariant variables.old (W.steps writer.old) }
     requires keeps { W.keeps writer.old }
-    requires sampled { NoWitness variables.old lits.now }
+    requires sampled { HaveNoWitness variables.old lits.now }
     requires asked { asked.old.globals.items ≡ (session_after (W.steps writer.old)).assumed }
     ensures assumes { OnOk result (IntroducesAssumptions variables.old variables.new (W.steps writer.old)
         (W.steps writer.new) lits.now asked.new) }

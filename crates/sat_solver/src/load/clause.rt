@@ -2,14 +2,14 @@
 ghost use Rattle.std.specs.Prelude.{◌≡◌, true, ◌∷◌, [], map, OnOk, IfOk, IfErr};
 ghost use Rattle.sat_base.specs.script.ScriptState.{with_clause};
 ghost use Rattle.sat_base.specs.steps.Steps.{AddClause};
-ghost use Rattle.sat_solver.specs.load.Literals.{NoWitness, SameLiterals, user_literal, Images, MapsClause};
-ghost use Rattle.sat_solver.specs.load.Clauses.{IntroducesClause, LeavesOut};
+ghost use Rattle.sat_solver.specs.load.Literals.{HaveNoWitness, SameLiterals, user_literal, AreImages, MapsClause};
+ghost use Rattle.sat_solver.specs.load.Clauses.{IntroducesClause, OmitsClause};
 ghost use Rattle.sat_checker.specs.matching.Expected.{Adds};
-ghost use Rattle.sat_solver.specs.variables.Calls.{NamesInvariant, NamesEffect};
+ghost use Rattle.sat_solver.specs.variables.Calls.{NamesInvariant, ChangesScriptState};
 ghost use Rattle.sat_solver.specs.variables.Variables.{VariablesInvariant};
 ghost use Rattle.sat_solver.specs.session.Session.{session_after};
 ghost use Rattle.sat_checker.specs.LiteralSets.{is_tautology};
-ghost use Rattle.sat_solver.specs.variables.Failing.{IsFailure, EmitsOrFails, FailsOnlyByFault};
+ghost use Rattle.sat_solver.specs.variables.NameFailures.{IsFailure, EmitsOrFails, FailsOnlyByFault};
 ghost use Rattle.sat_solver.specs.variables.VariableRoom.{user_vars_in};
 
 use crate::load::literals::{MappedLits, solver_from_user_lits};
@@ -32,7 +32,7 @@ fn write_clause<W: StepLog>(
     requires valid { NamesInvariant _variables.now (W.steps writer.old) }
     requires keeps { W.keeps writer.old }
     requires literals { SameLiterals _variables.now _user.now clause.now }
-    ensures does { OnOk result (NamesEffect _variables.now _variables.now (W.steps writer.old) (W.steps writer.new)
+    ensures does { OnOk result (ChangesScriptState _variables.now _variables.now (W.steps writer.old) (W.steps writer.new)
         (with_clause (map user_literal _user.now)) (λ j. Adds (map user_literal _user.now) ∷ [])) }
     ensures step { OnOk result (W.steps writer.new ≡ AddClause clause.now ∷ W.steps writer.old) }
     ensures fails { IfErr result IsFailure }
@@ -51,7 +51,7 @@ fn map_clause(
     taken: &mut MappedLits,
 ) -> Result<bool, NameError>
     requires tidy { VariablesInvariant variables.now }
-    requires images { Images variables.now _user.now taken.old.order.items }
+    requires images { AreImages variables.now _user.now taken.old.order.items }
     ensures maps { OnOk result (MapsClause variables.now taken.new) }
     ensures signs { IfOk result (λ both. both ≡ is_tautology taken.new.order.items) }
     ensures order { taken.new.order ≡ taken.old.order }
@@ -73,7 +73,7 @@ pub fn add_clause<W: StepLog>(
 ) -> Result<bool, NameError>
     requires valid { NamesInvariant variables.old (W.steps writer.old) }
     requires keeps { W.keeps writer.old }
-    requires sampled { NoWitness variables.old lits.now }
+    requires sampled { HaveNoWitness variables.old lits.now }
     ensures adds { IfOk result (IntroducesClause variables.old variables.new (W.steps writer.old) (W.steps writer.new)
         lits.now taken.new) }
     ensures room { FailsOnlyByFault result variables.old (user_vars_in lits.now) }
@@ -95,7 +95,7 @@ pub fn leave_out_clause<W: StepLog>(
     requires valid { NamesInvariant variables.old (W.steps writer.old) }
     requires keeps { W.keeps writer.old }
     requires unsat { (session_after (W.steps writer.old)).unsat ≡ true }
-    ensures leaves { OnOk result (LeavesOut variables.old variables.new (W.steps writer.old) (W.steps writer.new)
+    ensures leaves { OnOk result (OmitsClause variables.old variables.new (W.steps writer.old) (W.steps writer.new)
         lits.now) }
     ensures room { FailsOnlyByFault result variables.old (user_vars_in lits.now) }
     ensures keeps { OnOk result (W.keeps writer.new) }

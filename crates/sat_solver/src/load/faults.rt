@@ -5,9 +5,9 @@ use crate::variables::error::NameError;
 
 impl From<NameError> for Fault {
     ghost use Rattle.std.specs.Prelude.{◌≡◌};
-    ghost use Rattle.sat_solver.specs.load.Faults.{reported_as};
+    ghost use Rattle.sat_solver.specs.load.Faults.{error_of_name_call};
 
-    ghost from_gives = { λ n e. e ≡ reported_as n };
+    ghost from_gives = { λ n e. e ≡ error_of_name_call n };
 
     fn from(error: NameError) -> Fault {
         match error {

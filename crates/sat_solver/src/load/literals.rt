@@ -2,7 +2,7 @@
 ghost use Rattle.std.specs.Prelude.{◌≡◌, [], OnOk};
 ghost use Rattle.sat_solver.specs.load.Literals.{IntroducesLiterals};
 ghost use Rattle.sat_solver.specs.variables.Calls.{NamesInvariant};
-ghost use Rattle.sat_solver.specs.variables.Failing.{EmitsOrFails, FailsOnlyByFault};
+ghost use Rattle.sat_solver.specs.variables.NameFailures.{EmitsOrFails, FailsOnlyByFault};
 ghost use Rattle.sat_solver.specs.variables.VariableRoom.{user_vars_in};
 
 use crate::variables::Variables;

@@ -2,9 +2,10 @@
 //! of proofs.
 ghost use Rattle.std.specs.Prelude.{◌≡◌, [], OnOk};
 ghost use Rattle.sat_base.specs.steps.StepViews.{step_of};
-ghost use Rattle.sat_checker.specs.CheckerView.{seen_of};
+ghost use Rattle.sat_checker.specs.CheckerView.{view_of};
 ghost use Rattle.sat_checker.specs.listeners.ProcessingView.{listeners_of};
-ghost use Rattle.sat_solver.specs.proof.Checked.{is_end, IsFed, TakesStep, TakesWidth, TakesDelayed, FeedsOwnChecker};
+ghost use Rattle.sat_solver.specs.proof.Checked.{is_end, IsFed, AcceptsStepOrFails, ReceivesWidthOrFails};
+ghost use Rattle.sat_solver.specs.proof.Checked.{SettlesOrFails, FeedsOwnChecker};
 ghost use Rattle.sat_solver.specs.proof.Checked.{AddsOwnListener, CheckerRestarts, listeners_of_checked};
 ghost use Rattle.sat_solver.specs.proof.Widths.{narrowed, KeepsWidth};
 
@@ -43,7 +44,7 @@ fn feed<P: ProofProcessor>(
     checker: &mut Checker<P, Nobody>,
     step: &ProofStep<'_>,
 ) -> Result<(), CheckerError>
-    ensures { FeedsOwnChecker P.takes result (seen_of checker.old) (step_of step.now) (seen_of checker.new) }
+    ensures { FeedsOwnChecker P.takes result (view_of checker.old) (step_of step.now) (view_of checker.new) }
 {
     checker.self_check_step(step)
 }
@@ -68,7 +69,7 @@ impl<P: ProofProcessor> Checked<P> {
 
     /// Sets the checker's width to `bits`, if this changes the width.
     fn take_width(&mut self, bits: HashBits) -> Result<(), CheckerError>
-        ensures takes { TakesWidth P.takes result self.old self.new }
+        ensures takes { ReceivesWidthOrFails P.takes result self.old self.new }
         ensures bits { OnOk result (self.new.bits ≡ bits) }
     {
         if self.bits.get() == bits.get() {
@@ -94,7 +95,7 @@ impl<P: ProofProcessor> Checked<P> {
     ) -> Result<(), CheckerError>
         requires width { KeepsWidth (step_of step.now) }
         requires cut { step_of cut.now ≡ narrowed bits (step_of step.now) }
-        ensures takes { TakesStep P.takes result self.old (step_of step.now) self.new }
+        ensures takes { AcceptsStepOrFails P.takes result self.old (step_of step.now) self.new }
         ensures bits { OnOk result (self.new.bits ≡ bits) }
     {
         self.take_width(bits)?;
@@ -106,7 +107,7 @@ impl<P: ProofProcessor> Checked<P> {
 
     /// If a unit conflict is pending, gives its empty clause an id.
     pub fn take_delayed(&mut self) -> Result<(), CheckerError>
-        ensures takes { TakesDelayed P.takes result self.old self.new }
+        ensures takes { SettlesOrFails P.takes result self.old self.new }
         ensures bits { self.new.bits ≡ self.old.bits }
     {
         self.checker.self_check_delayed_steps()

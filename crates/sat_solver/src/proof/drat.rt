@@ -2,7 +2,8 @@
 ghost use Rattle.std.specs.Prelude.{◌≡◌, ◌++◌, [], ◌∷◌, OnOk, codes, decimal, if◌then◌else◌};
 ghost use Rattle.sat_base.specs.dimacs.DimacsText.{clause_line};
 ghost use Rattle.sat_base.specs.steps.StepViews.{step_of};
-ghost use Rattle.sat_solver.specs.proof.DratText.{bytes_line, mark, clause_text, unit_lines, lines_text};
+ghost use Rattle.sat_solver.specs.proof.DratText.{binary_clause_bytes, line_prefix, clause_text, unit_lines};
+ghost use Rattle.sat_solver.specs.proof.DratText.{drat_lines_text};
 ghost use Rattle.sat_solver.specs.proof.DratText.{drat_text};
 
 use sat_base::{ClauseHash, Lit, ProofStep, push_decimal, push_leb128};
@@ -33,7 +34,7 @@ fn put_words(text: &mut Vec<u8>, lits: &[Lit]) -> Result<(), AllocError>
 
 /// Appends a clause in binary: the code of each literal plus two, in LEB128, and finally a zero byte.
 fn put_bytes(text: &mut Vec<u8>, lits: &[Lit]) -> Result<(), AllocError>
-    ensures { OnOk result (text.new.items ≡ text.old.items ++ bytes_line lits.now) }
+    ensures { OnOk result (text.new.items ≡ text.old.items ++ binary_clause_bytes lits.now) }
 {
     for lit in lits {
         push_leb128(text, lit.code() as u64 + 2)?;
@@ -44,7 +45,7 @@ fn put_bytes(text: &mut Vec<u8>, lits: &[Lit]) -> Result<(), AllocError>
 
 /// Appends the mark at the start of the line for a deleted or derived clause, if the line has one.
 fn put_mark(text: &mut Vec<u8>, binary: bool, deleted: bool) -> Result<(), AllocError>
-    ensures { OnOk result (text.new.items ≡ text.old.items ++ mark binary deleted) }
+    ensures { OnOk result (text.new.items ≡ text.old.items ++ line_prefix binary deleted) }
 {
     match (binary, deleted) {
         (false, false) => Ok(()),
@@ -56,7 +57,7 @@ fn put_mark(text: &mut Vec<u8>, binary: bool, deleted: bool) -> Result<(), Alloc
 
 /// Appends one line: the mark, and the clause.
 fn put_line(text: &mut Vec<u8>, binary: bool, deleted: bool, lits: &[Lit]) -> Result<(), AllocError>
-    ensures { OnOk result (text.new.items ≡ text.old.items ++ (mark binary deleted ++ clause_text binary lits.now)) }
+    ensures { OnOk result (text.new.items ≡ text.old.items ++ (line_prefix binary deleted ++ clause_text binary lits.now)) }
 {
     put_mark(text, binary, deleted)?;
     if binary {
@@ -71,7 +72,7 @@ fn put_units(
     binary: bool,
     units: &[(Lit, ClauseHash)],
 ) -> Result<(), AllocError>
-    ensures { OnOk result (text.new.items ≡ text.old.items ++ lines_text binary (unit_lines units.now)) }
+    ensures { OnOk result (text.new.items ≡ text.old.items ++ drat_lines_text binary (unit_lines units.now)) }
 {
     for unit in units {
         put_line(text, binary, false, &[unit.0])?;

@@ -1,7 +1,7 @@
 //! All steps that a solver has made, and its own checker, which receives them as they are made.
 ghost use Rattle.std.specs.Prelude.{ℕ, ◌≡◌, ◌∷◌, [], true, false, OnOk};
 ghost use Rattle.sat_base.specs.steps.StepViews.{step_of};
-ghost use Rattle.sat_solver.specs.proof.Checked.{has_begun, cause_in, FedUnless, IsCause};
+ghost use Rattle.sat_solver.specs.proof.Checked.{has_begun, fault_of_failure, FedUnless, IsCheckerFailure};
 ghost use Rattle.sat_solver.specs.proof.ListenerErrors.{IsListenerError};
 ghost use Rattle.sat_solver.specs.session.Session.{AreAllowedSteps};
 ghost use Rattle.sat_solver.specs.proof.Widths.{narrowed, KeepsWidth};
@@ -29,9 +29,9 @@ pub enum CheckFault {
 }
 
 /// Returns why a checker failed. The checker must not have rejected a step. A listener's error is moved to `complaint`.
-fn keep_cause(complaint: &mut Option<anyhow::Error>, error: CheckerError) -> CheckFault
-    requires { IsCause error }
-    ensures fault { result ≡ cause_in error }
+fn store_cause(complaint: &mut Option<anyhow::Error>, error: CheckerError) -> CheckFault
+    requires { IsCheckerFailure error }
+    ensures fault { result ≡ fault_of_failure error }
     ensures kept { IsListenerError result complaint.new }
 {
     match error {
@@ -143,7 +143,7 @@ impl<P: ProofProcessor> EmittedSteps<P> {
             }
             Err(error) => {
                 self.lost = true;
-                Err(keep_cause(&mut self.complaint, error))
+                Err(store_cause(&mut self.complaint, error))
             }
         }
     }
@@ -211,7 +211,7 @@ impl<P: ProofProcessor> EmittedSteps<P> {
                 Ok(()) => Ok(()),
                 Err(error) => {
                     self.lost = true;
-                    Err(keep_cause(&mut self.complaint, error))
+                    Err(store_cause(&mut self.complaint, error))
                 }
             },
         }
@@ -237,7 +237,7 @@ impl<P: ProofProcessor> EmittedSteps<P> {
                     Ok(()) => Ok(()),
                     Err(error) => {
                         self.lost = true;
-                        Err(keep_cause(&mut self.complaint, error))
+                        Err(store_cause(&mut self.complaint, error))
                     }
                 }
             }

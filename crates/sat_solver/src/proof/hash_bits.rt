@@ -1,9 +1,10 @@
 //! The width of the hashes in a proof, which depends on the number of clauses.
 ghost use Rattle.std.specs.Prelude.{◌≡◌, ◌≤◌, ◌/◌, ◌^◌, ◌&&◌, not};
 ghost use Rattle.sat_base.specs.steps.StepViews.{step_of};
-ghost use Rattle.sat_solver.specs.proof.Counting.{nothing_counted, one_more_if, one_less_if, count_after, too_short};
+ghost use Rattle.sat_solver.specs.proof.Counting.{nothing_counted, with_clause_counted, with_clause_uncounted};
+ghost use Rattle.sat_solver.specs.proof.Counting.{count_after, too_short};
 ghost use Rattle.sat_solver.specs.proof.Counting.{too_long};
-ghost use Rattle.sat_solver.specs.proof.Counting.{widened_bits, shortened, fitting, counted};
+ghost use Rattle.sat_solver.specs.proof.Counting.{widened_bits, narrowed_bits, fitting_bits, counting_after};
 
 use sat_base::{HashBits, Lit, ProofStep};
 
@@ -34,7 +35,7 @@ fn of_bits(bits: u32) -> HashBits
 
 /// Returns the number of clauses after `clause` is added. Only clauses of two or more literals are counted.
 fn with_clause(clauses: u64, clause: &[Lit]) -> u64
-    ensures { result ≡ one_more_if clause.now clauses }
+    ensures { result ≡ with_clause_counted clause.now clauses }
 {
     if clause.len() < 2 {
         return clauses;
@@ -44,7 +45,7 @@ fn with_clause(clauses: u64, clause: &[Lit]) -> u64
 
 /// Returns the number of clauses after `clause` is deleted. Only clauses of two or more literals are counted.
 fn without_clause(clauses: u64, clause: &[Lit]) -> u64
-    ensures { result ≡ one_less_if clause.now clauses }
+    ensures { result ≡ with_clause_uncounted clause.now clauses }
 {
     if clause.len() < 2 {
         return clauses;
@@ -118,7 +119,7 @@ fn widen(clauses: u64, from: u32) -> u32
 /// Returns the width `from`, reduced by two bits at a time while it is greater than `clauses` clauses need.
 fn shorten(clauses: u64, from: u32) -> u32
     requires { from ≤ 64 }
-    ensures value { result ≡ shortened 32 clauses from }
+    ensures value { result ≡ narrowed_bits 32 clauses from }
     ensures bound { result ≤ 64 }
 {
     let mut bits = from;
@@ -143,7 +144,7 @@ fn fits(solving: bool, clauses: u64, bits: u32) -> bool
 /// is true.
 #[inline(always)]
 fn fit(solving: bool, clauses: u64, from: HashBits) -> HashBits
-    ensures { result ≡ fitting solving clauses from }
+    ensures { result ≡ fitting_bits solving clauses from }
 {
     if fits(solving, clauses, from.get()) {
         return from;
@@ -170,7 +171,7 @@ impl Counting {
     /// Returns the counts after `step`, with the width at which the step is written.
     #[inline(always)]
     pub fn with(&self, step: &ProofStep<'_>) -> Counting
-        ensures { result ≡ counted (step_of step.now) self.now }
+        ensures { result ≡ counting_after (step_of step.now) self.now }
     {
         let clauses = count(self.clauses, step);
         Counting {

@@ -9,9 +9,9 @@ ghost use Rattle.sat_solver.specs.session.LiveClauses.{with_var};
 ghost use Rattle.sat_solver.specs.analyze_conflict.Derivation.{clause_of};
 ghost use Rattle.sat_parts.specs.parts.Whole.{state};
 ghost use Rattle.sat_solver.specs.session.TrailUnits.{written_units};
-ghost use Rattle.sat_solver.specs.session.WritingUnits.{IsOrderly};
+ghost use Rattle.sat_solver.specs.session.WritingUnits.{IsReadyForUnits};
 ghost use Rattle.sat_solver.specs.session.Naming.{global_of_index, ReasonsAreStored, ReasonsHaveLiterals};
-ghost use Rattle.sat_solver.specs.session.FitLaws.{named_hashes};
+ghost use Rattle.sat_solver.specs.session.MatchingLaws.{named_hashes};
 
 use sat_base::{ClauseHash, Lit, Var, lit_hash};
 use sat_parts::{CauseLits, Conflict, Reason, SearchState};
@@ -143,7 +143,7 @@ pub fn collect_units(
     globals: &[Var],
     units: &mut Vec<(Lit, ClauseHash)>,
 ) -> Result<(), AllocError>
-    requires orderly { IsOrderly parts.now }
+    requires orderly { IsReadyForUnits parts.now }
     requires names { length parts.now.assignment.current ≤ length globals.now }
     ensures { OnOk result (units.new.items ≡ written_units parts.now.clauses (state parts.now) 64
         (global_of_index globals.now) parts.now.trail.lits) }

@@ -4,7 +4,7 @@ ghost use Rattle.sat_base.specs.steps.StepViews.{step_of};
 ghost use Rattle.sat_base.specs.steps.StepWriting.{steps_sink};
 ghost use Rattle.sat_solver.specs.declared.proof.format.ProofFormat.TheVariants.{Varisat};
 ghost use Rattle.sat_solver.specs.proof.Counting.{width_change};
-ghost use Rattle.sat_solver.specs.proof.OutputView.{PutsSteps, SendsSteps};
+ghost use Rattle.sat_solver.specs.proof.OutputView.{WritesToSink, SinkReceivesSteps};
 
 use crate::proof::output::OutputError;
 use sat_base::{CountedWrite, HashBits, ProofStep, StepWriter};
@@ -15,7 +15,7 @@ fn write_width<W: CountedWrite>(
     before: HashBits,
     now: HashBits,
 ) -> Result<(), OutputError>
-    ensures { PutsSteps Varisat result (width_change before now) (steps_sink W.seen writer.old)
+    ensures { WritesToSink Varisat result (width_change before now) (steps_sink W.seen writer.old)
         (steps_sink W.seen writer.new) }
 {
     if before.get() == now.get() {
@@ -35,7 +35,7 @@ pub fn try_write_at<W: CountedWrite>(
     widths: (HashBits, HashBits),
     step: &ProofStep<'_>,
 ) -> bool
-    ensures sends { result ≡ true → SendsSteps Varisat (step_of step.now ∷ width_change widths.0 widths.1)
+    ensures sends { result ≡ true → SinkReceivesSteps Varisat (step_of step.now ∷ width_change widths.0 widths.1)
         (steps_sink W.seen writer.old) (steps_sink W.seen writer.new) }
     ensures stays { result ≡ false → writer.new ≡ writer.old }
 {
@@ -53,7 +53,7 @@ pub fn write_at<W: CountedWrite>(
     widths: (HashBits, HashBits),
     step: &ProofStep<'_>,
 ) -> Result<(), OutputError>
-    ensures { PutsSteps Varisat result (step_of step.now ∷ width_change widths.0 widths.1)
+    ensures { WritesToSink Varisat result (step_of step.now ∷ width_change widths.0 widths.1)
         (steps_sink W.seen writer.old) (steps_sink W.seen writer.new) }
 {
     let (before, now) = widths;

@@ -1,10 +1,11 @@
 //! Where the text of a proof is written.
 ghost use Rattle.std.specs.Prelude.{◌≡◌, ◌∷◌, true, false};
-ghost use Rattle.sat_base.specs.device.Sink.{Flushes, empty_sink};
+ghost use Rattle.sat_base.specs.device.Sink.{FlushesSink, empty_sink};
 ghost use Rattle.sat_base.specs.steps.StepViews.{step_of};
 ghost use Rattle.sat_solver.specs.proof.Counting.{width_change};
-ghost use Rattle.sat_solver.specs.proof.OutputView.{is_lines, output_format, output_sink, PutsLines, PutsSteps};
-ghost use Rattle.sat_solver.specs.proof.OutputView.{SendsSteps};
+ghost use Rattle.sat_solver.specs.proof.OutputView.{is_drat_format, output_format, output_sink, WritesLines};
+ghost use Rattle.sat_solver.specs.proof.OutputView.{WritesToSink};
+ghost use Rattle.sat_solver.specs.proof.OutputView.{SinkReceivesSteps};
 
 use crate::proof::drat::put_step;
 use crate::proof::format::ProofFormat;
@@ -58,7 +59,7 @@ impl<W: CountedWrite> DratWriter<W> {
     /// Writes the lines of a step, which are assembled in `text`.
     fn write(&mut self, text: &mut Vec<u8>, step: &ProofStep<'_>) -> Result<(), OutputError>
         ensures binary { self.new.binary ≡ self.old.binary }
-        ensures puts { PutsLines self.old.binary result (step_of step.now) (W.seen self.old.writer)
+        ensures puts { WritesLines self.old.binary result (step_of step.now) (W.seen self.old.writer)
             (W.seen self.new.writer) }
     {
         text.clear();
@@ -96,7 +97,7 @@ impl<W: CountedWrite> ProofOutput<W> {
 
     /// Returns `true` if DRAT lines are written.
     pub fn is_drat(&self) -> bool
-        ensures { result ≡ is_lines (output_format self.now) }
+        ensures { result ≡ is_drat_format (output_format self.now) }
     {
         match self {
             ProofOutput::Steps(_) => false,
@@ -114,7 +115,7 @@ impl<W: CountedWrite> ProofOutput<W> {
         step: &ProofStep<'_>,
     ) -> Result<(), OutputError>
         ensures format { output_format self.new ≡ output_format self.old }
-        ensures puts { PutsSteps (output_format self.old) result (step_of step.now ∷ width_change widths.0 widths.1)
+        ensures puts { WritesToSink (output_format self.old) result (step_of step.now ∷ width_change widths.0 widths.1)
             (output_sink W.seen self.old) (output_sink W.seen self.new) }
     {
         match self {
@@ -128,7 +129,7 @@ impl<W: CountedWrite> ProofOutput<W> {
     #[inline(always)]
     pub fn try_write(&mut self, widths: (HashBits, HashBits), step: &ProofStep<'_>) -> bool
         ensures format { output_format self.new ≡ output_format self.old }
-        ensures sends { result ≡ true → SendsSteps (output_format self.old)
+        ensures sends { result ≡ true → SinkReceivesSteps (output_format self.old)
             (step_of step.now ∷ width_change widths.0 widths.1) (output_sink W.seen self.old) (output_sink W.seen self.new) }
         ensures stays { result ≡ false → self.new ≡ self.old }
     {
@@ -141,7 +142,7 @@ impl<W: CountedWrite> ProofOutput<W> {
     /// Writes pending bytes, and flushes the writer.
     pub fn flush(&mut self) -> io::Result<()>
         ensures format { output_format self.new ≡ output_format self.old }
-        ensures flushes { Flushes result (output_sink W.seen self.old) (output_sink W.seen self.new) }
+        ensures flushes { FlushesSink result (output_sink W.seen self.old) (output_sink W.seen self.new) }
     {
         match self {
             ProofOutput::Steps(writer) => writer.flush(),

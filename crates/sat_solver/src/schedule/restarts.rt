@@ -1,6 +1,6 @@
 //! When restarts are due.
 ghost use Rattle.std.specs.Prelude.{◌≡◌, ◌+◌, ◌-◌, ◌^◌, min};
-ghost use Rattle.sat_store.specs.schedule.Luby.{luby, wrapped_number};
+ghost use Rattle.sat_store.specs.schedule.Luby.{luby, wrapped_term_number};
 ghost use Rattle.sat_solver.specs.schedule.Gaps.{gap_end};
 
 use sat_store::LubySequence;
@@ -18,7 +18,7 @@ pub struct Restarts {
 
 /// Counts a restart before round `round`, and determines when the next restart is due.
 pub fn begin_gap(restarts: &mut Restarts, round: u64)
-    ensures given { restarts.new.sequence ≡ wrapped_number (restarts.old.sequence + 1) }
+    ensures given { restarts.new.sequence ≡ wrapped_term_number (restarts.old.sequence + 1) }
     ensures scale { restarts.new.scale ≡ restarts.old.scale }
     ensures next { restarts.new.next ≡ gap_end round (luby (restarts.old.sequence + 1)) restarts.old.scale }
     ensures count { restarts.new.count ≡ min (restarts.old.count + 1) (2 ^ 64 - 1) }

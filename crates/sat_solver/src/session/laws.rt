@@ -3,10 +3,10 @@ ghost use Rattle.sat_solver.specs.session.Promises.{CoresAreRight, AllowedIsAcce
 ghost use Rattle.sat_solver.specs.session.Promises.{SessionsAreAccepted};
 ghost use Rattle.sat_solver.specs.session.Promises.{UnsatIsRight};
 ghost use Rattle.sat_solver.specs.proof.Checked.{NeverFailsWithoutListeners};
-ghost use Rattle.sat_solver.specs.proof.Drat.{DratIsRight};
-ghost use Rattle.sat_solver.specs.session.Due.{WidthsKeepOrder};
+ghost use Rattle.sat_solver.specs.proof.Drat.{DratIsCorrect};
+ghost use Rattle.sat_solver.specs.session.OrderedSteps.{WidthsKeepOrder};
 ghost use Rattle.sat_solver.specs.session.NamedMeaning.{NamedCoresAreRight, NamedModelsAreRight, NamedUnsatIsRight};
-ghost use Rattle.sat_solver.specs.session.NamedMeaning.{NoneHiddenMeans};
+ghost use Rattle.sat_solver.specs.session.NamedMeaning.{NeverHiddenMeans};
 ghost use Rattle.sat_solver.specs.proof.ProofRows.{CountRow, LineRows, WidthRows};
 ghost use Rattle.sat_solver.specs.proof.ProofTexts.{BrokenIsPrefix, ClosedIsText, TruncationsAreAllowed};
 ghost use Rattle.sat_solver.specs.session.SessionRows.{CollidingIsAllowed, HiddenIsAllowed};
@@ -43,13 +43,14 @@ pub fn never_fails_without_listeners<P: ProofProcessor>()
     faults_come_from_listeners::<P, Nobody>();
 }
 
-/// Worked examples: derived clauses whose hashes collide, and a hidden variable that is deleted before a model.
+/// Gives worked examples: derived clauses whose hashes collide, and a hidden variable that is deleted before a model.
 pub fn rows_of_sessions()
     ensures colliding { CollidingIsAllowed }
     ensures hidden { HiddenIsAllowed }
 {}
 
-/// States what answers mean for a script's names if the steps mean what its accepted clauses mean.
+/// States that models, cores and a recorded `unsat` give correct answers for a script's names, if the steps mean what
+/// the script's accepted clauses mean.
 pub fn named_answers_are_right()
     ensures models { NamedModelsAreRight }
     ensures cores { NamedCoresAreRight }
@@ -57,8 +58,8 @@ pub fn named_answers_are_right()
 {}
 
 /// States that the steps mean what the accepted clauses mean if no name has ever been hidden.
-pub fn plain_steps_mean_clauses()
-    ensures { NoneHiddenMeans }
+pub fn never_hidden_means_clauses()
+    ensures { NeverHiddenMeans }
 {}
 
 /// States what the target of a proof has received since it was opened.
@@ -73,10 +74,10 @@ pub fn targets_take_texts()
 /// States that the DRAT lines of allowed steps are a derivation. Once the steps have recorded `unsat`, unit propagation
 /// refutes the remaining clauses.
 pub fn lines_are_derived()
-    ensures { DratIsRight }
+    ensures { DratIsCorrect }
 {}
 
-/// Worked examples: widths for certain numbers of clauses, the counting of a step, and DRAT lines.
+/// Gives worked examples: widths for certain numbers of clauses, the counting of a step, and DRAT lines.
 pub fn rows_of_proofs()
     ensures widths { WidthRows }
     ensures count { CountRow }

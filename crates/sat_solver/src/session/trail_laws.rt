@@ -9,6 +9,6 @@ pub fn complete_is_model()
 {}
 
 /// States that the units of a trail at level 0 may be written in the order of the trail.
-pub fn trail_units_may()
+pub fn trail_units_are_allowed()
     ensures { TrailUnitsAreAllowed }
 {}

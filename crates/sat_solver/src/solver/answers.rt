@@ -1,8 +1,9 @@
 //! The model or the core of the last answer.
 ghost use Rattle.std.specs.Prelude.{◌≡◌, false, IfOk, IfErr, MatchOption};
 ghost use Rattle.sat_solver.specs.declared.error.SolverError.TheVariants as errors;
-ghost use Rattle.sat_solver.specs.solver.Answers.{EngineHasNone, EngineHasNoCore, EngineIsCore, EngineIsModel, EngineModelFails};
-ghost use Rattle.sat_solver.specs.solver.Whole.{IsSolver, engine_line};
+ghost use Rattle.sat_solver.specs.solver.Answers.{EngineHasNone, EngineHasNoCore, EngineIsCore, EngineIsModel};
+ghost use Rattle.sat_solver.specs.solver.Answers.{EngineModelFails};
+ghost use Rattle.sat_solver.specs.solver.Whole.{EngineInvariant, engine_line};
 
 use crate::SolverError;
 use crate::model::named_lits;
@@ -14,7 +15,7 @@ use sat_checker::ProofProcessor;
 impl<W: CountedWrite + Drop, P: ProofProcessor> Engine<W, P> {
     /// Returns the literals of a model, one for every name in use, in increasing order.
     fn model_lits(&self) -> Result<Vec<Lit>, SolverError>
-        requires solver { IsSolver self.now }
+        requires solver { EngineInvariant self.now }
         requires going { self.now.failed ≡ false }
         ensures line { IfOk result (λ lits. lits.items ≡ engine_line self.now) }
         ensures memory { IfErr result (λ e. e ≡ errors.OutOfMemory) }
@@ -27,7 +28,7 @@ impl<W: CountedWrite + Drop, P: ProofProcessor> Engine<W, P> {
 
     /// Returns a model, or `None` if there is none. A model has one literal for every name in use, in increasing order.
     pub fn model(&self) -> Result<Option<Vec<Lit>>, SolverError>
-        requires { IsSolver self.now }
+        requires { EngineInvariant self.now }
         ensures model { IfOk result (λ o. MatchOption o (EngineHasNone self.now) (λ lits. EngineIsModel self.now lits.items)) }
         ensures fails { IfErr result (λ e. EngineModelFails e self.now) }
     {
@@ -44,7 +45,7 @@ impl<W: CountedWrite + Drop, P: ProofProcessor> Engine<W, P> {
 
     /// Returns a list of assumptions that together contradict the clauses, or `None` if no such list is known.
     pub fn failed_core(&self) -> Option<&[Lit]>
-        requires { IsSolver self.now }
+        requires { EngineInvariant self.now }
         ensures { MatchOption result (EngineHasNoCore self.now) (λ core. EngineIsCore self.now core.now) }
     {
         if self.failed {

@@ -3,19 +3,19 @@ ghost use Rattle.std.specs.Prelude.{◌≡◌, true, false, OnOk, IfErr, IsErrOf
 ghost use Rattle.sat_solver.specs.variables.VariableRoom.{HasVariablesFor, user_vars_in};
 ghost use Rattle.sat_solver.specs.cdcl.StepEffects.{IsFault};
 ghost use Rattle.sat_base.specs.script.ScriptState.{introduce_all};
-ghost use Rattle.sat_solver.specs.load.Literals.{NoWitness};
+ghost use Rattle.sat_solver.specs.load.Literals.{HaveNoWitness};
 ghost use Rattle.sat_solver.specs.variables.Refusing.{names_in};
 ghost use Rattle.sat_solver.specs.declared.state.SatState.TheVariants.{Unsat};
-ghost use Rattle.sat_solver.specs.solver.Adding.{EngineAssumesOrRefuses, EngineIsDrat, due_for_asked};
+ghost use Rattle.sat_solver.specs.solver.Adding.{EngineAssumesOrRefuses, EngineIsDrat, due_for_assumptions};
 ghost use Rattle.sat_solver.specs.solver.Asking.{SetAssumptionsResult};
-ghost use Rattle.sat_solver.specs.solver.View.{has_failed};
-ghost use Rattle.sat_solver.specs.solver.Whole.{IsSolver, SolverInvariant};
+ghost use Rattle.sat_solver.specs.solver.View.{engine_has_failed};
+ghost use Rattle.sat_solver.specs.solver.Whole.{EngineInvariant, SolverInvariant};
 
 use crate::SolverError;
 use crate::cdcl::fault::{Fault, FaultKind};
 use crate::load::assume::assume;
 use crate::solver::Engine;
-use crate::solver::load::take_assumptions;
+use crate::solver::load::set_assumptions_in_search;
 use crate::state::SatState;
 use crate::variables::refuse::leftmost_witness;
 use crate::variables::room::has_room;
@@ -28,7 +28,7 @@ impl<W: CountedWrite + Drop, P: ProofProcessor> Engine<W, P> {
     fn ask_known(&mut self, lits: &[Lit]) -> Result<(), Fault>
         requires whole { SolverInvariant self.old }
         requires unsat { self.old.state ≡ Unsat }
-        requires sampled { NoWitness self.old.names lits.now }
+        requires sampled { HaveNoWitness self.old.names lits.now }
         ensures asks { SetAssumptionsResult W.seen result self.old self.new lits.now }
         ensures room { HasVariablesFor self.old.names (user_vars_in lits.now) → IfErr result IsFault }
         ensures clock { self.new.clock ≡ self.old.clock }
@@ -45,7 +45,7 @@ impl<W: CountedWrite + Drop, P: ProofProcessor> Engine<W, P> {
     /// Accepts the assumptions `lits`, none of whose names may have the mode witness.
     fn ask(&mut self, lits: &[Lit]) -> Result<(), Fault>
         requires whole { SolverInvariant self.old }
-        requires sampled { NoWitness self.old.names lits.now }
+        requires sampled { HaveNoWitness self.old.names lits.now }
         ensures asks { SetAssumptionsResult W.seen result self.old self.new lits.now }
         ensures room { HasVariablesFor self.old.names (user_vars_in lits.now) → IfErr result IsFault }
         ensures clock { self.new.clock ≡ self.old.clock }
@@ -56,17 +56,17 @@ impl<W: CountedWrite + Drop, P: ProofProcessor> Engine<W, P> {
             SatState::Sat => {}
             SatState::UnsatUnderAssumptions => {}
         }
-        take_assumptions(&mut self.context, &mut self.names, lits, &mut self.asked)?;
+        set_assumptions_in_search(&mut self.context, &mut self.names, lits, &mut self.asked)?;
         self.state = SatState::Unknown;
         Ok(())
     }
 
     /// Replaces the assumptions with `lits`, and introduces the names in `lits` from left to right.
     pub fn assume(&mut self, lits: &[Lit]) -> Result<(), SolverError>
-        requires { IsSolver self.old }
-        ensures solver { IsSolver self.new }
+        requires { EngineInvariant self.old }
+        ensures solver { EngineInvariant self.new }
         ensures assumes { EngineAssumesOrRefuses W.seen result self.old self.new lits.now }
-        ensures drat { has_failed self.old ≡ false → EngineIsDrat W.seen self.old → IsErrOf result SolverError.NotInDrat }
+        ensures drat { engine_has_failed self.old ≡ false → EngineIsDrat W.seen self.old → IsErrOf result SolverError.NotInDrat }
     {
         if self.failed {
             return Err(SolverError::HasFailed);

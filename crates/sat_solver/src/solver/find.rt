@@ -1,17 +1,19 @@
 //! Runs rounds until there is an answer, and writes the step for the answer.
 ghost use Rattle.std.specs.Prelude.{◌≡◌, ◌<◌, IfOk, IfErr};
-ghost use Rattle.sat_solver.specs.schedule.Counting.{AnswersWithin, CountsOn, SpendsRounds, TakesRound};
+ghost use Rattle.sat_solver.specs.schedule.Counting.{AnswersWithin, RoundsAreBounded, NoAnswerTakesRounds};
+ghost use Rattle.sat_solver.specs.schedule.Counting.{AnswerTakesRound};
 ghost use Rattle.sat_solver.specs.schedule.Counting.{round_allowance};
-ghost use Rattle.sat_solver.specs.schedule.Solving.{values_in};
+ghost use Rattle.sat_solver.specs.schedule.Solving.{search_var_count};
 ghost use Rattle.sat_solver.specs.solver.Joined.{NamesSearchInvariant};
-ghost use Rattle.sat_solver.specs.solver.Answering.{EngineBreaksOff};
-ghost use Rattle.sat_solver.specs.solver.Found.{FindsBy, OutcomeHolds, SearchedBy, ReportsOutcome, state_found};
+ghost use Rattle.sat_solver.specs.solver.Answering.{CallFailsWithStoredError};
+ghost use Rattle.sat_solver.specs.solver.Found.{ScheduleFindsAnswer, OutcomeHolds, SearchedBy, ReportsOutcome};
+ghost use Rattle.sat_solver.specs.solver.Found.{state_found};
 
 use crate::cdcl::fault::Fault;
 use crate::context::Context;
 use crate::schedule::restarts::Restarts;
 use crate::schedule::{RoundOutcome, search};
-use crate::solver::report::{fail_core, show_model};
+use crate::solver::report::{write_failed_core, write_model};
 use crate::state::SatState;
 use crate::variables::Variables;
 use sat_base::{CountedWrite, Lit};
@@ -45,11 +47,11 @@ fn report<W: CountedWrite + Drop, P: ProofProcessor>(
     match outcome {
         RoundOutcome::Learned => Ok(None),
         RoundOutcome::Model => {
-            show_model(context, names, &mut reported.model)?;
+            write_model(context, names, &mut reported.model)?;
             Ok(Some(SatState::Sat))
         }
         RoundOutcome::Failed => {
-            fail_core(context, names, &mut reported.failed_core)?;
+            write_failed_core(context, names, &mut reported.failed_core)?;
             Ok(Some(SatState::UnsatUnderAssumptions))
         }
         RoundOutcome::Unsat => Ok(Some(SatState::Unsat)),
@@ -67,17 +69,17 @@ pub fn find_answer<W: CountedWrite + Drop, P: ProofProcessor>(
     requires joined { NamesSearchInvariant names.old context.old }
     requires scale { 0 < clock.old.restarts.scale }
     ensures scale { clock.new.restarts.scale ≡ clock.old.restarts.scale }
-    ensures counts { CountsOn (values_in context.old) context.old.config.max_steps clock.old.rounds clock.new.rounds }
-    ensures round { TakesRound result clock.old.rounds clock.new.rounds }
-    ensures interrupted { SpendsRounds result (round_allowance context.old.config.max_steps clock.old.rounds) clock.old.rounds
+    ensures counts { RoundsAreBounded (search_var_count context.old) context.old.config.max_steps clock.old.rounds clock.new.rounds }
+    ensures round { AnswerTakesRound result clock.old.rounds clock.new.rounds }
+    ensures interrupted { NoAnswerTakesRounds result (round_allowance context.old.config.max_steps clock.old.rounds) clock.old.rounds
         clock.new.rounds }
-    ensures answered { AnswersWithin result (values_in context.old)
+    ensures answered { AnswersWithin result (search_var_count context.old)
         (round_allowance context.old.config.max_steps clock.old.rounds) }
-    ensures finds { IfOk result (λ r. FindsBy W.seen r clock.old clock.new names.old names.new context.old context.new
+    ensures finds { IfOk result (λ r. ScheduleFindsAnswer W.seen r clock.old clock.new names.old names.new context.old context.new
         reported.new) }
     ensures searched { IfOk result (λ r. SearchedBy W.seen (state_found r) clock.old clock.new names.old names.new
         context.old context.new reported.new.failed_core.items) }
-    ensures breaks { IfErr result (λ e. EngineBreaksOff W.seen e context.old context.new) }
+    ensures breaks { IfErr result (λ e. CallFailsWithStoredError W.seen e context.old context.new) }
 {
     let max_steps = context.config.max_steps;
     let found = search(

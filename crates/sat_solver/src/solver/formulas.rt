@@ -1,7 +1,7 @@
 //! What a fault of a formula's text means for the engine.
 ghost use Rattle.std.specs.Prelude.{◌≡◌, false};
 ghost use Rattle.sat_solver.specs.solver.Formulas.{is_solver_out_of_memory, text_fault, with_failed};
-ghost use Rattle.sat_solver.specs.solver.Whole.{IsSolver};
+ghost use Rattle.sat_solver.specs.solver.Whole.{EngineInvariant};
 
 use crate::SolverError;
 use crate::solver::Engine;
@@ -23,7 +23,7 @@ fn text_fault(error: DimacsError) -> SolverError
 }
 
 /// Returns `true` if `error` makes the solver fail, which only `OutOfMemory` does.
-fn is_want(error: DimacsError) -> bool
+fn is_out_of_memory(error: DimacsError) -> bool
     ensures { result ≡ is_solver_out_of_memory error }
 {
     match error {
@@ -48,16 +48,16 @@ impl<W: CountedWrite + Drop, P: ProofProcessor> Engine<W, P> {
         self.context.search.alloc
     }
 
-    /// Stops at an error in a formula's text, after which the solver has failed if it is `OutOfMemory`. Returns the
-    /// solver's error for it. No call may have failed.
+    /// Marks the solver as failed if `error`, an error in a formula's text, is `OutOfMemory`. Returns the solver's
+    /// error for `error`. No earlier call may have failed.
     pub fn stop_at(&mut self, error: DimacsError) -> SolverError
-        requires solver { IsSolver self.old }
+        requires solver { EngineInvariant self.old }
         requires going { self.old.failed ≡ false }
-        ensures solver { IsSolver self.new }
+        ensures solver { EngineInvariant self.new }
         ensures fault { result ≡ text_fault error }
         ensures failed { self.new ≡ with_failed (is_solver_out_of_memory error) self.old }
     {
-        self.failed = is_want(error);
+        self.failed = is_out_of_memory(error);
         text_fault(error)
     }
 }

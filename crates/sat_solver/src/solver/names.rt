@@ -1,8 +1,9 @@
 //! Introduces and hides names, and sets their modes.
 ghost use Rattle.std.specs.Prelude.{◌≡◌, ◌==◌, ◌||◌, not, length, true, false, IfOk, IfErr, OnOk};
-ghost use Rattle.sat_solver.specs.solver.Naming.{EngineHides, EngineWitnesses, EngineSamples, SetsMode, EngineNamesNew, EngineNamesFail, EngineObserved};
-ghost use Rattle.sat_solver.specs.variables.NamingSteps.{LeavesNoneIdle};
-ghost use Rattle.sat_solver.specs.solver.Whole.{IsSolver, steps_in};
+ghost use Rattle.sat_solver.specs.solver.Naming.{EngineHides, EngineWitnesses, EngineSamples, SetsMode};
+ghost use Rattle.sat_solver.specs.solver.Naming.{EngineNewNameResult, EngineObserveFails, EngineObserved};
+ghost use Rattle.sat_solver.specs.variables.NamingSteps.{LeavesNoIdleVariable};
+ghost use Rattle.sat_solver.specs.solver.Whole.{EngineInvariant, steps_in};
 ghost use Rattle.sat_solver.specs.facade.Judged.{CanBeObserved, IsObserved};
 
 use crate::SolverError;
@@ -42,10 +43,10 @@ fn is_used(used: bool, users: &[Var]) -> bool
 impl<W: CountedWrite + Drop, P: ProofProcessor> Engine<W, P> {
     /// Hides a name, which is introduced first if it is not in use.
     pub fn hide_var(&mut self, user: Var) -> Result<(), SolverError>
-        requires { IsSolver self.old }
-        ensures solver { IsSolver self.new }
+        requires { EngineInvariant self.old }
+        ensures solver { EngineInvariant self.new }
         ensures hides { EngineHides W.seen result self.old self.new user }
-        ensures gone { OnOk result (LeavesNoneIdle (steps_in self.new)) }
+        ensures gone { OnOk result (LeavesNoIdleVariable (steps_in self.new)) }
     {
         if self.failed {
             return Err(SolverError::HasFailed);
@@ -66,8 +67,8 @@ impl<W: CountedWrite + Drop, P: ProofProcessor> Engine<W, P> {
     /// Sets the mode of a name to sample if `sample` is true, and to witness otherwise. If the name is not in use, it
     /// is introduced first.
     fn set_mode(&mut self, user: Var, sample: bool) -> Result<(), SolverError>
-        requires { IsSolver self.old }
-        ensures solver { IsSolver self.new }
+        requires { EngineInvariant self.old }
+        ensures solver { EngineInvariant self.new }
         ensures sets { SetsMode W.seen result self.old self.new user sample }
     {
         if self.failed {
@@ -88,8 +89,8 @@ impl<W: CountedWrite + Drop, P: ProofProcessor> Engine<W, P> {
 
     /// Sets the mode of a name to witness. If the name is not in use, it is introduced first.
     pub fn witness_var(&mut self, user: Var) -> Result<(), SolverError>
-        requires { IsSolver self.old }
-        ensures solver { IsSolver self.new }
+        requires { EngineInvariant self.old }
+        ensures solver { EngineInvariant self.new }
         ensures witnesses { EngineWitnesses W.seen result self.old self.new user }
     {
         self.set_mode(user, false)
@@ -98,8 +99,8 @@ impl<W: CountedWrite + Drop, P: ProofProcessor> Engine<W, P> {
     /// Sets the mode of a name to sample, which is also the mode of new names. If the name is not in use, it is
     /// introduced first.
     pub fn sample_var(&mut self, user: Var) -> Result<(), SolverError>
-        requires { IsSolver self.old }
-        ensures solver { IsSolver self.new }
+        requires { EngineInvariant self.old }
+        ensures solver { EngineInvariant self.new }
         ensures samples { EngineSamples W.seen result self.old self.new user }
     {
         self.set_mode(user, true)
@@ -107,9 +108,9 @@ impl<W: CountedWrite + Drop, P: ProofProcessor> Engine<W, P> {
 
     /// Introduces a name and returns it: the lowest hidden name, or the lowest name never used if no name is hidden.
     pub fn new_var(&mut self) -> Result<Var, SolverError>
-        requires { IsSolver self.old }
-        ensures solver { IsSolver self.new }
-        ensures names { EngineNamesNew W.seen result self.old self.new }
+        requires { EngineInvariant self.old }
+        ensures solver { EngineInvariant self.new }
+        ensures names { EngineNewNameResult W.seen result self.old self.new }
     {
         if self.failed {
             return Err(SolverError::HasFailed);
@@ -131,10 +132,10 @@ impl<W: CountedWrite + Drop, P: ProofProcessor> Engine<W, P> {
 
     /// Gives a name with the mode witness to every hidden variable that is still in use. Returns the names.
     pub fn observe_internal_vars(&mut self) -> Result<Vec<Var>, SolverError>
-        requires { IsSolver self.old }
-        ensures solver { IsSolver self.new }
+        requires { EngineInvariant self.old }
+        ensures solver { EngineInvariant self.new }
         ensures observes { IfOk result (λ users. EngineObserved W.seen self.old self.new users.items) }
-        ensures fails { IfErr result (λ e. EngineNamesFail W.seen e self.old self.new) }
+        ensures fails { IfErr result (λ e. EngineObserveFails W.seen e self.old self.new) }
     {
         if self.failed {
             return Err(SolverError::HasFailed);
@@ -149,8 +150,8 @@ impl<W: CountedWrite + Drop, P: ProofProcessor> Engine<W, P> {
         }
     }
 
-    /// Returns the script state after `observe_internal_vars` returned `users`, where `judged` is the one before. There
-    /// must be one.
+    /// Returns a script state that `observe_internal_vars` leads to from `judged` if it returns `users`. Such a state
+    /// must exist.
     pub fn judge_observed(&self, judged: &Judged, users: &[Var]) -> Judged
         requires { CanBeObserved judged.now.state self.now.names (steps_in self.now) users.now }
         ensures { IsObserved judged.now.state result.state self.now.names (steps_in self.now) users.now }

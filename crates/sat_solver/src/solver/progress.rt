@@ -3,8 +3,8 @@ ghost use Rattle.std.specs.Prelude.{◌≡◌, false, slice_index_or};
 ghost use Rattle.sat_solver.specs.variables.Variables.{VariablesInvariant};
 ghost use Rattle.sat_solver.specs.solver.Progressing.{is_unassigned_at, unassigned_count, solver_unassigned_count};
 ghost use Rattle.sat_solver.specs.solver.Progressing.{EngineIsOngoing, CountsClausesIn};
-ghost use Rattle.sat_solver.specs.solver.View.{has_failed, restarts_in, rounds_in};
-ghost use Rattle.sat_solver.specs.solver.Whole.{IsSolver};
+ghost use Rattle.sat_solver.specs.solver.View.{engine_has_failed, restarts_in, rounds_in};
+ghost use Rattle.sat_solver.specs.solver.Whole.{EngineInvariant};
 
 use crate::Progress;
 use crate::solver::Engine;
@@ -46,7 +46,7 @@ impl<W: CountedWrite + Drop, P: ProofProcessor> Engine<W, P> {
     pub fn progress(&self) -> Progress
         ensures conflicts { result.conflicts ≡ rounds_in self.now }
         ensures restarts { result.restarts ≡ restarts_in self.now }
-        ensures vars { IsSolver self.now → has_failed self.now ≡ false → result.vars ≡ solver_unassigned_count self.now }
+        ensures vars { EngineInvariant self.now → engine_has_failed self.now ≡ false → result.vars ≡ solver_unassigned_count self.now }
         ensures clauses { EngineIsOngoing self.now → CountsClausesIn result self.now }
     {
         let parts = &self.context.search.parts;

@@ -1,9 +1,11 @@
 //! The proof of a solver, and where its text is written.
-ghost use Rattle.sat_solver.specs.proof.ProofView.{GivesWriter, ReturnsListeners, ReturnsNotifiedListeners, returned_writer};
+ghost use Rattle.sat_solver.specs.proof.ProofView.{ReturnsWriter, ReturnsListeners, ReturnsNotifiedListeners};
+ghost use Rattle.sat_solver.specs.proof.ProofView.{returned_writer};
 ghost use Rattle.sat_solver.specs.solver.Prefixes.{EngineReturnsAcceptedPrefix};
-ghost use Rattle.sat_solver.specs.solver.Proving.{EngineAddsProcessor, EngineEnables, EngineOpensProof, EngineClosesProof};
-ghost use Rattle.sat_solver.specs.solver.View.{proof_in, target_in};
-ghost use Rattle.sat_solver.specs.solver.Whole.{IsSolver};
+ghost use Rattle.sat_solver.specs.solver.Proving.{EngineAddsProcessor, EngineEnables, EngineOpensProof};
+ghost use Rattle.sat_solver.specs.solver.Proving.{EngineClosesProof};
+ghost use Rattle.sat_solver.specs.solver.View.{proof_in, engine_target};
+ghost use Rattle.sat_solver.specs.solver.Whole.{EngineInvariant};
 
 use crate::SolverError;
 use crate::cdcl::fault::Fault;
@@ -22,8 +24,8 @@ pub struct ReturnedParts<W, P> {
 impl<W: CountedWrite + Drop, P: ProofProcessor> Engine<W, P> {
     /// Opens a proof: all further steps are written to `target` in the format `format`.
     pub fn write_proof(&mut self, target: W, format: ProofFormat) -> Result<(), SolverError>
-        requires { IsSolver self.old }
-        ensures solver { IsSolver self.new }
+        requires { EngineInvariant self.old }
+        ensures solver { EngineInvariant self.new }
         ensures opens { EngineOpensProof W.seen result format target self.old self.new }
     {
         if self.failed {
@@ -38,8 +40,8 @@ impl<W: CountedWrite + Drop, P: ProofProcessor> Engine<W, P> {
 
     /// Starts the solver's own checker, which receives all further steps.
     pub fn enable_self_checking(&mut self) -> Result<(), SolverError>
-        requires { IsSolver self.old }
-        ensures solver { IsSolver self.new }
+        requires { EngineInvariant self.old }
+        ensures solver { EngineInvariant self.new }
         ensures enables { EngineEnables W.seen result self.old self.new }
     {
         if self.failed {
@@ -55,8 +57,8 @@ impl<W: CountedWrite + Drop, P: ProofProcessor> Engine<W, P> {
 
     /// Adds a listener to the solver's own checker, starting one if there is none.
     pub fn add_proof_processor(&mut self, processor: P) -> Result<(), SolverError>
-        requires { IsSolver self.old }
-        ensures solver { IsSolver self.new }
+        requires { EngineInvariant self.old }
+        ensures solver { EngineInvariant self.new }
         ensures adds { EngineAddsProcessor W.seen result processor self.old self.new }
     {
         if self.failed {
@@ -76,8 +78,8 @@ impl<W: CountedWrite + Drop, P: ProofProcessor> Engine<W, P> {
     /// Writes the `End` step, flushes the target and returns it. Returns `None` if no proof is open. After an error,
     /// the solver keeps the target.
     pub fn close_proof(&mut self) -> Result<Option<W>, SolverError>
-        requires { IsSolver self.old }
-        ensures solver { IsSolver self.new }
+        requires { EngineInvariant self.old }
+        ensures solver { EngineInvariant self.new }
         ensures closes { EngineClosesProof W.seen result self.old self.new }
     {
         if self.failed {
@@ -93,7 +95,7 @@ impl<W: CountedWrite + Drop, P: ProofProcessor> Engine<W, P> {
     /// target has received a prefix of the text of steps that a checker accepts, even if the solver has failed. It can
     /// have received the `End` step only if `close_proof` returned an error.
     pub fn into_target(self) -> Option<W>
-        ensures gives { GivesWriter (target_in W.seen self) (returned_writer W.seen result) }
+        ensures gives { ReturnsWriter (engine_target W.seen self) (returned_writer W.seen result) }
         ensures front { EngineReturnsAcceptedPrefix W.seen result self }
     {
         let mut solver = self;
@@ -104,7 +106,7 @@ impl<W: CountedWrite + Drop, P: ProofProcessor> Engine<W, P> {
 
     /// Returns the listeners in the order in which they were added, and the target, even after a failure.
     pub fn into_processors(self) -> ReturnedParts<W, P>
-        ensures target { GivesWriter (target_in W.seen self) (returned_writer W.seen result.target) }
+        ensures target { ReturnsWriter (engine_target W.seen self) (returned_writer W.seen result.target) }
         ensures front { EngineReturnsAcceptedPrefix W.seen result.target self }
         ensures processors { ReturnsListeners (proof_in self) result.processors.items }
         ensures whole { ReturnsNotifiedListeners (proof_in self) result.processors.items }

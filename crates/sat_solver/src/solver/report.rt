@@ -1,9 +1,9 @@
 //! Writes answers to the proof, over proof variables, and lists failed cores for the caller, over names.
 ghost use Rattle.std.specs.Prelude.{◌≡◌, OnOk, map};
 ghost use Rattle.sat_solver.specs.variables.Variables.{global_at};
-ghost use Rattle.sat_solver.specs.cdcl.Iterations.{IsComplete, IsFailing};
+ghost use Rattle.sat_solver.specs.cdcl.Iterations.{IsComplete, IsFalseAssumption};
 ghost use Rattle.sat_solver.specs.solver.Joined.{NamesSearchInvariant, lit_over_names, user_by};
-ghost use Rattle.sat_solver.specs.solver.Answering.{ShowsModel, FailsCore};
+ghost use Rattle.sat_solver.specs.solver.Answering.{WritesModelOrFails, WritesFailedCoreOrFails};
 
 use crate::assumptions::failed_core::write_core;
 use crate::cdcl::fault::Fault;
@@ -46,14 +46,14 @@ fn name_lits(names: &Variables, lits: &[Lit], named: &mut Vec<Lit>) -> Result<()
 }
 
 /// Writes the model that a search found: a literal for every proof variable in use. Stores the literals in `model`.
-pub fn show_model<W: CountedWrite + Drop, P: ProofProcessor>(
+pub fn write_model<W: CountedWrite + Drop, P: ProofProcessor>(
     context: &mut Context<W, P>,
     names: &Variables,
     model: &mut Vec<Lit>,
 ) -> Result<(), Fault>
     requires joined { NamesSearchInvariant names.now context.old }
     requires complete { IsComplete context.old.search.assumptions.lits.items context.old.search.parts }
-    ensures { ShowsModel W.seen result names.now context.old context.new }
+    ensures { WritesModelOrFails W.seen result names.now context.old context.new }
 {
     let values = context.search.parts.assignment.assignment();
     reconstruct_global_model(names, values, model)?;
@@ -64,14 +64,14 @@ pub fn show_model<W: CountedWrite + Drop, P: ProofProcessor>(
 
 /// Writes the failed core, which consists of assumptions that contradict the clauses. Lists the core over names
 /// in `failed_core`.
-pub fn fail_core<W: CountedWrite + Drop, P: ProofProcessor>(
+pub fn write_failed_core<W: CountedWrite + Drop, P: ProofProcessor>(
     context: &mut Context<W, P>,
     names: &Variables,
     failed_core: &mut Vec<Lit>,
 ) -> Result<(), Fault>
     requires joined { NamesSearchInvariant names.now context.old }
-    requires failing { IsFailing context.old.search.assumptions.lits.items context.old.search.parts context.old.search.failed }
-    ensures { FailsCore W.seen result names.now context.old context.new failed_core.new.items }
+    requires failing { IsFalseAssumption context.old.search.assumptions.lits.items context.old.search.parts context.old.search.failed }
+    ensures { WritesFailedCoreOrFails W.seen result names.now context.old context.new failed_core.new.items }
 {
     write_core(&mut context.proof, &mut context.search)?;
     name_lits(names, context.search.analysis.core(), failed_core)?;

@@ -1,9 +1,9 @@
 //! Answers asks.
 ghost use Rattle.std.specs.Prelude.{◌≡◌, OnOk};
-ghost use Rattle.sat_solver.specs.solver.Whole.{IsSolver, SolverInvariant};
+ghost use Rattle.sat_solver.specs.solver.Whole.{EngineInvariant, SolverInvariant};
 ghost use Rattle.sat_solver.specs.solver.Calls.{EngineSolves};
 ghost use Rattle.sat_solver.specs.solver.Found.{SearchedBy};
-ghost use Rattle.sat_solver.specs.solver.Settling.{AnswersOrBreaks};
+ghost use Rattle.sat_solver.specs.solver.SearchingForAnswer.{AnswersOrBreaks};
 
 use crate::SolverError;
 use crate::cdcl::fault::Fault;
@@ -15,7 +15,7 @@ use sat_checker::ProofProcessor;
 
 impl<W: CountedWrite + Drop, P: ProofProcessor> Engine<W, P> {
     /// Searches for an answer if none is known.
-    fn find_where_unknown(&mut self) -> Result<(), Fault>
+    fn find_if_unknown(&mut self) -> Result<(), Fault>
         requires whole { SolverInvariant self.old }
         ensures answers { AnswersOrBreaks W.seen result self.old self.new }
         ensures searched { OnOk result (self.old.state ≡ SatState.Unknown → SearchedBy W.seen self.new.state self.old.clock
@@ -44,8 +44,8 @@ impl<W: CountedWrite + Drop, P: ProofProcessor> Engine<W, P> {
 
     /// Returns `true` if the clauses and the assumptions can be satisfied, and `false` if they cannot.
     pub fn solve(&mut self) -> Result<bool, SolverError>
-        requires { IsSolver self.old }
-        ensures solver { IsSolver self.new }
+        requires { EngineInvariant self.old }
+        ensures solver { EngineInvariant self.new }
         ensures solves { EngineSolves W.seen result self.old self.new }
     {
         if self.failed {
@@ -53,7 +53,7 @@ impl<W: CountedWrite + Drop, P: ProofProcessor> Engine<W, P> {
         }
         self.used = true;
         self.context.proof.begin_ask();
-        if let Err(fault) = self.find_where_unknown() {
+        if let Err(fault) = self.find_if_unknown() {
             return Err(self.fail(fault));
         }
         if let Err(error) = self.context.proof.flush_proof() {

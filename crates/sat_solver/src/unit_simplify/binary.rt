@@ -6,7 +6,7 @@ ghost use Rattle.sat_solver.specs.session.SolverClauses.{pair, is_open_clause};
 ghost use Rattle.sat_solver.specs.proof.ProofView.{HasAllowedSteps, session_of};
 ghost use Rattle.sat_solver.specs.cdcl.StepEffects.{EmitsSteps};
 ghost use Rattle.sat_solver.specs.cdcl.Joint.{SearchInvariant};
-ghost use Rattle.sat_solver.specs.unit_simplify.Flat.{HasEmptyTrail, CanRemovePairs, LeavesPairs, RemovesPairs};
+ghost use Rattle.sat_solver.specs.unit_simplify.EmptyTrail.{HasEmptyTrail, CanRemovePairs, LeavesPairs, RemovesPairs};
 
 use crate::cdcl::fault::Fault;
 use crate::context::Search;
@@ -18,7 +18,7 @@ use sat_parts::SearchState;
 use sat_parts::parts::clauses::remove_binary;
 
 /// Returns `true` if neither `first` nor `second` has a value.
-fn are_open(parts: &SearchState, first: Lit, second: Lit) -> bool
+fn are_unassigned(parts: &SearchState, first: Lit, second: Lit) -> bool
     requires first { variable first < length parts.now.assignment.current }
     requires second { variable second < length parts.now.assignment.current }
     ensures { result ≡ is_open_clause parts.now.assignment.current (pair first second) }
@@ -51,7 +51,7 @@ fn delete_pair<W: CountedWrite + Drop, P: ProofProcessor>(
     if first.code() >= second.code() {
         return Ok(());
     }
-    if are_open(&search.parts, first, second) {
+    if are_unassigned(&search.parts, first, second) {
         return Ok(());
     }
     let pair = [first, second];
@@ -79,7 +79,7 @@ fn delete_pairs_of<W: CountedWrite + Drop, P: ProofProcessor>(
 }
 
 /// Removes the binary clauses that have an assigned variable. Writes the deletion of each clause once, in the order of
-/// the lists.
+/// the lists of implied literals.
 pub fn simplify_binary<W: CountedWrite + Drop, P: ProofProcessor>(
     proof: &mut Proof<W, P>,
     search: &mut Search,

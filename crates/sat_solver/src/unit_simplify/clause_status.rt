@@ -2,7 +2,7 @@
 ghost use Rattle.std.specs.Prelude.{ℕ, ◌<◌};
 ghost use Rattle.sat_parts.specs.clause.Stored.{lit_of, size_of};
 ghost use Rattle.sat_parts.specs.prop.Values.{IsTrueLit, IsUnassignedLit};
-ghost use Rattle.sat_parts.specs.parts.Whole.{SearchStateInvariant, HasClause};
+ghost use Rattle.sat_parts.specs.parts.Whole.{SearchStateInvariant, HasLongClause};
 ghost use Rattle.sat_solver.specs.unit_simplify.ClauseStatus.{HasClauseStatus};
 
 use sat_parts::SearchState;
@@ -24,7 +24,7 @@ pub enum ClauseStatus {
 #[tactic(auto, using(crate::proofs::lemmas::unit_simplify::StatusLemmas::false_from_assigned))]
 fn clause_status_from(parts: &SearchState, cref: ClauseRef, from: usize) -> ClauseStatus
     requires holds { SearchStateInvariant parts.now }
-    requires live { HasClause parts.now cref }
+    requires live { HasLongClause parts.now cref }
     requires before { (k : ℕ) → k < from → IsTrueLit parts.now.assignment.current (lit_of parts.now.clauses cref k)
         → ⊥ }
     requires within { from < size_of parts.now.clauses cref }
@@ -42,7 +42,7 @@ fn clause_status_from(parts: &SearchState, cref: ClauseRef, from: usize) -> Clau
 /// Returns the status of a clause under the current values. Reads the literals of the clause up to the first true one.
 pub fn clause_status(parts: &SearchState, cref: ClauseRef) -> ClauseStatus
     requires holds { SearchStateInvariant parts.now }
-    requires live { HasClause parts.now cref }
+    requires live { HasLongClause parts.now cref }
     ensures { HasClauseStatus result parts.now cref }
 {
     for at in 0..parts.clauses.len(cref) {

@@ -5,17 +5,17 @@ ghost use Rattle.sat_base.specs.values.Literals.{var_limit};
 ghost use Rattle.sat_solver.specs.session.Session.{session_after};
 ghost use Rattle.sat_solver.specs.variables.Variables.{solver_of, IsUnitOf, IsInNoNonUnitClause};
 ghost use Rattle.sat_solver.specs.variables.Calls.{NamesInvariant};
-ghost use Rattle.sat_solver.specs.variables.Failing.{IsFailure, EmitsOrFails};
+ghost use Rattle.sat_solver.specs.variables.NameFailures.{IsFailure, EmitsOrFails};
 ghost use Rattle.sat_parts.specs.parts.Whole.{InNoClause};
-ghost use Rattle.sat_solver.specs.unit_simplify.Freed.{FreesIndex, CanFreeIndices, FreesSome, IsIndexOfAssumed};
-ghost use Rattle.sat_solver.specs.unit_simplify.Freed.{AllLeft};
-ghost use Rattle.sat_solver.specs.unit_simplify.Freeing.{freed_below, freed_search, MarksAtMost};
+ghost use Rattle.sat_solver.specs.unit_simplify.FreedIndices.{FreesIndex, CanFreeIndices, FreesSome, IsIndexOfAssumed};
+ghost use Rattle.sat_solver.specs.unit_simplify.FreedIndices.{IndicesAreUsed};
+ghost use Rattle.sat_solver.specs.unit_simplify.FreedVars.{freed_below, freed_search, MarksAtMost};
 
 use crate::context::Search;
 use crate::variables::Variables;
 use crate::variables::error::NameError;
 use crate::variables::log::StepLog;
-use crate::variables::modes::forget_idle;
+use crate::variables::modes::delete_idle;
 use crate::variables::solver_vars::remove_solver_var;
 use sat_base::Var;
 use sat_parts::SearchState;
@@ -43,7 +43,7 @@ fn remove_var<S: StepLog>(
     if variables.global_from_user.bwd().get(global).is_some() {
         return Ok(());
     }
-    forget_idle(variables, writer, global)
+    delete_idle(variables, writer, global)
 }
 
 /// Marks `index` in `used`.
@@ -120,7 +120,7 @@ pub fn free_indices<S: StepLog>(
     requires may { CanFreeIndices variables.old (S.steps writer.old) search.old }
     ensures frees { OnOk result (FreesSome variables.old variables.new (S.steps writer.old) (S.steps writer.new)
         search.old search.new) }
-    ensures left { OnOk result (AllLeft variables.new (session_after (S.steps writer.old)) search.old.parts) }
+    ensures left { OnOk result (IndicesAreUsed variables.new (session_after (S.steps writer.old)) search.old.parts) }
     ensures keeps { OnOk result (S.keeps writer.new) }
     ensures fails { IfErr result IsFailure }
     ensures emits { EmitsOrFails S.took S.broke result writer.old writer.new }

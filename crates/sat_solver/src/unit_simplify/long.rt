@@ -2,9 +2,9 @@
 ghost use Rattle.sat_solver.specs.proof.ProofView.{HasAllowedSteps, session_of};
 ghost use Rattle.sat_solver.specs.cdcl.StepEffects.{EmitsSteps};
 ghost use Rattle.sat_solver.specs.cdcl.Joint.{SearchInvariant};
-ghost use Rattle.sat_solver.specs.unit_simplify.Flat.{HasEmptyTrail, StrengthensAll, StrengthensOrFails};
+ghost use Rattle.sat_solver.specs.unit_simplify.EmptyTrail.{HasEmptyTrail, StrengthensAll, StrengthensOrFails};
 ghost use Rattle.sat_solver.specs.unit_simplify.ClauseStatus.{HasTrue};
-ghost use Rattle.sat_parts.specs.parts.Whole.{HasClause};
+ghost use Rattle.sat_parts.specs.parts.Whole.{HasLongClause};
 
 use crate::cdcl::fault::Fault;
 use crate::clause::reduce::map_clause;
@@ -12,7 +12,7 @@ use crate::context::Search;
 use crate::proof::Proof;
 use crate::unit_simplify::clause_status::{ClauseStatus, clause_status};
 use crate::unit_simplify::steps::deletion_for;
-use crate::unit_simplify::strengthen::cut_clause;
+use crate::unit_simplify::strengthen::strengthen_clause;
 use sat_base::{CountedWrite, DeleteClauseProof, Lit, ProofStep};
 use sat_checker::ProofProcessor;
 use sat_parts::parts::clauses::delete_long;
@@ -27,7 +27,7 @@ fn delete_true<W: CountedWrite + Drop, P: ProofProcessor>(
     requires keeps { HasAllowedSteps proof.old }
     requires search { SearchInvariant (session_of proof.old) search.old }
     requires flat { HasEmptyTrail search.old.parts }
-    requires live { HasClause search.old.parts cref }
+    requires live { HasLongClause search.old.parts cref }
     requires satisfied { HasTrue search.old.parts cref }
     ensures { StrengthensOrFails W.seen result proof.old proof.new search.old search.new cref }
 {
@@ -57,13 +57,13 @@ fn simplify_clause<W: CountedWrite + Drop, P: ProofProcessor>(
     requires keeps { HasAllowedSteps proof.old }
     requires search { SearchInvariant (session_of proof.old) search.old }
     requires flat { HasEmptyTrail search.old.parts }
-    requires live { HasClause search.old.parts cref }
+    requires live { HasLongClause search.old.parts cref }
     ensures { StrengthensOrFails W.seen result proof.old proof.new search.old search.new cref }
 {
     match clause_status(&search.parts, cref) {
         ClauseStatus::Whole => Ok(()),
         ClauseStatus::Satisfied => delete_true(proof, search, cref),
-        ClauseStatus::Shorter => cut_clause(proof, search, cref, part),
+        ClauseStatus::Shorter => strengthen_clause(proof, search, cref, part),
     }
 }
 

@@ -4,10 +4,10 @@ ghost use Rattle.sat_solver.specs.proof.ProofView.{HasAllowedSteps, session_of};
 ghost use Rattle.sat_parts.specs.parts.Round.{UnitsHaveNoReason, LevelZeroInvariant};
 ghost use Rattle.sat_parts.specs.parts.Whole.{state, SearchStateInvariantBelow, IsFullyPropagated};
 ghost use Rattle.sat_solver.specs.session.Naming.{global_of_index};
-ghost use Rattle.sat_solver.specs.session.Fits.{SessionMatchesParts, TrueLitsHaveNames};
-ghost use Rattle.sat_solver.specs.session.WritingUnits.{IsOrderly};
+ghost use Rattle.sat_solver.specs.session.Matching.{SessionMatchesParts, TrueLitsHaveIndices};
+ghost use Rattle.sat_solver.specs.session.WritingUnits.{IsReadyForUnits};
 ghost use Rattle.sat_solver.specs.cdcl.StepEffects.{EmitsSteps};
-ghost use Rattle.sat_solver.specs.unit_simplify.Left.{AllUnits, TakesUnitsOff};
+ghost use Rattle.sat_solver.specs.unit_simplify.AfterUnits.{LevelZeroLitsAreUnits, TakesUnitsOff};
 
 use crate::cdcl::fault::Fault;
 use crate::proof::Proof;
@@ -25,13 +25,13 @@ pub fn write_units<W: CountedWrite + Drop, P: ProofProcessor>(
     units: &mut Vec<(Lit, ClauseHash)>,
 ) -> Result<(), Fault>
     requires keeps { HasAllowedSteps proof.old }
-    requires orderly { IsOrderly parts.now }
+    requires orderly { IsReadyForUnits parts.now }
     requires bottom { length parts.now.trail.starts ≡ 0 }
     requires fits { SessionMatchesParts parts.now (session_of proof.old) (global_of_index globals.now) }
-    requires named { TrueLitsHaveNames parts.now.assignment.current (session_of proof.old) (global_of_index globals.now) }
+    requires named { TrueLitsHaveIndices parts.now.assignment.current (session_of proof.old) (global_of_index globals.now) }
     requires names { length parts.now.assignment.current ≤ length globals.now }
     ensures { EmitsSteps W.seen result proof.old proof.new
-        (λ _ _. AllUnits parts.now (session_of proof.new) (global_of_index globals.now)) }
+        (λ _ _. LevelZeroLitsAreUnits parts.now (session_of proof.new) (global_of_index globals.now)) }
 {
     collect_units(parts, globals, units)?;
     if units.is_empty() {
@@ -53,7 +53,7 @@ pub fn prove_units<W: CountedWrite + Drop, P: ProofProcessor>(
     requires done { IsFullyPropagated parts.old }
     requires units { 0 < length parts.old.trail.starts → UnitsHaveNoReason (state parts.old) × LevelZeroInvariant parts.old.trail }
     requires fits { SessionMatchesParts parts.old (session_of proof.old) (global_of_index globals.now) }
-    requires named { TrueLitsHaveNames parts.old.assignment.current (session_of proof.old) (global_of_index globals.now) }
+    requires named { TrueLitsHaveIndices parts.old.assignment.current (session_of proof.old) (global_of_index globals.now) }
     requires names { length parts.old.assignment.current ≤ length globals.now }
     ensures { EmitsSteps W.seen result proof.old proof.new
         (λ _ _. TakesUnitsOff parts.old parts.new (session_of proof.new) (global_of_index globals.now)) }

@@ -3,9 +3,9 @@ ghost use Rattle.std.specs.Prelude.{◌≡◌, ◌&&◌, true, nat_lt};
 ghost use Rattle.sat_base.specs.steps.StepViews.{deletion_of};
 ghost use Rattle.sat_base.specs.steps.Steps.{Simplified};
 ghost use Rattle.sat_solver.specs.proof.ProofView.{HasAllowedSteps, session_of};
-ghost use Rattle.sat_solver.specs.session.Quiet.{are_few};
-ghost use Rattle.sat_solver.specs.cdcl.StepEffects.{HaveSolverNames};
-ghost use Rattle.sat_solver.specs.unit_simplify.Cuts.{deletion, CanStrengthen, WritesCut};
+ghost use Rattle.sat_solver.specs.session.Quiet.{has_at_most_one};
+ghost use Rattle.sat_solver.specs.cdcl.StepEffects.{HaveIndices};
+ghost use Rattle.sat_solver.specs.unit_simplify.StrengtheningSteps.{deletion, CanStrengthen, WritesStrengthening};
 
 use crate::cdcl::fault::Fault;
 use crate::context::Scratch;
@@ -25,28 +25,28 @@ pub fn deletion_for(redundant: bool, other: DeleteClauseProof) -> DeleteClausePr
 
 /// Returns `true` if the step that strengthens a clause to `len` literals marks the result as redundant: if the
 /// clause was redundant, and `len` is at least three.
-fn left_redundant(redundant: bool, len: usize) -> bool
+fn stays_redundant(redundant: bool, len: usize) -> bool
     ensures { result ≡ (redundant && nat_lt 2 len) }
 {
     redundant && len > 2
 }
 
 /// Writes two steps: the first derives `part`, the literals that remain of a clause, and the second deletes the clause.
-pub fn write_cut<W: CountedWrite + Drop, P: ProofProcessor>(
+pub fn write_strengthening<W: CountedWrite + Drop, P: ProofProcessor>(
     proof: &mut Proof<W, P>,
     scratch: &Scratch,
     part: &[Lit],
     redundant: bool,
 ) -> Result<(), Fault>
     requires keeps { HasAllowedSteps proof.old }
-    requires named { HaveSolverNames (session_of proof.old).solver_names part.now }
+    requires named { HaveIndices (session_of proof.old).solver_names part.now }
     requires may { CanStrengthen (session_of proof.old) redundant part.now scratch.now.hashes.items scratch.now.clause.items }
-    requires few { are_few scratch.now.hashes.items ≡ true }
-    ensures { WritesCut W.seen result proof.old proof.new redundant part.now scratch.now.hashes.items
+    requires few { has_at_most_one scratch.now.hashes.items ≡ true }
+    ensures { WritesStrengthening W.seen result proof.old proof.new redundant part.now scratch.now.hashes.items
         scratch.now.clause.items }
 {
     let derived = ProofStep::AtClause {
-        redundant: left_redundant(redundant, part.len()),
+        redundant: stays_redundant(redundant, part.len()),
         clause: part,
         propagation_hashes: &scratch.hashes,
     };

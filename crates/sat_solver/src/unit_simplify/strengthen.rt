@@ -3,10 +3,11 @@ ghost use Rattle.std.specs.Prelude.{ℕ, ◌≡◌, ◌<◌, ◌≤◌, OnOk, If
 ghost use Rattle.sat_parts.specs.clause.Stored.{lit_of, size_of};
 ghost use Rattle.sat_parts.specs.prop.Values.{IsUnassignedLit};
 ghost use Rattle.sat_solver.specs.proof.ProofView.{HasAllowedSteps, session_of};
-ghost use Rattle.sat_parts.specs.parts.Whole.{SearchStateInvariant, HasClause};
+ghost use Rattle.sat_parts.specs.parts.Whole.{SearchStateInvariant, HasLongClause};
 ghost use Rattle.sat_solver.specs.cdcl.Joint.{SearchInvariant};
-ghost use Rattle.sat_solver.specs.unit_simplify.Cutting.{Gathers, Replaces, NamesCut};
-ghost use Rattle.sat_solver.specs.unit_simplify.Flat.{HasEmptyTrail, StrengthensOrFails};
+ghost use Rattle.sat_solver.specs.unit_simplify.Strengthening.{MovesOpenLitsFirst, StrengtheningEffect};
+ghost use Rattle.sat_solver.specs.unit_simplify.Strengthening.{PreparesStrengthening};
+ghost use Rattle.sat_solver.specs.unit_simplify.EmptyTrail.{HasEmptyTrail, StrengthensOrFails};
 ghost use Rattle.sat_solver.specs.unit_simplify.ClauseStatus.{HasTrue, HasFalse};
 
 use crate::cdcl::fault::Fault;
@@ -14,7 +15,7 @@ use crate::clause::reduce::map_clause;
 use crate::context::Search;
 use crate::proof::Proof;
 use crate::proof::map_step::name_clauses;
-use crate::unit_simplify::steps::write_cut;
+use crate::unit_simplify::steps::write_strengthening;
 use sat_base::{CountedWrite, Lit};
 use sat_checker::ProofProcessor;
 use sat_parts::parts::clauses::{delete_long, shorten, swap_unwatched};
@@ -27,10 +28,10 @@ use std::alloc::AllocError;
 /// literal may be true, and the first two literals must have no value.
 fn gather_open(parts: &mut SearchState, cref: ClauseRef) -> usize
     requires holds { SearchStateInvariant parts.old }
-    requires live { HasClause parts.old cref }
+    requires live { HasLongClause parts.old cref }
     requires none { HasTrue parts.old cref → ⊥ }
     requires front { (k : ℕ) → k < 2 → IsUnassignedLit parts.old.assignment.current (lit_of parts.old.clauses cref k) }
-    ensures gathers { Gathers parts.old parts.new cref result (size_of parts.old.clauses cref) }
+    ensures gathers { MovesOpenLitsFirst parts.old parts.new cref result (size_of parts.old.clauses cref) }
     ensures some { 2 ≤ result }
     ensures within { result ≤ size_of parts.old.clauses cref }
 {
@@ -47,14 +48,18 @@ fn gather_open(parts: &mut SearchState, cref: ClauseRef) -> usize
 
 /// Moves the literals of a clause that have no value to the beginning of the clause, and fills `search.scratch` and
 /// `part` for the steps that strengthen the clause. Returns the number of these literals.
-fn name_cut(search: &mut Search, cref: ClauseRef, part: &mut Vec<Lit>) -> Result<usize, AllocError>
+fn prepare_strengthening(
+    search: &mut Search,
+    cref: ClauseRef,
+    part: &mut Vec<Lit>,
+) -> Result<usize, AllocError>
     requires holds { SearchStateInvariant search.old.parts }
     requires flat { HasEmptyTrail search.old.parts }
     requires names { length search.old.parts.assignment.current ≤ length search.old.globals.items }
-    requires live { HasClause search.old.parts cref }
+    requires live { HasLongClause search.old.parts cref }
     requires none { HasTrue search.old.parts cref → ⊥ }
     ensures same { search.new ≡ record search.old { parts = search.new.parts; scratch = search.new.scratch } }
-    ensures named { IfOk result (λ len. NamesCut search.old search.new part.new.items cref len) }
+    ensures named { IfOk result (λ len. PreparesStrengthening search.old search.new part.new.items cref len) }
 {
     let scratch = &mut search.scratch;
     map_clause(&search.parts, &search.globals, cref, &mut scratch.clause)?;
@@ -74,11 +79,11 @@ fn name_cut(search: &mut Search, cref: ClauseRef, part: &mut Vec<Lit>) -> Result
 fn replace(parts: &mut SearchState, cref: ClauseRef, len: usize) -> Result<(), AllocError>
     requires holds { SearchStateInvariant parts.old }
     requires flat { HasEmptyTrail parts.old }
-    requires live { HasClause parts.old cref }
+    requires live { HasLongClause parts.old cref }
     requires some { 2 ≤ len }
     requires within { len ≤ size_of parts.old.clauses cref }
     requires front { (k : ℕ) → k < 2 → IsUnassignedLit parts.old.assignment.current (lit_of parts.old.clauses cref k) }
-    ensures { OnOk result (Replaces parts.old parts.new cref len) }
+    ensures { OnOk result (StrengtheningEffect parts.old parts.new cref len) }
 {
     if len > 2 {
         shorten(parts, cref, len);
@@ -92,7 +97,7 @@ fn replace(parts: &mut SearchState, cref: ClauseRef, len: usize) -> Result<(), A
 
 /// Removes the false literals of a clause, and writes the steps. Some literals of the clause must be false, and none
 /// may be true.
-pub fn cut_clause<W: CountedWrite + Drop, P: ProofProcessor>(
+pub fn strengthen_clause<W: CountedWrite + Drop, P: ProofProcessor>(
     proof: &mut Proof<W, P>,
     search: &mut Search,
     cref: ClauseRef,
@@ -101,13 +106,13 @@ pub fn cut_clause<W: CountedWrite + Drop, P: ProofProcessor>(
     requires keeps { HasAllowedSteps proof.old }
     requires search { SearchInvariant (session_of proof.old) search.old }
     requires flat { HasEmptyTrail search.old.parts }
-    requires live { HasClause search.old.parts cref }
+    requires live { HasLongClause search.old.parts cref }
     requires none { HasTrue search.old.parts cref → ⊥ }
     requires some { HasFalse search.old.parts cref }
     ensures { StrengthensOrFails W.seen result proof.old proof.new search.old search.new cref }
 {
-    let len = name_cut(search, cref, part)?;
+    let len = prepare_strengthening(search, cref, part)?;
     let redundant = search.parts.clauses.header(cref).redundant();
     replace(&mut search.parts, cref, len)?;
-    write_cut(proof, &search.scratch, part, redundant)
+    write_strengthening(proof, &search.scratch, part, redundant)
 }

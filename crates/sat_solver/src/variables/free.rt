@@ -2,7 +2,8 @@
 ghost use Rattle.std.specs.Prelude.{ℕ, ◌≡◌, ◌==◌, ◌||◌, ◌+◌, ◌*◌, ◌<◌, ◌≤◌, true, false, MatchOption, OnOk, length};
 ghost use Rattle.std.specs.Prelude.{if◌then◌else◌, slice_index_or};
 ghost use Rattle.sat_base.specs.values.Literals.{var_limit};
-ghost use Rattle.sat_solver.specs.variables.Free.{is_free, IsTree, Powers, Refreshes, IsChild, IsLowest, CopiesLeaves};
+ghost use Rattle.sat_solver.specs.variables.Free.{is_free, IsTree, HasPowerOfTwoLeaves, Refreshes, IsChild, IsLowest};
+ghost use Rattle.sat_solver.specs.variables.Free.{CopiesLeaves};
 ghost use Rattle.sat_solver.specs.variables.Free.{IsCounted};
 
 use sat_base::Var;
@@ -190,7 +191,7 @@ impl FreeIndices {
     /// Updates every inner node from its children.
     fn refresh_all(&mut self)
         requires size { length self.old.nodes.items ≡ 2 * self.old.room }
-        requires power { Powers self.old }
+        requires power { HasPowerOfTwoLeaves self.old }
         requires counted { IsCounted self.old }
         ensures tree { IsTree self.new }
         ensures leaves { (i : ℕ) → is_free self.new i ≡ is_free self.old i }

@@ -4,7 +4,7 @@ ghost use Rattle.std.specs.List.{AllByRecursion};
 ghost use Rattle.sat_base.specs.values.Literals.{var_limit};
 ghost use Rattle.sat_solver.specs.variables.Search.{IndicesDistinct};
 ghost use Rattle.sat_parts.specs.parts.Whole.{SearchStateInvariant};
-ghost use Rattle.sat_solver.specs.variables.Initialized.{IsVacant, AreVacant, ActivatesIndices, Renames};
+ghost use Rattle.sat_solver.specs.variables.Initialized.{IsVacant, AreVacant, ActivatesIndices, SetsVariablesOfIndices};
 ghost use Rattle.sat_solver.specs.variables.Initialized.{GivesSearchIndices};
 
 use crate::context::Search;
@@ -31,7 +31,7 @@ fn initialize_var(parts: &mut SearchState, given: &Given)
 }
 
 /// Adds the indices in `given`, in order.
-fn take_indices(parts: &mut SearchState, given: &[Given])
+fn add_indices(parts: &mut SearchState, given: &[Given])
     requires holds { SearchStateInvariant parts.old }
     requires bottom { parts.old.trail.starts ≡ [] }
     requires vacant { AreVacant parts.old (length parts.old.assignment.current) given.now }
@@ -43,11 +43,11 @@ fn take_indices(parts: &mut SearchState, given: &[Given])
 }
 
 /// Copies the proof variables of the indices in `given` from `globals` to `list`.
-fn rename(list: &mut Vec<Var>, globals: &[Var], given: &[Given])
+fn copy_globals(list: &mut Vec<Var>, globals: &[Var], given: &[Given])
     requires there { AllByRecursion (λ g. g.solver < length list.old.items) given.now }
     requires below { AllByRecursion (λ g. g.solver < length globals.now) given.now }
     requires apart { IndicesDistinct given.now }
-    ensures { Renames given.now globals.now list.old.items list.new.items }
+    ensures { SetsVariablesOfIndices given.now globals.now list.old.items list.new.items }
 {
     for at in 0..given.len() {
         let index = given[at].solver.index();
@@ -56,7 +56,7 @@ fn rename(list: &mut Vec<Var>, globals: &[Var], given: &[Given])
 }
 
 /// Returns the lowest number that is at least `count` and above all indices in `given`.
-fn count_with(count: usize, given: &[Given]) -> usize
+fn count_above(count: usize, given: &[Given]) -> usize
     requires few { count ≤ var_limit }
     ensures few { result ≤ var_limit }
     ensures more { count ≤ result }
@@ -82,12 +82,12 @@ pub fn new_indices(search: &mut Search, globals: &[Var], given: &[Given]) -> Res
     if given.is_empty() {
         return Ok(());
     }
-    let count = count_with(search.globals.len(), given);
+    let count = count_above(search.globals.len(), given);
     set_var_count(&mut search.parts, count)?;
     search.analysis.set_var_count(count)?;
     search.flags.set_var_count(count)?;
     search.globals.resize(count, Var::from_index(0))?;
-    rename(&mut search.globals, globals, given);
-    take_indices(&mut search.parts, given);
+    copy_globals(&mut search.globals, globals, given);
+    add_indices(&mut search.parts, given);
     Ok(())
 }

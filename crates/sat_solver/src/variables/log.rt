@@ -5,7 +5,7 @@ ghost use Rattle.sat_base.specs.steps.StepViews.{step_of};
 ghost use Rattle.sat_solver.specs.session.Session.{IsAllowedStep, session_after};
 ghost use Rattle.sat_solver.specs.proof.Widths.{KeepsWidth};
 ghost use Rattle.sat_solver.specs.declared.variables.error.NameError.{NameError as Fault};
-ghost use Rattle.sat_solver.specs.variables.Failing.{IsFailure, EmitsOrFails};
+ghost use Rattle.sat_solver.specs.variables.NameFailures.{IsFailure, EmitsOrFails};
 
 use crate::proof::{Proof, ProofError};
 use crate::variables::error::NameError;
@@ -40,14 +40,14 @@ pub trait StepLog: Drop {
 
 impl<W: CountedWrite + Drop, P: ProofProcessor> StepLog for Proof<W, P> {
     ghost use Rattle.sat_solver.specs.proof.ProofView.{HasAllowedSteps, steps_of};
-    ghost use Rattle.sat_solver.specs.session.Making.{ComesByCheckedSteps};
-    ghost use Rattle.sat_solver.specs.variables.Taking.{StepNotAccepted};
+    ghost use Rattle.sat_solver.specs.session.Emitting.{EmitsSomeChecked};
+    ghost use Rattle.sat_solver.specs.variables.StepFailures.{StepNotAccepted};
 
     ghost steps = { λ p. steps_of p };
 
     ghost keeps = { λ p. HasAllowedSteps p };
 
-    ghost took = { ComesByCheckedSteps W.seen };
+    ghost took = { EmitsSomeChecked W.seen };
 
     ghost broke = { StepNotAccepted W.seen };
 

@@ -5,14 +5,16 @@ ghost use Rattle.sat_solver.specs.session.Session.{session_after};
 ghost use Rattle.sat_solver.specs.variables.Variables.{data_at, global_of, user_of, solver_of, script_mode, mode_for};
 ghost use Rattle.sat_base.specs.steps.Steps.{UserVarName, ChangeSamplingMode, DeleteVar};
 ghost use Rattle.sat_solver.specs.session.AllowedSteps.{OnlyAllowedSteps};
-ghost use Rattle.sat_solver.specs.variables.NamingSteps.{ForgetsIdle, LeavesNoneIdle, IsHidingStep, IsModeStep};
-ghost use Rattle.sat_solver.specs.variables.NamingSteps.{TurnsMode};
+ghost use Rattle.sat_solver.specs.variables.NamingSteps.{DeletesIdleVariable, LeavesNoIdleVariable, IsHidingStep};
+ghost use Rattle.sat_solver.specs.variables.NamingSteps.{IsModeStep};
+ghost use Rattle.sat_solver.specs.variables.NamingSteps.{ChangesModeTo};
 ghost use Rattle.sat_checker.specs.matching.Expected.{NewName, NoName};
 ghost use Rattle.sat_solver.specs.variables.Naming.{VariablesAreKeptOrNew, KeepsOthers};
-ghost use Rattle.sat_solver.specs.variables.Calls.{NamesInvariant, NamesEffect, KeepsScriptState};
-ghost use Rattle.sat_solver.specs.variables.Search.{IsUnseen, IsAlike, ForgetsUnits, KeepsUnits};
+ghost use Rattle.sat_solver.specs.variables.Calls.{NamesInvariant, ChangesScriptState, KeepsScriptState};
+ghost use Rattle.sat_solver.specs.variables.Search.{KeepsWhatSearchSees, KeepsSearchUpToUnits, ForgetsUnits};
+ghost use Rattle.sat_solver.specs.variables.Search.{KeepsUnits};
 ghost use Rattle.sat_solver.specs.variables.Refusing.{IsAssumed};
-ghost use Rattle.sat_solver.specs.variables.Failing.{IsFailure, EmitsOrFails, FailsOnlyByFault};
+ghost use Rattle.sat_solver.specs.variables.NameFailures.{IsFailure, EmitsOrFails, FailsOnlyByFault};
 
 use crate::variables::Variables;
 use crate::variables::error::NameError;
@@ -31,9 +33,9 @@ fn hide_global<W: StepLog>(
     requires valid { NamesInvariant variables.old (W.steps writer.old) }
     requires keeps { W.keeps writer.old }
     requires named { global_of variables.old user ≡ Some global }
-    ensures does { OnOk result (NamesEffect variables.old variables.new (W.steps writer.old) (W.steps writer.new)
+    ensures does { OnOk result (ChangesScriptState variables.old variables.new (W.steps writer.old) (W.steps writer.new)
         (without_name (user + 1)) (λ j. NoName (user + 1) ∷ [])) }
-    ensures unseen { OnOk result (IsUnseen variables.old variables.new (W.steps writer.old) (W.steps writer.new)) }
+    ensures unseen { OnOk result (KeepsWhatSearchSees variables.old variables.new (W.steps writer.old) (W.steps writer.new)) }
     ensures others { OnOk result (KeepsOthers variables.old variables.new user) }
     ensures only { OnOk result ((u v : ℕ) → global_of variables.new u ≡ Some v → global_of variables.old u ≡ Some v) }
     ensures live { OnOk result ((data_at variables.new global).deleted ≡ false) }
@@ -77,7 +79,7 @@ pub fn delete_var<W: StepLog>(
 }
 
 /// Deletes a hidden variable if it has no index and is not assumed. Such a variable is in no clause.
-pub(crate) fn forget_idle<W: StepLog>(
+pub(crate) fn delete_idle<W: StepLog>(
     variables: &mut Variables,
     writer: &mut W,
     global: Var,
@@ -88,8 +90,8 @@ pub(crate) fn forget_idle<W: StepLog>(
     requires nameless { user_of variables.old global ≡ None }
     ensures does { OnOk result (KeepsScriptState variables.old variables.new (W.steps writer.old) (W.steps writer.new)) }
     ensures units { OnOk result (KeepsUnits variables.new (W.steps writer.old) (W.steps writer.new)) }
-    ensures alike { OnOk result (IsAlike variables.old variables.new (W.steps writer.old) (W.steps writer.new)) }
-    ensures goes { OnOk result (ForgetsIdle variables.old (W.steps writer.old) (W.steps writer.new) global) }
+    ensures alike { OnOk result (KeepsSearchUpToUnits variables.old variables.new (W.steps writer.old) (W.steps writer.new)) }
+    ensures goes { OnOk result (DeletesIdleVariable variables.old (W.steps writer.old) (W.steps writer.new) global) }
     ensures users { OnOk result (variables.new.global_from_user ≡ variables.old.global_from_user) }
     ensures fails { IfErr result IsFailure }
     ensures keeps { OnOk result (W.keeps writer.new) }
@@ -115,22 +117,22 @@ pub fn hide_var<W: StepLog>(
     requires valid { NamesInvariant variables.old (W.steps writer.old) }
     requires keeps { W.keeps writer.old }
     requires free { IsAssumed variables.old user → ⊥ }
-    ensures does { OnOk result (NamesEffect variables.old variables.new (W.steps writer.old) (W.steps writer.new)
+    ensures does { OnOk result (ChangesScriptState variables.old variables.new (W.steps writer.old) (W.steps writer.new)
         (λ j. without_name (user + 1) (introduce (user + 1) j))
         (λ j. map NewName (new_names (user + 1) j) ++ (NoName (user + 1) ∷ []))) }
     ensures others { OnOk result (KeepsOthers variables.old variables.new user) }
     ensures fresh { OnOk result (VariablesAreKeptOrNew variables.old variables.new) }
     ensures units { OnOk result (KeepsUnits variables.new (W.steps writer.old) (W.steps writer.new)) }
-    ensures alike { OnOk result (IsAlike variables.old variables.new (W.steps writer.old) (W.steps writer.new)) }
+    ensures alike { OnOk result (KeepsSearchUpToUnits variables.old variables.new (W.steps writer.old) (W.steps writer.new)) }
     ensures comes { OnOk result (OnlyAllowedSteps IsHidingStep (W.steps writer.old) (W.steps writer.new)) }
-    ensures gone { OnOk result (LeavesNoneIdle (W.steps writer.new)) }
+    ensures gone { OnOk result (LeavesNoIdleVariable (W.steps writer.new)) }
     ensures room { FailsOnlyByFault result variables.old (user ∷ []) }
     ensures keeps { OnOk result (W.keeps writer.new) }
     ensures emits { EmitsOrFails W.took W.broke result writer.old writer.new }
 {
     let global = global_from_user(variables, writer, user)?;
     hide_global(variables, writer, user, global)?;
-    forget_idle(variables, writer, global)
+    delete_idle(variables, writer, global)
 }
 
 /// Returns the mode sample if `sample` is true, and witness otherwise. The mode hide is set only when a variable loses
@@ -170,13 +172,13 @@ fn set_global_mode<W: StepLog>(
     requires valid { NamesInvariant variables.old (W.steps writer.old) }
     requires keeps { W.keeps writer.old }
     requires named { global_of variables.old user ≡ Some global }
-    ensures does { OnOk result (NamesEffect variables.old variables.new (W.steps writer.old) (W.steps writer.new)
+    ensures does { OnOk result (ChangesScriptState variables.old variables.new (W.steps writer.old) (W.steps writer.new)
         (with_mode (script_mode sample) (user + 1)) (λ j. [])) }
     ensures sets { OnOk result ((W.steps writer.new ≡ W.steps writer.old)
         ⊎ ((W.steps writer.new ≡ ChangeSamplingMode global sample ∷ W.steps writer.old)
-        × TurnsMode (session_after (W.steps writer.old)) global sample)) }
+        × ChangesModeTo (session_after (W.steps writer.old)) global sample)) }
     ensures users { OnOk result (variables.new.global_from_user ≡ variables.old.global_from_user) }
-    ensures unseen { OnOk result (IsUnseen variables.old variables.new (W.steps writer.old) (W.steps writer.new)) }
+    ensures unseen { OnOk result (KeepsWhatSearchSees variables.old variables.new (W.steps writer.old) (W.steps writer.new)) }
     ensures fails { IfErr result IsFailure }
     ensures keeps { OnOk result (W.keeps writer.new) }
     ensures emits { EmitsOrFails W.took W.broke result writer.old writer.new }
@@ -202,12 +204,12 @@ pub fn set_sampling_mode<W: StepLog>(
     requires valid { NamesInvariant variables.old (W.steps writer.old) }
     requires keeps { W.keeps writer.old }
     requires free { IsAssumed variables.old user → ⊥ }
-    ensures does { OnOk result (NamesEffect variables.old variables.new (W.steps writer.old) (W.steps writer.new)
+    ensures does { OnOk result (ChangesScriptState variables.old variables.new (W.steps writer.old) (W.steps writer.new)
         (λ j. with_mode (script_mode sample) (user + 1) (introduce (user + 1) j))
         (λ j. map NewName (new_names (user + 1) j) ++ [])) }
     ensures others { OnOk result (KeepsOthers variables.old variables.new user) }
     ensures fresh { OnOk result (VariablesAreKeptOrNew variables.old variables.new) }
-    ensures unseen { OnOk result (IsUnseen variables.old variables.new (W.steps writer.old) (W.steps writer.new)) }
+    ensures unseen { OnOk result (KeepsWhatSearchSees variables.old variables.new (W.steps writer.old) (W.steps writer.new)) }
     ensures comes { OnOk result (OnlyAllowedSteps (IsModeStep (user + 1) sample) (W.steps writer.old)
         (W.steps writer.new)) }
     ensures room { FailsOnlyByFault result variables.old (user ∷ []) }

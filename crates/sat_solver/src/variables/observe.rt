@@ -3,7 +3,7 @@ ghost use Rattle.std.specs.Prelude.{◌≡◌, ◌<◌, true, false, IfOk, IfErr
 ghost use Rattle.sat_solver.specs.variables.Variables.{variables_used};
 ghost use Rattle.sat_solver.specs.variables.Calls.{NamesInvariant};
 ghost use Rattle.sat_solver.specs.variables.Observing.{IsHidden, NamesHidden, NamesAllHidden};
-ghost use Rattle.sat_solver.specs.variables.Failing.{EmitsOrFails};
+ghost use Rattle.sat_solver.specs.variables.NameFailures.{EmitsOrFails};
 
 use crate::variables::Variables;
 use crate::variables::error::NameError;

@@ -1,9 +1,9 @@
 //! Checks whether calls are refused, before anything changes.
 ghost use Rattle.std.specs.Prelude.{◌≡◌, ◌+◌, true, false, IfNone};
-ghost use Rattle.sat_base.specs.script.ScriptState.{ScriptState, has_witness, identity_of, refused_literal};
+ghost use Rattle.sat_base.specs.script.ScriptState.{ScriptState, has_witness, identity_of, refusal_of_names};
 ghost use Rattle.sat_checker.specs.matching.Bridge.{LiveVariables};
 ghost use Rattle.sat_solver.specs.variables.Variables.{VariablesInvariant, NamesMatchState, is_witness_kept};
-ghost use Rattle.sat_solver.specs.load.Literals.{IsSampled, NoWitness};
+ghost use Rattle.sat_solver.specs.load.Literals.{IsSampled, HaveNoWitness};
 ghost use Rattle.sat_solver.specs.variables.Refusing.{as_refusal, names_in, IsAssumed};
 
 use crate::variables::Variables;
@@ -40,8 +40,8 @@ fn is_witness(variables: &Variables, user: Var) -> bool
 pub fn leftmost_witness(variables: &Variables, lits: &[Lit]) -> Option<Var>
     requires { VariablesInvariant variables.now }
     ensures judged { (j : ScriptState) (live : LiveVariables) → NamesMatchState variables.now j live
-        → refused_literal j (names_in lits.now) ≡ as_refusal result }
-    ensures sampled { IfNone result (NoWitness variables.now lits.now) }
+        → refusal_of_names j (names_in lits.now) ≡ as_refusal result }
+    ensures sampled { IfNone result (HaveNoWitness variables.now lits.now) }
 {
     for lit in lits {
         let user = lit.var();

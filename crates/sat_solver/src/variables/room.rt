@@ -3,14 +3,14 @@ ghost use Rattle.std.specs.Prelude.{◌≡◌, ◌+◌, ◌<◌, ◌≤◌, [], 
 ghost use Rattle.sat_base.specs.values.Literals.{var_limit};
 ghost use Rattle.sat_checker.specs.LiteralSets.{mentions};
 ghost use Rattle.sat_solver.specs.variables.VariableRoom.{live_count, reach, user_vars_in, hidden_count, ReportsRoom};
-ghost use Rattle.sat_solver.specs.variables.VariableRoom.{hidden_after};
+ghost use Rattle.sat_solver.specs.variables.VariableRoom.{hidden_count_from};
 ghost use Rattle.sat_solver.specs.variables.Variables.{VariablesInvariant};
 
 use crate::variables::Variables;
 use sat_base::{Lit, Var};
 
 /// Returns the number of variables that are not in use.
-fn left_count(variables: &Variables) -> usize
+fn unused_count(variables: &Variables) -> usize
     requires { VariablesInvariant variables.now }
     ensures { result + live_count variables.now ≡ var_limit }
 {
@@ -51,7 +51,7 @@ fn has_name(lits: &[Lit], user: Var) -> bool
 fn count_hidden_name(variables: &Variables, lits: &[Lit], at: usize, count: usize) -> usize
     requires within { at < length lits.now }
     requires count { count ≤ var_limit }
-    ensures { count ≡ hidden_after variables.now lits.now (at + 1) → result ≡ hidden_after variables.now lits.now at }
+    ensures { count ≡ hidden_count_from variables.now lits.now (at + 1) → result ≡ hidden_count_from variables.now lits.now at }
 {
     let user = lits[at].var();
     if user.index() >= variables.name_count() {
@@ -85,7 +85,7 @@ pub fn has_room(variables: &Variables, lits: &[Lit]) -> bool
     requires { VariablesInvariant variables.now }
     ensures { ReportsRoom result variables.now (user_vars_in lits.now) }
 {
-    let left = left_count(variables);
+    let left = unused_count(variables);
     let used = variables.name_count();
     let never = name_reach(used, lits) - used;
     if never > left {
@@ -103,7 +103,7 @@ pub fn has_room_for(variables: &Variables, user: Var) -> bool
     requires { VariablesInvariant variables.now }
     ensures { ReportsRoom result variables.now (user ∷ []) }
 {
-    let left = left_count(variables);
+    let left = unused_count(variables);
     let used = variables.name_count();
     if user.index() >= used {
         return user.index() - used < left;

@@ -4,7 +4,7 @@ ghost use Rattle.sat_solver.specs.session.Session.{session_after};
 ghost use Rattle.sat_solver.specs.variables.Variables.{data_at, solver_of, IsUnitOf, IsInNoNonUnitClause};
 ghost use Rattle.sat_solver.specs.variables.Calls.{NamesInvariant};
 ghost use Rattle.sat_solver.specs.variables.Indexing.{Indexes, Unindexes};
-ghost use Rattle.sat_solver.specs.variables.Failing.{IsFailure, EmitsOrFails};
+ghost use Rattle.sat_solver.specs.variables.NameFailures.{IsFailure, EmitsOrFails};
 
 use crate::variables::Variables;
 use crate::variables::error::NameError;
@@ -47,8 +47,8 @@ fn new_index<W: StepLog>(
     Ok(solver)
 }
 
-/// Returns the index of a variable. A variable without an index gets the lowest free index, which is appended
-/// to `given`.
+/// Returns the index of a variable. A variable without an index gets the lowest free one: this writes the step, and
+/// appends the index and the value of the variable's unit to `given`.
 pub fn solver_from_global<W: StepLog>(
     variables: &mut Variables,
     writer: &mut W,

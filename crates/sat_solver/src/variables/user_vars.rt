@@ -3,8 +3,8 @@ ghost use Rattle.std.specs.Prelude.{ℕ, ◌≡◌, ◌≤◌, ◌<◌, ◌+◌,
 ghost use Rattle.sat_base.specs.script.ScriptState.{names_from};
 ghost use Rattle.sat_solver.specs.variables.Variables.{global_of, names_used};
 ghost use Rattle.sat_solver.specs.variables.Naming.{IsNextUser};
-ghost use Rattle.sat_solver.specs.variables.Calls.{NamesInvariant, NamesOne, NamesAll, IntroducesNameUnseen};
-ghost use Rattle.sat_solver.specs.variables.Failing.{EmitsOrFails, Limits, FailsOnlyByFault};
+ghost use Rattle.sat_solver.specs.variables.Calls.{NamesInvariant, IntroducesOne, IntroducesAll, IntroducesNameUnseen};
+ghost use Rattle.sat_solver.specs.variables.NameFailures.{EmitsOrFails, FailsByVariableLimitOrFault, FailsOnlyByFault};
 ghost use Rattle.sat_solver.specs.variables.VariableRoom.{LeavesRoom};
 
 use crate::variables::Variables;
@@ -22,9 +22,9 @@ fn new_name<W: StepLog>(
     requires keeps { W.keeps writer.old }
     requires free { global_of variables.old user ≡ None }
     requires within { user ≤ names_used variables.old }
-    ensures names { IfOk result (λ v. NamesOne variables.old variables.new (W.steps writer.old) (W.steps writer.new)
+    ensures names { IfOk result (λ v. IntroducesOne variables.old variables.new (W.steps writer.old) (W.steps writer.new)
         user v) }
-    ensures limit { IfErr result (λ e. Limits e variables.old variables.new writer.old writer.new) }
+    ensures limit { IfErr result (λ e. FailsByVariableLimitOrFault e variables.old variables.new writer.old writer.new) }
     ensures keeps { OnOk result (W.keeps writer.new) }
     ensures emits { EmitsOrFails W.took W.broke result writer.old writer.new }
 {
@@ -42,7 +42,7 @@ fn new_name<W: StepLog>(
 
 #[tactic(auto, using(crate::proofs::lemmas::variables::NamingSteps::none_yet, crate::proofs::lemmas::variables::NamingSteps::last_named))]
 /// Introduces all names up to `user`, beginning with the lowest one never used. Returns the variable of `user`.
-fn bring_new<W: StepLog>(
+fn introduce_up_to<W: StepLog>(
     variables: &mut Variables,
     writer: &mut W,
     user: Var,
@@ -51,7 +51,7 @@ fn bring_new<W: StepLog>(
     requires keeps { W.keeps writer.old }
     requires new { names_used variables.old ≤ user }
     ensures variable { IfOk result (λ v. global_of variables.new user ≡ Some v) }
-    ensures names { OnOk result (NamesAll variables.old variables.new (W.steps writer.old) (W.steps writer.new)
+    ensures names { OnOk result (IntroducesAll variables.old variables.new (W.steps writer.old) (W.steps writer.new)
         (names_from (user + 1 - names_used variables.old) (names_used variables.old + 1))) }
     ensures leaves { OnOk result (LeavesRoom variables.old variables.new user) }
     ensures room { (us : List ℕ) → FailsOnlyByFault result variables.old (user ∷ us) }
@@ -81,7 +81,7 @@ pub fn global_from_user<W: StepLog>(
     ensures emits { EmitsOrFails W.took W.broke result writer.old writer.new }
 {
     if user.index() >= variables.global_from_user.fwd().watermark() {
-        return bring_new(variables, writer, user);
+        return introduce_up_to(variables, writer, user);
     }
     if variables.own_names {
         return Ok(user);
@@ -100,7 +100,7 @@ pub fn new_user_var<W: StepLog>(variables: &mut Variables, writer: &mut W) -> Re
     ensures next { IfOk result (IsNextUser variables.old) }
     ensures brought { IfOk result (λ user. IntroducesNameUnseen variables.old variables.new (W.steps writer.old) (W.steps writer.new)
         user) }
-    ensures limit { IfErr result (λ e. Limits e variables.old variables.new writer.old writer.new) }
+    ensures limit { IfErr result (λ e. FailsByVariableLimitOrFault e variables.old variables.new writer.old writer.new) }
     ensures keeps { OnOk result (W.keeps writer.new) }
     ensures emits { EmitsOrFails W.took W.broke result writer.old writer.new }
 {

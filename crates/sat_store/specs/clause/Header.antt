@@ -13,14 +13,14 @@ pub record Header : Type 0 where
   pub active : Bool
   pub len : ℕ
 
--- the number of a tier, from 0 to 3
-abbrev pub index_of : Tier → ℕ
-index_of Irred = 0
-index_of Core = 1
-index_of Mid = 2
-index_of Local = 3
+-- the number of a tier: 0 for irredundant clauses, and 1, 2, 3 for learned clauses of tiers Core, Mid and Local
+abbrev pub tier_index : Tier → ℕ
+tier_index Irred = 0
+tier_index Core = 1
+tier_index Mid = 2
+tier_index Local = 3
 
--- the tier with the number `n`
+-- the tier with the number `n`, from 0 to 3: Irred, Core, Mid, Local (also for any higher number)
 abbrev pub tier_of : ℕ → Tier
 tier_of n = if n == 0 then Irred else (if n == 1 then Core else (if n == 2 then Mid else Local))
 
@@ -47,10 +47,10 @@ header_of activity flags len = record {
   len = len;
 }
 
--- the word of flags of a header
+-- the flags word of the header `h`, from the lowest bit: two bits of tier, deleted, mark, six bits of glue, active
 abbrev pub flags_of : Header → ℕ
-flags_of h = index_of h.tier + 4 * bit h.deleted + 8 * bit h.mark + 16 * h.glue + 1024 * bit h.active
+flags_of h = tier_index h.tier + 4 * bit h.deleted + 8 * bit h.mark + 16 * h.glue + 1024 * bit h.active
 
--- the header whose three words are 0
+-- the header whose three words are 0: an irredundant clause without literals, with all flags false, glue and activity 0
 abbrev pub no_header : Header
 no_header = header_of 0 0 0

@@ -1,7 +1,8 @@
 -- A queue of variables by activity.
 use Rattle.std.specs.Prelude.{◌≡◌, ℕ, ◌+◌, ◌-◌, ◌*◌, ◌/◌, ◌^◌, ◌<◌, ◌≤◌, ◌⊎◌, Bool, true, false, nat_lt, if◌then◌else◌, Option, MatchOption, List, [], ◌++◌, length, map, max, replicate, slice_index_or as get_or, slice_set as set}
 
--- for every variable whether it may be picked, and its activity; the amount that a bump adds; the decay, in thousandths
+-- for every variable whether it may be picked for a decision, and its activity; the amount that a bump adds; and the
+-- decay factor in thousandths, by which each decay divides the bump
 pub record Queue : Type 0 where
   pub available : List Bool
   pub activities : List ℕ
@@ -16,7 +17,7 @@ is_available q v = get_or q.available v false
 abbrev pub activity_of : Queue → ℕ → ℕ
 activity_of q v = get_or q.activities v 0
 
--- the queue without variables, with the default bump and decay
+-- the queue without variables, with the default bump 2^20 and the default decay 0.95 (950 thousandths)
 abbrev pub no_variables : Queue
 no_variables = record { available = []; activities = []; bump = 2 ^ 20; decay = 950 }
 
@@ -52,7 +53,8 @@ bumped v q =
 abbrev pub quotient_up : ℕ → ℕ → ℕ
 quotient_up a b = (a + b - 1) / b
 
--- the queue with the bump divided by the decay, and rescaled if the bump reaches 2 ^ 60
+-- the queue with the bump divided by the decay factor, rounded up, and then everything rescaled (divided by 2^40) if
+-- the bump reaches 2^60
 abbrev pub decayed : Queue → Queue
 decayed q =
     let later = record q { bump = quotient_up (q.bump * 1000) q.decay } in
@@ -62,9 +64,9 @@ decayed q =
 abbrev pub with_available : ℕ → Bool → Queue → Queue
 with_available v flag q = record q { available = set q.available v flag }
 
--- `IsFirst q v` holds if the variable `v` may be picked, and every other variable that may be picked has a lower
+-- `IsNextToPick q v` holds if the variable `v` may be picked, and every other variable that may be picked has a lower
 -- activity, or the same activity and a higher index.
-pub record IsFirst (q : Queue) (v : ℕ) : Type 0 where
+pub record IsNextToPick (q : Queue) (v : ℕ) : Type 0 where
   pub available : is_available q v ≡ true
   pub first : (u : ℕ) → is_available q u ≡ true → (activity_of q u < activity_of q v) ⊎ ((activity_of q u ≡ activity_of q v) × (v ≤ u))
 
@@ -72,7 +74,8 @@ pub record IsFirst (q : Queue) (v : ℕ) : Type 0 where
 abbrev pub NonePickable : Queue → Type 0
 NonePickable q = (v : ℕ) → is_available q v ≡ false
 
--- `Picks q result after` holds if `result` is that of `next`: the first variable, which may then not be picked, or
--- `None` if no variable may be picked.
+-- `Picks q result after` holds if picking from the queue `q` gives `result` and leaves `after`: the variable of highest
+-- activity that may be picked (lowest index among equals), which may then no longer be picked, or `None` if there is
+-- none.
 abbrev pub Picks : Queue → Option ℕ → Queue → Type 0
-Picks q result after = MatchOption result (NonePickable q × (after ≡ q)) (λ v. IsFirst q v × (after ≡ with_available v false q))
+Picks q result after = MatchOption result (NonePickable q × (after ≡ q)) (λ v. IsNextToPick q v × (after ≡ with_available v false q))

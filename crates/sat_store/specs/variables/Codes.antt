@@ -2,14 +2,15 @@
 use Rattle.std.specs.Prelude.{ℕ, ◌-◌, ◌==◌, ◌≤◌, if◌then◌else◌, Option, Some, None, List, map, slice_index}
 use Rattle.sat_base.specs.values.Literals.{var_limit}
 
--- the target that a code means
-abbrev pub decoded : ℕ → Option ℕ
-decoded code = if code == 0 then None else Some (code - 1)
+-- the target variable that a code stands for: `None` for 0, otherwise the code minus 1
+abbrev pub decoded_target : ℕ → Option ℕ
+decoded_target code = if code == 0 then None else Some (code - 1)
 
--- the targets that the codes mean
+-- the map (target of each variable, by index) that a list of codes represents; code 0 is `None`, otherwise one more
+-- than the target
 abbrev pub targets_of : List ℕ → List (Option ℕ)
-targets_of codes = map decoded codes
+targets_of codes = map decoded_target codes
 
--- `AreCodes codes` holds if every code means a variable within the limit, or none.
-abbrev pub AreCodes : List ℕ → Type 0
-AreCodes codes = (v : ℕ) → slice_index codes v ≤ var_limit
+-- `AreTargetCodes codes` holds if every code is 0 (no target) or one more than a variable index below 2^28.
+abbrev pub AreTargetCodes : List ℕ → Type 0
+AreTargetCodes codes = (v : ℕ) → slice_index codes v ≤ var_limit

@@ -1,7 +1,7 @@
 -- A flag for every literal.
 use Rattle.std.specs.Prelude.{ℕ, ◌≡◌, ◌*◌, ◌-◌, ◌<◌, ◌++◌, Bool, false, List, length, take, replicate, slice_index_or as get_or}
 
--- two flags for each of `count` variables: the old ones as far as they reach, then false ones
+-- flags for all literals of `count` variables, indexed by literal code: those of `flags`, cut off or extended by false
 abbrev pub flags_for : ℕ → List Bool → List Bool
 flags_for count flags = take (2 * count) flags ++ replicate (2 * count - length flags) false
 

@@ -3,7 +3,7 @@ use Rattle.std.specs.Prelude.{true, false, None}
 use Rattle.sat_store.specs.declared.data.VarData.{VarData}
 use Rattle.sat_store.specs.declared.data.SamplingMode.TheVariants.{Sample, Hide}
 
--- the data of a variable that is not in use
+-- the data of a variable that is not in use: mode hidden, no unit, isolated, not assumed, deleted
 abbrev pub unused_variable : VarData
 unused_variable = record { sampling_mode = Hide; unit = None; isolated = true; assumed = false; deleted = true }
 

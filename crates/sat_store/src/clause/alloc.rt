@@ -3,7 +3,7 @@ ghost use Rattle.std.specs.Prelude.{◌≡◌, ◌<◌, ◌≤◌, ◌^◌, ◌+
 ghost use Rattle.std.specs.Prelude.{take, IfOk, OnErr, vec_len, vec_capacity};
 ghost use Rattle.std.specs.List.{All};
 ghost use Rattle.sat_base.specs.values.Literals.{var_limit};
-ghost use Rattle.sat_store.specs.clause.Buffer.{IsClause, header_at, lits_at, ChangesAt, AppendsClause, swapped};
+ghost use Rattle.sat_store.specs.clause.Buffer.{IsClause, header_at, lits_at, ChangesClauseAt, AppendsClause, swapped};
 ghost use Rattle.sat_store.specs.clause.Full.{IfStoreFull};
 
 use crate::clause::edit::ClauseMut;
@@ -207,7 +207,7 @@ impl ClauseAlloc {
         requires no_longer { header.len ≤ length (lits_at self.old cref) }
         ensures header { header_at self.new cref ≡ header }
         ensures lits { lits_at self.new cref ≡ take header.len (lits_at self.old cref) }
-        ensures others { ChangesAt self.old self.new cref }
+        ensures others { ChangesClauseAt self.old self.new cref }
     {
         let at = cref.offset as usize;
         self.words[at] = header.activity();
@@ -221,7 +221,7 @@ impl ClauseAlloc {
         requires { IsClause self.old cref }
         ensures header { header_at self.new cref ≡ record (header_at self.old cref) { activity = activity } }
         ensures lits { lits_at self.new cref ≡ lits_at self.old cref }
-        ensures others { ChangesAt self.old self.new cref }
+        ensures others { ChangesClauseAt self.old self.new cref }
     {
         self.words[cref.offset as usize] = activity;
     }
@@ -236,7 +236,7 @@ impl ClauseAlloc {
           len = (header_at self.old cref).len;
         } }
         ensures lits { lits_at self.new cref ≡ lits_at self.old cref }
-        ensures others { ChangesAt self.old self.new cref }
+        ensures others { ChangesClauseAt self.old self.new cref }
     {
         self.words[cref.offset as usize + 1] = header.flags();
     }
@@ -289,7 +289,7 @@ impl ClauseAlloc {
         requires within { at < length (lits_at self.old cref) }
         ensures header { header_at self.new cref ≡ header_at self.old cref }
         ensures lits { lits_at self.new cref ≡ slice_set (lits_at self.old cref) at lit }
-        ensures others { ChangesAt self.old self.new cref }
+        ensures others { ChangesClauseAt self.old self.new cref }
     {
         self.words[cref.offset as usize + HEADER_LEN + at] = lit.code() as u32;
     }
@@ -302,7 +302,7 @@ impl ClauseAlloc {
         requires second_within { j < length (lits_at self.old cref) }
         ensures header { header_at self.new cref ≡ header_at self.old cref }
         ensures lits { lits_at self.new cref ≡ swapped (lits_at self.old cref) i j }
-        ensures others { ChangesAt self.old self.new cref }
+        ensures others { ChangesClauseAt self.old self.new cref }
     {
         let base = cref.offset as usize + HEADER_LEN;
         let first = self.words[base + i];

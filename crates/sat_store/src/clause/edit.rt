@@ -20,7 +20,7 @@ pub struct ClauseMut<'a> {
 }
 
 impl<'a> ClauseMut<'a> {
-    ghost use Rattle.sat_store.specs.clause.Edits.{Edits, IsViewOfClause, header_there, lits_there};
+    ghost use Rattle.sat_store.specs.clause.Edits.{EditsClause, IsViewOfClause, view_header, view_lits};
 
     /// Returns the view itself, which can set the fields of the header.
     pub fn header_mut(&mut self) -> &mut ClauseMut<'a>
@@ -41,7 +41,7 @@ impl<'a> ClauseMut<'a> {
     /// Returns the header.
     pub fn header(&self) -> ClauseHeader
         requires { IsViewOfClause self.now }
-        ensures { result ≡ header_there self.now }
+        ensures { result ≡ view_header self.now }
     {
         self.buffer.header(self.cref)
     }
@@ -49,7 +49,7 @@ impl<'a> ClauseMut<'a> {
     /// Returns `true` if the clause was deleted.
     pub fn deleted(&self) -> bool
         requires { IsViewOfClause self.now }
-        ensures { result ≡ (header_there self.now).deleted }
+        ensures { result ≡ (view_header self.now).deleted }
     {
         self.header().deleted()
     }
@@ -57,7 +57,7 @@ impl<'a> ClauseMut<'a> {
     /// Returns the tier of the clause.
     pub fn tier(&self) -> Tier
         requires { IsViewOfClause self.now }
-        ensures { result ≡ (header_there self.now).tier }
+        ensures { result ≡ (view_header self.now).tier }
     {
         self.header().tier()
     }
@@ -65,7 +65,7 @@ impl<'a> ClauseMut<'a> {
     /// Returns `true` if the clause is learned: its tier is not `Irred`.
     pub fn redundant(&self) -> bool
         requires { IsViewOfClause self.now }
-        ensures { result ≡ is_learned (header_there self.now).tier }
+        ensures { result ≡ is_learned (view_header self.now).tier }
     {
         self.header().redundant()
     }
@@ -73,7 +73,7 @@ impl<'a> ClauseMut<'a> {
     /// Returns `true` if the clause is marked.
     pub fn mark(&self) -> bool
         requires { IsViewOfClause self.now }
-        ensures { result ≡ (header_there self.now).mark }
+        ensures { result ≡ (view_header self.now).mark }
     {
         self.header().mark()
     }
@@ -81,7 +81,7 @@ impl<'a> ClauseMut<'a> {
     /// Returns `true` if the clause has been used since this flag was last cleared.
     pub fn active(&self) -> bool
         requires { IsViewOfClause self.now }
-        ensures { result ≡ (header_there self.now).active }
+        ensures { result ≡ (view_header self.now).active }
     {
         self.header().active()
     }
@@ -89,7 +89,7 @@ impl<'a> ClauseMut<'a> {
     /// Returns the glue of the clause, which is at most 63.
     pub fn glue(&self) -> usize
         requires { IsViewOfClause self.now }
-        ensures { result ≡ (header_there self.now).glue }
+        ensures { result ≡ (view_header self.now).glue }
     {
         self.header().glue()
     }
@@ -97,7 +97,7 @@ impl<'a> ClauseMut<'a> {
     /// Returns the activity of the clause.
     pub fn activity(&self) -> u32
         requires { IsViewOfClause self.now }
-        ensures { result ≡ (header_there self.now).activity }
+        ensures { result ≡ (view_header self.now).activity }
     {
         self.header().activity()
     }
@@ -105,7 +105,7 @@ impl<'a> ClauseMut<'a> {
     /// Returns the number of literals.
     pub fn len(&self) -> usize
         requires { IsViewOfClause self.now }
-        ensures { result ≡ length (lits_there self.now) }
+        ensures { result ≡ length (view_lits self.now) }
     {
         self.buffer.len(self.cref)
     }
@@ -113,8 +113,8 @@ impl<'a> ClauseMut<'a> {
     /// Returns the literal at position `at`.
     pub fn get(&self, at: usize) -> Lit
         requires clause { IsViewOfClause self.now }
-        requires within { at < length (lits_there self.now) }
-        ensures { result ≡ slice_index (lits_there self.now) at }
+        requires within { at < length (view_lits self.now) }
+        ensures { result ≡ slice_index (view_lits self.now) at }
     {
         self.buffer.lit(self.cref, at)
     }
@@ -122,7 +122,7 @@ impl<'a> ClauseMut<'a> {
     /// Returns an iterator over the literals, in order.
     pub fn iter(&self) -> LitsIter<'_>
         requires { IsViewOfClause self.now }
-        ensures rest { result ≡ lits_there self.now }
+        ensures rest { result ≡ view_lits self.now }
         ensures runs { ShowsInOrder (λ (x : ℕ). x) }
     {
         self.buffer.clause(self.cref).lits().iter()
@@ -131,9 +131,9 @@ impl<'a> ClauseMut<'a> {
     /// Replaces the literal at position `at`.
     pub fn set(&mut self, at: usize, lit: Lit)
         requires clause { IsViewOfClause self.old }
-        requires within { at < length (lits_there self.old) }
+        requires within { at < length (view_lits self.old) }
         ensures buffer { self.new.buffer.ghost_name ≡ self.old.buffer.ghost_name }
-        ensures edit { Edits self.old self.new (header_there self.old) (slice_set (lits_there self.old) at lit) }
+        ensures edit { EditsClause self.old self.new (view_header self.old) (slice_set (view_lits self.old) at lit) }
     {
         self.buffer.set_lit(self.cref, at, lit);
     }
@@ -141,10 +141,10 @@ impl<'a> ClauseMut<'a> {
     /// Swaps the literals at positions `i` and `j`.
     pub fn swap(&mut self, i: usize, j: usize)
         requires clause { IsViewOfClause self.old }
-        requires first_within { i < length (lits_there self.old) }
-        requires second_within { j < length (lits_there self.old) }
+        requires first_within { i < length (view_lits self.old) }
+        requires second_within { j < length (view_lits self.old) }
         ensures buffer { self.new.buffer.ghost_name ≡ self.old.buffer.ghost_name }
-        ensures edit { Edits self.old self.new (header_there self.old) (swapped (lits_there self.old) i j) }
+        ensures edit { EditsClause self.old self.new (view_header self.old) (swapped (view_lits self.old) i j) }
     {
         self.buffer.swap_lits(self.cref, i, j);
     }
@@ -152,9 +152,9 @@ impl<'a> ClauseMut<'a> {
     /// Replaces the header. The new header must have the length of the old one.
     fn set_header(&mut self, header: ClauseHeader)
         requires clause { IsViewOfClause self.old }
-        requires same_len { header.len ≡ (header_there self.old).len }
+        requires same_len { header.len ≡ (view_header self.old).len }
         ensures buffer { self.new.buffer.ghost_name ≡ self.old.buffer.ghost_name }
-        ensures edit { Edits self.old self.new header (lits_there self.old) }
+        ensures edit { EditsClause self.old self.new header (view_lits self.old) }
     {
         self.buffer.set_header(self.cref, header);
     }
@@ -162,10 +162,10 @@ impl<'a> ClauseMut<'a> {
     /// Drops the literals from position `len` on.
     pub fn set_len(&mut self, len: usize)
         requires clause { IsViewOfClause self.old }
-        requires no_longer { len ≤ length (lits_there self.old) }
+        requires no_longer { len ≤ length (view_lits self.old) }
         ensures buffer { self.new.buffer.ghost_name ≡ self.old.buffer.ghost_name }
-        ensures edit { Edits self.old self.new (record (header_there self.old) { len = len })
-            (take len (lits_there self.old)) }
+        ensures edit { EditsClause self.old self.new (record (view_header self.old) { len = len })
+            (take len (view_lits self.old)) }
     {
         let mut header = self.buffer.header(self.cref);
         header.set_len(len);
@@ -176,8 +176,8 @@ impl<'a> ClauseMut<'a> {
     pub fn set_deleted(&mut self, deleted: bool)
         requires { IsViewOfClause self.old }
         ensures buffer { self.new.buffer.ghost_name ≡ self.old.buffer.ghost_name }
-        ensures edit { Edits self.old self.new (record (header_there self.old) { deleted = deleted })
-            (lits_there self.old) }
+        ensures edit { EditsClause self.old self.new (record (view_header self.old) { deleted = deleted })
+            (view_lits self.old) }
     {
         let mut header = self.header();
         header.set_deleted(deleted);
@@ -188,7 +188,7 @@ impl<'a> ClauseMut<'a> {
     pub fn set_tier(&mut self, tier: Tier)
         requires { IsViewOfClause self.old }
         ensures buffer { self.new.buffer.ghost_name ≡ self.old.buffer.ghost_name }
-        ensures edit { Edits self.old self.new (record (header_there self.old) { tier = tier }) (lits_there self.old) }
+        ensures edit { EditsClause self.old self.new (record (view_header self.old) { tier = tier }) (view_lits self.old) }
     {
         let mut header = self.header();
         header.set_tier(tier);
@@ -199,7 +199,7 @@ impl<'a> ClauseMut<'a> {
     pub fn set_mark(&mut self, mark: bool)
         requires { IsViewOfClause self.old }
         ensures buffer { self.new.buffer.ghost_name ≡ self.old.buffer.ghost_name }
-        ensures edit { Edits self.old self.new (record (header_there self.old) { mark = mark }) (lits_there self.old) }
+        ensures edit { EditsClause self.old self.new (record (view_header self.old) { mark = mark }) (view_lits self.old) }
     {
         let mut header = self.header();
         header.set_mark(mark);
@@ -210,8 +210,8 @@ impl<'a> ClauseMut<'a> {
     pub fn set_active(&mut self, active: bool)
         requires { IsViewOfClause self.old }
         ensures buffer { self.new.buffer.ghost_name ≡ self.old.buffer.ghost_name }
-        ensures edit { Edits self.old self.new (record (header_there self.old) { active = active })
-            (lits_there self.old) }
+        ensures edit { EditsClause self.old self.new (record (view_header self.old) { active = active })
+            (view_lits self.old) }
     {
         let mut header = self.header();
         header.set_active(active);
@@ -222,8 +222,8 @@ impl<'a> ClauseMut<'a> {
     pub fn set_glue(&mut self, glue: usize)
         requires { IsViewOfClause self.old }
         ensures buffer { self.new.buffer.ghost_name ≡ self.old.buffer.ghost_name }
-        ensures edit { Edits self.old self.new (record (header_there self.old) { glue = min glue 63 })
-            (lits_there self.old) }
+        ensures edit { EditsClause self.old self.new (record (view_header self.old) { glue = min glue 63 })
+            (view_lits self.old) }
     {
         let mut header = self.header();
         header.set_glue(glue);
@@ -234,8 +234,8 @@ impl<'a> ClauseMut<'a> {
     pub fn set_activity(&mut self, activity: u32)
         requires { IsViewOfClause self.old }
         ensures buffer { self.new.buffer.ghost_name ≡ self.old.buffer.ghost_name }
-        ensures edit { Edits self.old self.new (record (header_there self.old) { activity = activity })
-            (lits_there self.old) }
+        ensures edit { EditsClause self.old self.new (record (view_header self.old) { activity = activity })
+            (view_lits self.old) }
     {
         let mut header = self.header();
         header.set_activity(activity);

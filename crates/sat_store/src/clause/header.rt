@@ -162,8 +162,9 @@ impl ClauseHeader {
         self.flags = u32::from(active) * 1024 + self.flags % 1024;
     }
 
-    /// Returns the glue, which is at most 63. In a solver, it is one less than the number of levels of a new learned
-    /// clause, or the complete number of levels when the clause was used again, if that was lower.
+    /// Returns the glue, which is at most 63. In a solver, the glue of a new learned clause is one less than the number
+    /// of distinct levels of its literals. When the clause is used again, its glue becomes the number of distinct
+    /// levels at that time, if that is lower.
     pub fn glue(&self) -> usize
         ensures { result ≡ self.now.glue }
     {

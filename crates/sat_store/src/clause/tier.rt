@@ -1,6 +1,6 @@
 //! The tiers of clauses.
 ghost use Rattle.std.specs.Prelude.{◌≡◌, ◌≤◌, MatchOption};
-ghost use Rattle.sat_store.specs.clause.Header.{index_of};
+ghost use Rattle.sat_store.specs.clause.Header.{tier_index};
 
 /// The tier of a clause, which determines how long the clause is kept.
 #[derive(Clone, Copy, Debug, PartialEq, Eq)]
@@ -25,7 +25,7 @@ impl Tier {
 
     /// Returns the tier with this number, or `None` if there is none. Tiers are numbered from 0.
     pub fn from_index(index: usize) -> Option<Tier>
-        ensures { MatchOption result (4 ≤ index) (λ tier. index_of tier ≡ index) }
+        ensures { MatchOption result (4 ≤ index) (λ tier. tier_index tier ≡ index) }
     {
         match index {
             0 => Some(Tier::Irred),
@@ -38,7 +38,7 @@ impl Tier {
 
     /// Returns the number of the tier. Tiers are numbered from 0.
     pub fn index(self) -> usize
-        ensures { result ≡ index_of self }
+        ensures { result ≡ tier_index self }
     {
         match self {
             Tier::Irred => 0,

@@ -2,10 +2,13 @@
 ghost use Rattle.std.specs.Prelude.{◌≡◌, ◌+◌, ◌*◌, ◌<◌, ◌≤◌, ◌↔◌, IsTrue, length, MatchOption, slice_set, ◌-◌, true};
 ghost use Rattle.std.specs.Prelude.{false, vec_capacity};
 ghost use Rattle.sat_base.specs.values.Literals.{var_limit};
-ghost use Rattle.sat_store.specs.heap.Heap.{var_at, HoldsVariables, Placed, IsHeap, StaysHeap, rank, rank_at, parent};
-ghost use Rattle.sat_store.specs.heap.Heap.{Ordered, UpFrom, IsChildAt, IsFirstOf, FirstChildOf, IsFirstChild, FirstAbove};
-ghost use Rattle.sat_store.specs.heap.Heap.{NoneAbove, SettlesDown};
-ghost use Rattle.sat_store.specs.heap.Heap.{Exchanged, Rearranged, SetsFlag, AddsHeapVars, keys};
+ghost use Rattle.sat_store.specs.heap.Heap.{var_at, VariablesAreWithinLimit, PositionsMatch, IsHeap, KeepsHeap, rank};
+ghost use Rattle.sat_store.specs.heap.Heap.{rank_at, parent};
+ghost use Rattle.sat_store.specs.heap.Heap.{IsHeapOrdered, OrderedExceptAt, IsChildAt, IsFirstOf, FirstChildOf};
+ghost use Rattle.sat_store.specs.heap.Heap.{ChildrenRankAtMost, FirstChildRanksAbove};
+ghost use Rattle.sat_store.specs.heap.Heap.{NoChildRanksAbove, SiftsDown};
+ghost use Rattle.sat_store.specs.heap.Heap.{SwapsEntries, PermutesEntries, SetsAvailable, AddsHeapVars};
+ghost use Rattle.sat_store.specs.heap.Heap.{activities_by_var};
 
 /// A variable and its activity.
 #[derive(Clone, Copy)]
@@ -29,11 +32,11 @@ fn put(heap: &mut Vec<Entry>, positions: &mut Vec<u32>, at: usize, entry: Entry)
 
 /// Swaps the entries at two positions.
 pub(super) fn exchange(heap: &mut Vec<Entry>, positions: &mut Vec<u32>, i: usize, j: usize)
-    requires placed { Placed heap.old.items positions.old.items }
+    requires placed { PositionsMatch heap.old.items positions.old.items }
     requires few { length heap.old.items ≤ var_limit }
     requires first { i < length heap.old.items }
     requires second { j < length heap.old.items }
-    ensures { Exchanged heap.old.items positions.old.items heap.new.items positions.new.items i j }
+    ensures { SwapsEntries heap.old.items positions.old.items heap.new.items positions.new.items i j }
 {
     let first = heap[i];
     let second = heap[j];
@@ -55,8 +58,8 @@ fn is_above(a: Entry, b: Entry) -> bool
 
 /// Returns `true` if an entry comes before the parent of a position.
 #[inline(always)] // called at each step up
-fn goes_up(heap: &[Entry], entry: Entry, at: usize) -> bool
-    requires listed { HoldsVariables heap.now }
+fn ranks_above_parent(heap: &[Entry], entry: Entry, at: usize) -> bool
+    requires listed { VariablesAreWithinLimit heap.now }
     requires var { entry.var < var_limit }
     requires at { at < length heap.now }
     ensures { IsTrue result ↔ ((0 < at) × (rank_at heap.now (parent at) < rank entry)) }
@@ -66,17 +69,17 @@ fn goes_up(heap: &[Entry], entry: Entry, at: usize) -> bool
 
 /// Moves the entry at a position up until the heap is ordered.
 pub(super) fn sift_up(heap: &mut Vec<Entry>, positions: &mut Vec<u32>, available: usize, at: usize)
-    requires placed { Placed heap.old.items positions.old.items }
+    requires placed { PositionsMatch heap.old.items positions.old.items }
     requires few { length heap.old.items ≤ var_limit }
     requires within { available ≤ length heap.old.items }
     requires at { at < available }
-    requires up { UpFrom (rank_at heap.old.items) available at }
-    ensures same { Rearranged available heap.old.items positions.old.items heap.new.items positions.new.items }
-    ensures ordered { Ordered (rank_at heap.new.items) available 0 }
+    requires up { OrderedExceptAt (rank_at heap.old.items) available at }
+    ensures same { PermutesEntries available heap.old.items positions.old.items heap.new.items positions.new.items }
+    ensures ordered { IsHeapOrdered (rank_at heap.new.items) available 0 }
 {
     let entry = heap[at];
     let mut hole = at;
-    while goes_up(heap, entry, hole) {
+    while ranks_above_parent(heap, entry, hole) {
         let above = (hole - 1) / 4;
         let other = heap[above];
         put(heap, positions, hole, other);
@@ -118,7 +121,7 @@ fn first_of(a: Child, b: Child) -> Child
 /// Returns that child of `at` that comes before the others in the heap's order. There must be a child.
 #[inline(always)] // called at each step down
 fn first_child(heap: &[Entry], available: usize, at: usize) -> Child
-    requires listed { HoldsVariables heap.now }
+    requires listed { VariablesAreWithinLimit heap.now }
     requires few { length heap.now ≤ var_limit }
     requires within { available ≤ length heap.now }
     requires some { 4 * at + 1 < available }
@@ -135,14 +138,14 @@ fn first_child(heap: &[Entry], available: usize, at: usize) -> Child
 /// Returns the position of the child that `first_child` returns, for any number of children.
 #[inline(never)] // at most one position has one, two or three children
 fn last_first_child(heap: &[Entry], available: usize, at: usize) -> usize
-    requires listed { HoldsVariables heap.now }
+    requires listed { VariablesAreWithinLimit heap.now }
     requires few { length heap.now ≤ var_limit }
     requires within { available ≤ length heap.now }
     requires some { 4 * at + 1 < available }
     ensures child { parent result ≡ at }
     ensures positive { 0 < result }
     ensures within { result < available }
-    ensures first { IsFirstChild (rank_at heap.now) available at result }
+    ensures first { ChildrenRankAtMost (rank_at heap.now) available at result }
 {
     let mut child = 4 * at + 1;
     let mut best = heap[child];
@@ -162,13 +165,13 @@ fn last_first_child(heap: &[Entry], available: usize, at: usize) -> usize
 /// child, returns `None`.
 #[inline(always)] // called at each step down
 fn child_above(heap: &[Entry], available: usize, entry: Entry, at: usize) -> Option<Child>
-    requires listed { HoldsVariables heap.now }
+    requires listed { VariablesAreWithinLimit heap.now }
     requires few { length heap.now ≤ var_limit }
     requires within { available ≤ length heap.now }
     requires var { entry.var < var_limit }
     requires at { at < available }
-    ensures { MatchOption result (NoneAbove heap.now available entry at)
-        (λ child. FirstAbove heap.now available entry at child.at × IsChildAt heap.now child.at child) }
+    ensures { MatchOption result (NoChildRanksAbove heap.now available entry at)
+        (λ child. FirstChildRanksAbove heap.now available entry at child.at × IsChildAt heap.now child.at child) }
 {
     if 4 * at + 1 >= available {
         return None;
@@ -187,12 +190,12 @@ pub(super) fn sift_down(
     available: usize,
     at: usize,
 )
-    requires placed { Placed heap.old.items positions.old.items }
+    requires placed { PositionsMatch heap.old.items positions.old.items }
     requires few { length heap.old.items ≤ var_limit }
     requires within { available ≤ length heap.old.items }
     requires at { at < available }
-    ensures same { Rearranged available heap.old.items positions.old.items heap.new.items positions.new.items }
-    ensures ordered { SettlesDown (rank_at heap.old.items) (rank_at heap.new.items) available at }
+    ensures same { PermutesEntries available heap.old.items positions.old.items heap.new.items positions.new.items }
+    ensures ordered { SiftsDown (rank_at heap.old.items) (rank_at heap.new.items) available at }
 {
     let entry = heap[at];
     let mut hole = at;
@@ -205,11 +208,11 @@ pub(super) fn sift_down(
 
 /// Turns the first `available` entries into a heap, from the bottom up.
 pub(super) fn heapify(heap: &mut Vec<Entry>, positions: &mut Vec<u32>, available: usize)
-    requires placed { Placed heap.old.items positions.old.items }
+    requires placed { PositionsMatch heap.old.items positions.old.items }
     requires few { length heap.old.items ≤ var_limit }
     requires within { available ≤ length heap.old.items }
-    ensures same { Rearranged available heap.old.items positions.old.items heap.new.items positions.new.items }
-    ensures ordered { Ordered (rank_at heap.new.items) available 0 }
+    ensures same { PermutesEntries available heap.old.items positions.old.items heap.new.items positions.new.items }
+    ensures ordered { IsHeapOrdered (rank_at heap.new.items) available 0 }
 {
     let mut low = (available + 2) / 4;
     while low > 0 {
@@ -223,16 +226,16 @@ pub(super) fn take_out(heap: &mut Vec<Entry>, positions: &mut Vec<u32>, availabl
     requires heap { IsHeap heap.old.items positions.old.items available }
     requires at { at < available }
     ensures heap { IsHeap heap.new.items positions.new.items (available - 1) }
-    ensures flags { SetsFlag available (available - 1) positions.old.items positions.new.items
+    ensures flags { SetsAvailable available (available - 1) positions.old.items positions.new.items
         (var_at heap.old.items at) false }
-    ensures keys { keys heap.new.items positions.new.items ≡ keys heap.old.items positions.old.items }
+    ensures keys { activities_by_var heap.new.items positions.new.items ≡ activities_by_var heap.old.items positions.old.items }
 {
     let last = available - 1;
     exchange(heap, positions, at, last);
     if at == last {
         return;
     }
-    if goes_up(heap, heap[at], at) {
+    if ranks_above_parent(heap, heap[at], at) {
         sift_up(heap, positions, last, at);
         return;
     }
@@ -247,9 +250,9 @@ pub(super) fn put_in(heap: &mut Vec<Entry>, positions: &mut Vec<u32>, available:
     requires following { available ≤ at }
     requires at { at < length heap.old.items }
     ensures heap { IsHeap heap.new.items positions.new.items (available + 1) }
-    ensures flags { SetsFlag available (available + 1) positions.old.items positions.new.items
+    ensures flags { SetsAvailable available (available + 1) positions.old.items positions.new.items
         (var_at heap.old.items at) true }
-    ensures keys { keys heap.new.items positions.new.items ≡ keys heap.old.items positions.old.items }
+    ensures keys { activities_by_var heap.new.items positions.new.items ≡ activities_by_var heap.old.items positions.old.items }
 {
     exchange(heap, positions, at, available);
     sift_up(heap, positions, available + 1, available);
@@ -259,10 +262,10 @@ pub(super) fn put_in(heap: &mut Vec<Entry>, positions: &mut Vec<u32>, available:
 pub(super) fn add_variables(heap: &mut Vec<Entry>, positions: &mut Vec<u32>, count: usize)
     requires heap_room { count ≤ vec_capacity heap.old }
     requires positions_room { count ≤ vec_capacity positions.old }
-    requires placed { Placed heap.old.items positions.old.items }
+    requires placed { PositionsMatch heap.old.items positions.old.items }
     requires more { length heap.old.items ≤ count }
     requires few { count ≤ var_limit }
-    ensures heap { StaysHeap heap.old.items positions.old.items heap.new.items positions.new.items }
+    ensures heap { KeepsHeap heap.old.items positions.old.items heap.new.items positions.new.items }
     ensures adds { AddsHeapVars count heap.old.items positions.old.items heap.new.items positions.new.items }
 {
     for index in heap.len()..count {

@@ -1,7 +1,7 @@
 use Rattle.std.proofs.Common.{ℕ, ◌+◌, ◌≡◌, ◌∙◌, ap, refl}
-use Rattle.sat_base.specs.steps.StepReading.{reader_source, step_in}
+use Rattle.sat_base.specs.steps.StepReading.{reader_source, last_step_in}
 use Rattle.sat_checker.specs.CheckerView.{kernel_of}
-use Rattle.certify.specs.confirm.Confirming.{table_of}
+use Rattle.certify.specs.confirm.Confirming.{name_table_of}
 use Rattle.certify.specs.confirm.ConfirmedScript.{confirm_place}
 use Rattle.certify.specs.script.LastPiece.{source_in}
 use Rattle.certify.proofs.lemmas.script.LastChunks.{reads_first}
@@ -19,8 +19,8 @@ returns g c =
     let script = c.new.result.ahead in
     let answers = c.new-2.result.answers.lines.ahead in
     let checker = kernel_of c.new-2.result.matching.certificate.checker in
-    let step = step_in c.new-steps.result in
-    let table = table_of c.new-2.result.matching in
+    let step = last_step_in c.new-steps.result in
+    let table = name_table_of c.new-2.result.matching in
     let ended = c.confirm_all-ended in
     let new = confirm_place S A C ended.new.script ended.new.answers ended.new.steps ended.new.self in
     let fresh : IsBegun checker step table = λ rest. c.new-2.ensures.valid rest step in

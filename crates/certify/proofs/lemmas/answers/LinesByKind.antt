@@ -5,37 +5,37 @@ use Rattle.sat_base.specs.script.Script.{Literal}
 use Rattle.certify.specs.answers.Answers.{s_satisfiable, s_unsatisfiable, s_unknown, literals_text, outcome_text}
 use Rattle.sat_checker.specs.matching.Expected.{Outcome, Sat, Unsat, Unknown}
 use Rattle.certify.specs.answers.AnswerForms.{IsPrintable, literals_of}
-use Rattle.certify.specs.answers.AnswerReading.{NoKind, NoLiterals, NoLine, NoOutcome, StartsNoLine, StartsNoLiterals, HasLine, IsHead, IsCutShort, BeginsNoOutcome, first_answer_line, outcome_of, second_line}
+use Rattle.certify.specs.answers.AnswerReading.{WhyNoFirstLine, WhyNoLiterals, WhyNoSecondLine, WhyNoOutcome, CannotBeginSecondLine, CannotBeginLiterals, HasSecondLine, IsSecondLineHead, EndsBeforeLine, BeginsNoOutcome, first_answer_line, outcome_of, second_line}
 use Rattle.certify.specs.declared.answers.read.AnswerKind.{AnswerKind}
 use Rattle.certify.specs.declared.answers.read.AnswerKind.TheVariants as kind
 use Rattle.certify.specs.declared.answers.read.AnswerFault.{AnswerFault}
 use Rattle.certify.specs.declared.answers.read.AnswerFault.TheVariants.{Missing, Text, OutOfMemory}
 
 -- the second line of an answer is its head and its literals
-pub line_text : (k : AnswerKind) (head : List ℕ) (ls : List Literal) → IsHead k head → second_line (outcome_of k ls) ≡ head ++ literals_text ls
+pub line_text : (k : AnswerKind) (head : List ℕ) (ls : List Literal) → IsSecondLineHead k head → second_line (outcome_of k ls) ≡ head ++ literals_text ls
 line_text kind.Sat head ls h = ap (λ t. t ++ literals_text ls) (sym h)
 line_text kind.Unsat head ls h = ap (λ t. t ++ literals_text ls) (sym h)
 line_text kind.Unknown head ls h = absurd h
 
-pub line_literals : (k : AnswerKind) (ls : List Literal) → HasLine k → literals_of (outcome_of k ls) ≡ ls
+pub line_literals : (k : AnswerKind) (ls : List Literal) → HasSecondLine k → literals_of (outcome_of k ls) ≡ ls
 line_literals kind.Sat ls h = refl
 line_literals kind.Unsat ls h = refl
 line_literals kind.Unknown ls h = absurd h
 
 -- a second line is its head and the text of its literals
-line_after : (k : AnswerKind) (head bytes : List ℕ) (ls : List Literal) (tail : List ℕ) → IsHead k head → bytes ≡ second_line (outcome_of k ls) ++ tail → bytes ≡ head ++ (literals_text ls ++ tail)
+line_after : (k : AnswerKind) (head bytes : List ℕ) (ls : List Literal) (tail : List ℕ) → IsSecondLineHead k head → bytes ≡ second_line (outcome_of k ls) ++ tail → bytes ≡ head ++ (literals_text ls ++ tail)
 line_after k head bytes ls tail h e = e ∙ ap (λ t. t ++ tail) (line_text k head ls h) ∙ append_assoc head (literals_text ls) tail
 
 -- the head and the text of literals make up a second line
-pub line_read : (k : AnswerKind) (head bytes following : List ℕ) (ls : List Literal) (tail : List ℕ) → IsHead k head → bytes ≡ head ++ following → following ≡ literals_text ls ++ tail → bytes ≡ second_line (outcome_of k ls) ++ tail
+pub line_read : (k : AnswerKind) (head bytes following : List ℕ) (ls : List Literal) (tail : List ℕ) → IsSecondLineHead k head → bytes ≡ head ++ following → following ≡ literals_text ls ++ tail → bytes ≡ second_line (outcome_of k ls) ++ tail
 line_read k head bytes following ls tail h e f = e ∙ ap (λ t. head ++ t) f ∙ sym (append_assoc head (literals_text ls) tail) ∙ ap (λ t. t ++ tail) (sym (line_text k head ls h))
 
 -- bytes that don't begin with the head don't begin with a second line
-pub no_head : (k : AnswerKind) (head bytes : List ℕ) → IsHead k head → bytes ≢ [] → ((tail : List ℕ) → bytes ≡ head ++ tail → ⊥) → NoLine k bytes Text
+pub no_head : (k : AnswerKind) (head bytes : List ℕ) → IsSecondLineHead k head → bytes ≢ [] → ((tail : List ℕ) → bytes ≡ head ++ tail → ⊥) → WhyNoSecondLine k bytes Text
 no_head k head bytes h some none = (some, λ ls tail o e. none (literals_text ls ++ tail) (line_after k head bytes ls tail h e))
 
 -- if no literals are read after the head, no second line is read, with the same fault
-pub no_list : (k : AnswerKind) (head bytes following : List ℕ) (fault : AnswerFault) → IsHead k head → bytes ≢ [] → bytes ≡ head ++ following → NoLiterals k following fault → NoLine k bytes fault
+pub no_list : (k : AnswerKind) (head bytes following : List ℕ) (fault : AnswerFault) → IsSecondLineHead k head → bytes ≢ [] → bytes ≡ head ++ following → WhyNoLiterals k following fault → WhyNoSecondLine k bytes fault
 no_list k head bytes following Missing h some e none = absurd none
 no_list k head bytes following Text h some e none = (
   some,
@@ -69,7 +69,7 @@ kind_text (Unsat ls) = (kind.Unsat, refl)
 kind_text Unknown = (kind.Unknown, refl)
 
 -- if no first line is read, no answer is read
-pub no_kind : (bytes : List ℕ) (fault : AnswerFault) → NoKind bytes fault → NoOutcome bytes fault
+pub no_kind : (bytes : List ℕ) (fault : AnswerFault) → WhyNoFirstLine bytes fault → WhyNoOutcome bytes fault
 no_kind bytes Missing e = (inl e, λ o tail h f. go (kind_text o).0 (second_line o ++ tail) (sym e ∙ f ∙ ap (λ t. t ++ tail) (kind_text o).1 ∙ append_assoc (first_answer_line (kind_text o).0) (second_line o) tail))
   where
     go : (k : AnswerKind) (x : List ℕ) → [] ≡ first_answer_line k ++ x → ⊥
@@ -78,22 +78,22 @@ no_kind bytes Missing e = (inl e, λ o tail h f. go (kind_text o).0 (second_line
     go kind.Unknown x e = cc
 no_kind bytes Text none = (cut, λ o tail h f. none.1 (kind_text o).0 (second_line o ++ tail) (f ∙ ap (λ t. t ++ tail) (kind_text o).1 ∙ append_assoc (first_answer_line (kind_text o).0) (second_line o) tail))
   where
-    cut : IsCutShort bytes → ⊥
+    cut : EndsBeforeLine bytes → ⊥
     cut (inl e) = none.0 e
     cut (inr (inl e)) = none.1 kind.Sat [] e
     cut (inr (inr e)) = none.1 kind.Unsat [] e
 no_kind bytes OutOfMemory none = absurd none
 
 -- if no second line is read after the first line, no answer is read
-pub no_line : (k : AnswerKind) (bytes following : List ℕ) (fault : AnswerFault) → bytes ≡ first_answer_line k ++ following → NoLine k following fault → NoOutcome bytes fault
+pub no_line : (k : AnswerKind) (bytes following : List ℕ) (fault : AnswerFault) → bytes ≡ first_answer_line k ++ following → WhyNoSecondLine k following fault → WhyNoOutcome bytes fault
 no_line k bytes following Missing e none = (cut k none.0 (e ∙ ap (λ t. first_answer_line k ++ t) none.1), begins)
   where
-    cut : (k : AnswerKind) → HasLine k → bytes ≡ first_answer_line k ++ [] → IsCutShort bytes
+    cut : (k : AnswerKind) → HasSecondLine k → bytes ≡ first_answer_line k ++ [] → EndsBeforeLine bytes
     cut kind.Sat h e = inr (inl e)
     cut kind.Unsat h e = inr (inr e)
     cut kind.Unknown h e = absurd h
 
-    some : (k : AnswerKind) (ls : List Literal) (y : List ℕ) → HasLine k → [] ≡ second_line (outcome_of k ls) ++ y → ⊥
+    some : (k : AnswerKind) (ls : List Literal) (y : List ℕ) → HasSecondLine k → [] ≡ second_line (outcome_of k ls) ++ y → ⊥
     some kind.Sat ls y h e = cc
     some kind.Unsat ls y h e = cc
     some kind.Unknown ls y h e = absurd h
@@ -109,7 +109,7 @@ no_line k bytes following Text e none = (
       none.1 r.0 tail (subst IsPrintable r.1.0 h) (r.1.1 ∙ ap (λ t. second_line t ++ tail) r.1.0),
 )
   where
-    cut : (k : AnswerKind) → following ≢ [] → bytes ≡ first_answer_line k ++ following → IsCutShort bytes → ⊥
+    cut : (k : AnswerKind) → following ≢ [] → bytes ≡ first_answer_line k ++ following → EndsBeforeLine bytes → ⊥
     cut kind.Sat some e (inl f) = let r : first_answer_line kind.Sat ++ following ≡ [] = sym e ∙ f in cc
     cut kind.Sat some e (inr (inl f)) = some (append_cancel_left s_satisfiable following [] (sym e ∙ f))
     cut kind.Sat some e (inr (inr f)) = let g : s_satisfiable ++ following ≡ s_unsatisfiable = sym e ∙ f in let r : ◌≡◌ {A = ℕ} 83 85 = cc in omega arith
@@ -122,12 +122,12 @@ no_line k bytes following Text e none = (
 no_line k bytes following OutOfMemory e none = (k, following, (e, none))
 
 -- the bytes are no prefix of a second line if those after the head are no prefix of literals
-pub starts_no_list : (k : AnswerKind) (head bytes following : List ℕ) → IsHead k head → bytes ≡ head ++ following → StartsNoLiterals k following → StartsNoLine k bytes
+pub starts_no_list : (k : AnswerKind) (head bytes following : List ℕ) → IsSecondLineHead k head → bytes ≡ head ++ following → CannotBeginLiterals k following → CannotBeginSecondLine k bytes
 starts_no_list k head bytes following h e none ls more o f =
     none ls more o (append_cancel_left head (literals_text ls) (following ++ more) (sym (line_text k head ls h) ∙ f ∙ ap (λ t. t ++ more) e ∙ append_assoc head following more))
 
 -- the bytes are no prefix of a second line if neither they nor the head is a prefix of the other
-pub starts_no_head : (k : AnswerKind) (head bytes : List ℕ) → IsHead k head → ((tail : List ℕ) → head ≡ bytes ++ tail → ⊥) → ((tail : List ℕ) → bytes ≡ head ++ tail → ⊥) → StartsNoLine k bytes
+pub starts_no_head : (k : AnswerKind) (head bytes : List ℕ) → IsSecondLineHead k head → ((tail : List ℕ) → head ≡ bytes ++ tail → ⊥) → ((tail : List ℕ) → bytes ≡ head ++ tail → ⊥) → CannotBeginSecondLine k bytes
 starts_no_head k head bytes h short long ls more o f = go head bytes (literals_text ls) more short long (sym (line_text k head ls h) ∙ f)
   where
     go : (xs ys x y : List ℕ) → ((tail : List ℕ) → xs ≡ ys ++ tail → ⊥) → ((tail : List ℕ) → ys ≡ xs ++ tail → ⊥) → xs ++ x ≡ ys ++ y → ⊥

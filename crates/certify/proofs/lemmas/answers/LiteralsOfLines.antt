@@ -6,7 +6,7 @@ use Rattle.sat_base.specs.values.Literals.{var_limit}
 use Rattle.sat_base.specs.script.Script.{Literal}
 use Rattle.certify.specs.answers.Answers.{literals_text, literal_text}
 use Rattle.certify.specs.answers.AnswerForms.{HaveNames, IsName, named_literal, named_literals}
-use Rattle.certify.specs.answers.AnswerReading.{NoLiteral}
+use Rattle.certify.specs.answers.AnswerReading.{BeginsNoLiteral}
 use Rattle.certify.proofs.lemmas.laws.DistinctTexts.{plain_word, at_space, not_end, same_literals as literals_of_texts}
 
 within_limit : (ls : List Literal) → HaveNames ls → AllByRecursion (λ l. l.name ≤ var_limit) ls
@@ -52,7 +52,7 @@ pub all_read : (bytes line rest tail : List ℕ) → Read bytes line rest → re
 all_read bytes line rest tail r e = (r.names, r.back [] tail e ∙ ap (λ t. literals_text t ++ tail) (append-nil (named_literals line)))
 
 -- the bytes begin with no line if neither a literal nor the end comes next
-pub not_read : (bytes line rest : List ℕ) → Read bytes line rest → NoLiteral rest → (ls : List Literal) (tail : List ℕ) → (rest ≡ 48 ∷ 10 ∷ tail → ⊥) → HaveNames ls → bytes ≡ literals_text ls ++ tail → ⊥
+pub not_read : (bytes line rest : List ℕ) → Read bytes line rest → BeginsNoLiteral rest → (ls : List Literal) (tail : List ℕ) → (rest ≡ 48 ∷ 10 ∷ tail → ⊥) → HaveNames ls → bytes ≡ literals_text ls ++ tail → ⊥
 not_read bytes line rest r none ls tail end h e = let more = r.forth ls tail h e in go more.0 more.1.0 more.1.1
   where
     go : (more : List Literal) → HaveNames more → rest ≡ literals_text more ++ tail → ⊥

@@ -6,10 +6,10 @@ use Rattle.std.proofs.lemmas.Fmt.{decimal_nonempty}
 use Rattle.std.proofs.lemmas.Str.Parse.{digit_from_value}
 use Rattle.std.specs.Str.Parse.{AllDigits}
 use Rattle.sat_base.specs.values.Literals.{var_limit, variable, is_positive, mk_lit}
-use Rattle.sat_base.specs.text.NumberWords.{BeginsWithWord, NoDigit, NoWord, digits_so_far}
+use Rattle.sat_base.specs.text.NumberWords.{BeginsWithWord, NoNumberContinues, BeginsWithNoWord, digits_so_far}
 use Rattle.sat_base.proofs.lemmas.text.NumberWords.{no_number_so}
 use Rattle.certify.specs.answers.AnswerForms.{IsName}
-use Rattle.certify.specs.answers.AnswerReading.{BeginsWithLiteral, NoLiteral, StartsNoLiteral, StartsNoName}
+use Rattle.certify.specs.answers.AnswerReading.{BeginsWithLiteral, BeginsNoLiteral, CannotBeginLiteral, CannotBeginName}
 use Rattle.certify.proofs.lemmas.laws.DistinctTexts.{small, numeral}
 
 -- a space comes next only if no digit has been read
@@ -26,7 +26,7 @@ no_minus n x y h e = go (decimal n) (numeral n h).0 (decimal_nonempty n (small n
     go (c ∷ cs) d k e = let r = digit_from_value c d.0 in let s : c ≡ 45 = cc in omega arith
 
 -- without a name after the sign, there is no literal
-pub no_negative : (bytes following : List ℕ) → bytes ≡ 45 ∷ following → NoWord decimal IsName following → NoLiteral bytes
+pub no_negative : (bytes following : List ℕ) → bytes ≡ 45 ∷ following → BeginsWithNoWord decimal IsName following → BeginsNoLiteral bytes
 no_negative bytes following e none l tail h f = go l.positive l.name h f
   where
     go : (s : Bool) (n : ℕ) → IsName n → bytes ≡ (cond s [] (45 ∷ []) ++ decimal n) ++ (32 ∷ tail) → ⊥
@@ -52,7 +52,7 @@ sign_skipped (b ∷ bs) rest false start h is one none r =
     (sym e, (λ tail f. let g : b ≡ 45 = cc in true≢false (sym (eq-eqb b 45 g) ∙ sym is)))
 
 -- without a name after the sign, if there is one, there is no literal
-pub no_literal_after : (bytes rest : List ℕ) (negative : Bool) → SkipsSign bytes rest negative → NoWord decimal IsName rest → NoLiteral bytes
+pub no_literal_after : (bytes rest : List ℕ) (negative : Bool) → SkipsSign bytes rest negative → BeginsWithNoWord decimal IsName rest → BeginsNoLiteral bytes
 no_literal_after bytes rest true e none = no_negative bytes rest e none
 no_literal_after bytes rest false e none = λ l tail h f. go l.positive l.name tail h f
   where
@@ -83,17 +83,17 @@ literal_begins bytes rest tail negative name l s b is =
 
 -- BYTES THAT ARE NO PREFIX OF A NAME
 
-pub starts_no_name : (name b : ℕ) (bytes x : List ℕ) → name ≤ var_limit → (b ≡ 32 → name ≡ 0) → NoDigit var_limit name b → bytes ≡ digits_so_far name ++ (b ∷ x) → StartsNoName bytes
+pub starts_no_name : (name b : ℕ) (bytes x : List ℕ) → name ≤ var_limit → (b ≡ 32 → name ≡ 0) → NoNumberContinues var_limit name b → bytes ≡ digits_so_far name ++ (b ∷ x) → CannotBeginName bytes
 starts_no_name name b bytes x h space none e more = no_number_so var_limit (omega arith) name b (bytes ++ more) (x ++ more) h space none (ap (λ t. t ++ more) e ∙ append_assoc (digits_so_far name) (b ∷ x) more)
 
-pub starts_no_negative : (bytes following : List ℕ) → bytes ≡ 45 ∷ following → StartsNoName following → StartsNoLiteral bytes
+pub starts_no_negative : (bytes following : List ℕ) → bytes ≡ 45 ∷ following → CannotBeginName following → CannotBeginLiteral bytes
 starts_no_negative bytes following e none more = no_negative (bytes ++ more) (following ++ more) (ap (λ t. t ++ more) e) (none more)
 
 -- the empty text is a prefix of a name and a space
-starts_some : (bytes : List ℕ) → StartsNoName bytes → bytes ≡ [] → ⊥
+starts_some : (bytes : List ℕ) → CannotBeginName bytes → bytes ≡ [] → ⊥
 starts_some bytes none e = none (decimal 1 ++ (32 ∷ [])) 1 [] (omega arith, omega arith) (ap (λ t. t ++ (decimal 1 ++ (32 ∷ []))) e)
 
-pub starts_no_positive : (bytes : List ℕ) → ((tail : List ℕ) → bytes ≡ 45 ∷ tail → ⊥) → StartsNoName bytes → StartsNoLiteral bytes
+pub starts_no_positive : (bytes : List ℕ) → ((tail : List ℕ) → bytes ≡ 45 ∷ tail → ⊥) → CannotBeginName bytes → CannotBeginLiteral bytes
 starts_no_positive bytes other none more l tail h f = go l.positive l.name h f
   where
     with_minus : (bytes x y : List ℕ) → (bytes ≡ [] → ⊥) → ((tail : List ℕ) → bytes ≡ 45 ∷ tail → ⊥) → bytes ++ x ≡ 45 ∷ y → ⊥

@@ -1,4 +1,5 @@
--- By the short definitions, a script has the same answers, the same correct outcomes and the same numbers of refusals and variables.
+-- By the short definitions, a script has the same answers, the same correct outcomes and the same numbers of refusals
+-- and variables.
 use Rattle.std.proofs.Common.{ℕ, ◌+◌, ◌≡◌, ◌∙◌, ◌↔◌, cond, Option, Some, None, List, [], ◌∷◌, ◌++◌, is_some, refl, sym, ap, subst, zero-add}
 use Rattle.std.specs.Prelude.{decimal, if◌then◌else◌}
 use Rattle.sat_base.specs.script.Script.{Literal, Command, Clause, Ask, Hide, Witness, Sample, ScriptEnding, Clean, Malformed}
@@ -7,7 +8,7 @@ use Rattle.sat_checker.specs.matching.Expected.{Outcome, Sat, Unsat, Unknown}
 use Rattle.certify.specs.answers.Answers.{answers_from, literals_text, outcome_text, refused_line, answer_to_command, outcomes_left}
 use Rattle.certify.specs.answers.AnswersText.{event_lines, literals_line, outcome_lines, refusal_line}
 use Rattle.certify.specs.answers.Events.{Event, event_of, events, EachIsRight, refusals_among, variables_at}
-use Rattle.certify.specs.answers.RightAnswers.{AreRight}
+use Rattle.certify.specs.answers.RightAnswers.{OutcomesAreRight}
 use Rattle.certify.specs.answers.ScriptNames.{ScriptState, initial_state}
 use Rattle.certify.specs.run.FinishedRun.{identities_given, refused_count}
 use Rattle.certify.specs.laws.HeadlineLaws.{SameAnswers, RightByEvents}
@@ -67,25 +68,25 @@ same_answers commands ending outcomes = same_lines 1 code_initial commands endin
 -- `Same j commands` holds if outcomes are correct for the commands exactly when they are correct for their events.
 abbrev Same : CodeState → List Command → Type 0
 Same j commands = (k : ℕ) (ending : ScriptEnding) (os : List Outcome)
-    → AreRight j (accepted_commands j commands) os ↔ EachIsRight (events k (short_state j) commands ending) os
+    → OutcomesAreRight j (accepted_commands j commands) os ↔ EachIsRight (events k (short_state j) commands ending) os
 
 -- a command that is no ask, refused or not
 plain_right : (r : Option Refusal) (k : ℕ) (j after : CodeState) (c : Command) (commands : List Command)
     → ((s : ScriptState) → event_of k None c s ≡ [])
-    → ((os : List Outcome) → AreRight j (c ∷ accepted_commands after commands) os ↔ AreRight after (accepted_commands after commands) os)
+    → ((os : List Outcome) → OutcomesAreRight j (c ∷ accepted_commands after commands) os ↔ OutcomesAreRight after (accepted_commands after commands) os)
     → Same j commands → Same after commands → (ending : ScriptEnding) (os : List Outcome)
-    → AreRight j (cond (is_some r) (accepted_commands j commands) (c ∷ accepted_commands after commands)) os
+    → OutcomesAreRight j (cond (is_some r) (accepted_commands j commands) (c ∷ accepted_commands after commands)) os
     ↔ EachIsRight (event_of k r c (short_state (cond (is_some r) j after)) ++ events (k + 1) (short_state (cond (is_some r) j after)) commands ending) os
 plain_right (Some r) k j after c commands none f old new ending [] = old (k + 1) ending []
 plain_right (Some r) k j after c commands none f old new ending (o ∷ os) = old (k + 1) ending (o ∷ os)
 plain_right None k j after c commands none f old new ending os =
     let rest = new (k + 1) ending os in
-    subst (λ (es : List Event). AreRight j (c ∷ accepted_commands after commands) os ↔ EachIsRight (es ++ events (k + 1) (short_state after) commands ending) os)
+    subst (λ (es : List Event). OutcomesAreRight j (c ∷ accepted_commands after commands) os ↔ EachIsRight (es ++ events (k + 1) (short_state after) commands ending) os)
     (sym (none (short_state after))) (λ h. rest.0 ((f os).0 h), λ h. (f os).1 (rest.1 h))
 
 ask_right : (r : Option Refusal) (k : ℕ) (j : CodeState) (ls : List Literal) (commands : List Command)
     → Same j commands → Same (code_accepted (Ask ls) j) commands → (ending : ScriptEnding) (os : List Outcome)
-    → AreRight j (cond (is_some r) (accepted_commands j commands) (Ask ls ∷ accepted_commands (code_accepted (Ask ls) j) commands)) os
+    → OutcomesAreRight j (cond (is_some r) (accepted_commands j commands) (Ask ls ∷ accepted_commands (code_accepted (Ask ls) j) commands)) os
     ↔ EachIsRight (event_of k r (Ask ls) (short_state (cond (is_some r) j (code_accepted (Ask ls) j)))
     ++ events (k + 1) (short_state (cond (is_some r) j (code_accepted (Ask ls) j))) commands ending) os
 ask_right (Some r) k j ls commands old new ending [] = old (k + 1) ending []
@@ -97,11 +98,11 @@ ask_right None k j ls commands old new ending (o ∷ os) =
     (λ h. (first.0 h.0, rest.0 h.1), λ h. (first.1 h.0, rest.1 h.1))
 
 next_right : (k : ℕ) (j : CodeState) (c : Command) (commands : List Command) (ending : ScriptEnding) (os : List Outcome) → Keeps j
-    → (AreRight j (accepted_commands j (c ∷ commands)) os
+    → (OutcomesAreRight j (accepted_commands j (c ∷ commands)) os
     ↔ EachIsRight (event_of k (code_refusal_of j c) c (short_state (code_after_command c j)) ++ events (k + 1) (short_state (code_after_command c j)) commands ending) os)
-    → AreRight j (accepted_commands j (c ∷ commands)) os ↔ EachIsRight (events k (short_state j) (c ∷ commands) ending) os
+    → OutcomesAreRight j (accepted_commands j (c ∷ commands)) os ↔ EachIsRight (events k (short_state j) (c ∷ commands) ending) os
 next_right k j c commands ending os h f =
-    subst (λ (es : List Event). AreRight j (accepted_commands j (c ∷ commands)) os ↔ EachIsRight es os) (sym (next_events k j c commands ending h)) f
+    subst (λ (es : List Event). OutcomesAreRight j (accepted_commands j (c ∷ commands)) os ↔ EachIsRight es os) (sym (next_events k j c commands ending h)) f
 
 same_right : (j : CodeState) (commands : List Command) → Keeps j → Same j commands
 same_right j [] h k Clean [] = (λ h. h, λ h. h)

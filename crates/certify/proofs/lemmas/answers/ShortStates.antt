@@ -1,12 +1,13 @@
--- The short definition of a script's state agrees with that which the code is proved against: a name in use has its mode beside it.
+-- The short definition of a script's state agrees with that which the code is proved against: a name in use has its
+-- mode beside it.
 use Rattle.std.proofs.Common.{ℕ, zero, suc, ◌+◌, ◌-◌, ◌≡◌, ◌<◌, ◌≤◌, ◌∙◌, ◌↔◌, max, Bool, true, false, not, cond, eqb, ltb, ◌&&◌, Option, Some, None, is_some, unwrap_or, List, [], ◌∷◌, ◌++◌, map, filter, length, get_or, set, refl, sym, ap, subst, arith, length-append, length-set, get_or-set_same, get_or-set_other}
 use Rattle.std.specs.List.{AllByRecursion}
 use Rattle.std.proofs.lemmas.Bool.{ltb-false, eqb-false, eq-eqb}
 use Rattle.sat_base.specs.values.Literals.{mk_lit, var_limit}
-use Rattle.sat_base.specs.values.Clauses.{Valuation, EachTrue}
+use Rattle.sat_base.specs.values.Clauses.{Valuation, AllLitsTrue}
 use Rattle.sat_base.specs.script.Script.{Literal, Command, Clause, Ask, Hide, Witness, Sample, names_of}
 use Rattle.sat_base.specs.script.ScriptState.{Refusal, PastLimit, WitnessName, names_from, NameMode, Sampled, Witnessed, has_witness, is_witness as mode_is_witness, insert_by_name as code_insert, identity_lit as code_lit, ScriptState as CodeState, Named as CodeNamed, initial_state as code_initial, identity_in as code_identity_in, with_name as code_with_name, new_names as code_new_names, for_each as code_for_each, introduce as code_introduce, without_name as code_without_name, with_mode as code_with_mode, with_clause as code_with_clause, state_after_accepted as code_accepted, first_refusal as code_first_refusal, refusal_of as code_refusal_of, after_command as code_after_command, IsRightModel as CodeIsRightModel}
-use Rattle.certify.specs.answers.RightAnswers.{IsRight as CodeIsRight}
+use Rattle.certify.specs.answers.RightAnswers.{OutcomeIsRight as CodeIsRight}
 use Rattle.sat_checker.specs.matching.Expected.{Outcome, Sat, Unsat, Unknown}
 use Rattle.certify.specs.answers.ScriptNames.{ScriptState, Named, identity_in, insert_by_name, with_name, new_names, for_each, introduce, without_name, set_witness, with_mode, identity_lit, with_clause, state_after_accepted, is_witness, first_refusal, refusal_of, after_command, IsRightModel, IsRight}
 
@@ -389,11 +390,11 @@ same_names : (modes : List NameMode) (ns : List CodeNamed) → map (λ n. n.name
 same_names modes [] = refl
 same_names modes (n ∷ ns) = let rest = same_names modes ns in λ i. n.name ∷ rest i
 
-same_true : (a : Valuation) (j : CodeState) (ls : List Literal) → EachTrue a (map (identity_lit (short_state j)) ls) → EachTrue a (map (code_lit j) ls)
-same_true a j ls h = subst (EachTrue a) (same_literals j ls) h
+same_true : (a : Valuation) (j : CodeState) (ls : List Literal) → AllLitsTrue a (map (identity_lit (short_state j)) ls) → AllLitsTrue a (map (code_lit j) ls)
+same_true a j ls h = subst (AllLitsTrue a) (same_literals j ls) h
 
-true_same : (a : Valuation) (j : CodeState) (ls : List Literal) → EachTrue a (map (code_lit j) ls) → EachTrue a (map (identity_lit (short_state j)) ls)
-true_same a j ls h = subst (EachTrue a) (sym (same_literals j ls)) h
+true_same : (a : Valuation) (j : CodeState) (ls : List Literal) → AllLitsTrue a (map (code_lit j) ls) → AllLitsTrue a (map (identity_lit (short_state j)) ls)
+true_same a j ls h = subst (AllLitsTrue a) (sym (same_literals j ls)) h
 
 model_to : (j : CodeState) (ask line : List Literal) → CodeIsRightModel j ask line → IsRightModel (short_state j) ask line
 model_to j ask line m = record {

@@ -3,8 +3,8 @@ use Rattle.std.proofs.Common.{ℕ, ◌+◌, ◌*◌, ◌-◌, ◌≡◌, ◌<◌
 use Rattle.std.proofs.lemmas.Bool.{agree_below_at, cases_lt, cases_eq, or_from, or_cases, and_parts, and_left, and_right}
 use Rattle.sat_base.specs.script.Script.{Command, Clause, Ask, Hide, Witness, Sample}
 use Rattle.sat_base.specs.script.Language.{without_lines}
-use Rattle.sat_base.specs.text.Text.{prepend_to_first, is_none, is_letter, same_bytes, with_numbers, unsigned_token, negative_token, after_minus, token, header_if, on_line, tokens_of, lines as code_lines, words as code_words, begins_with as code_begins_with, digits as code_digits, is_blank as code_is_blank, is_digit as code_is_digit, goes_on as code_goes_on, header_in as code_header_in, Token as CodeToken, Number as CodeNumber, Letter as CodeLetter, Header as CodeHeader, Wrong as CodeWrong}
-use Rattle.certify.specs.answers.ScriptText.{is_one_of, is_blank, is_digit, lines, goes_on, words, begins_with, digits, Token, Number, Begins, Header, Wrong, header_in, number_token, number_of_word, token_of_word, tokens_of_lines}
+use Rattle.sat_base.specs.text.Text.{prepend_to_first, has_no_words, is_letter, same_bytes, header_of_numbers, unsigned_token, negative_token, after_minus, token, header_if, tokens_on_line, tokens_of, lines as code_lines, words as code_words, first_nonblank_is as code_begins_with, digits as code_digits, is_blank as code_is_blank, is_digit as code_is_digit, begins_nonblank as code_goes_on, header_of_words as code_header_in, Token as CodeToken, Number as CodeNumber, Letter as CodeLetter, Header as CodeHeader, Wrong as CodeWrong}
+use Rattle.certify.specs.answers.ScriptText.{is_one_of, is_blank, is_digit, lines, begins_nonblank, words, begins_with, digits, Token, Number, Begins, Header, Wrong, header_in, number_token, number_of_word, token_of_word, tokens_of_lines}
 
 -- BYTES
 
@@ -55,7 +55,7 @@ unfolding lines code_lines
 same_lines [] = refl
 same_lines (b ∷ bs) = let rest = same_lines bs in λ i. cond (or_false (nat_eq b 10) i) ((b ∷ []) ∷ rest i) (prepend_to_first b (rest i))
 
-same_goes : (t : List ℕ) → goes_on t ≡ code_goes_on t
+same_goes : (t : List ℕ) → begins_nonblank t ≡ code_goes_on t
 same_goes [] = refl
 same_goes (b ∷ bs) = ap not (blank b)
 
@@ -97,7 +97,7 @@ short_token (CodeLetter b) = begun (command_of_letter b)
 short_token (CodeHeader v c) = Header
 short_token CodeWrong = Wrong
 
-header_case : (x : Bool) (v c : Option ℕ) → cond (x && (is_some v && is_some c)) Header Wrong ≡ short_token (cond x (with_numbers v c) CodeWrong)
+header_case : (x : Bool) (v c : Option ℕ) → cond (x && (is_some v && is_some c)) Header Wrong ≡ short_token (cond x (header_of_numbers v c) CodeWrong)
 header_case true None c = refl
 header_case true (Some v) None = refl
 header_case true (Some v) (Some c) = refl
@@ -204,7 +204,7 @@ same_token (b ∷ []) = elim (cases_eq b 97) [
 abbrev pub short_tokens : List (ℕ × CodeToken) → List Token
 short_tokens ts = map short_token (without_lines ts)
 
-same_on_line : (n : ℕ) (ws : List (List ℕ)) → map token_of_word ws ≡ short_tokens (on_line n ws)
+same_on_line : (n : ℕ) (ws : List (List ℕ)) → map token_of_word ws ≡ short_tokens (tokens_on_line n ws)
 same_on_line n [] = refl
 same_on_line n (w ∷ ws) = let first = same_token w in let rest = same_on_line n ws in λ i. first i ∷ rest i
 
@@ -230,12 +230,12 @@ same_tokens may n (line ∷ ls) =
     let tokens = ap (λ (ws : List (List ℕ)). map token_of_word ws) w ∙ same_on_line (n + 1) (code_words line) in
     let first = same_tokens may (n + 1) ls in
     let second = same_tokens false (n + 1) ls in
-    let third = ap (λ (ws : List (List ℕ)). tokens_of_lines (may && is_none ws) ls) w ∙ same_tokens (may && is_none (code_words line)) (n + 1) ls in
+    let third = ap (λ (ws : List (List ℕ)). tokens_of_lines (may && has_no_words ws) ls) w ∙ same_tokens (may && has_no_words (code_words line)) (n + 1) ls in
     let percent = same_begins 37 line in let comment = same_begins 99 line in let p = same_begins 112 line in
     let step : tokens_of_lines may (line ∷ ls)
     ≡ cond (code_begins_with 37 line) [] (cond (code_begins_with 99 line) (short_tokens (tokens_of may (n + 1) ls))
     (cond (code_begins_with 112 line) (cond may (short_token (code_header_in (code_words line))) Wrong ∷ short_tokens (tokens_of false (n + 1) ls))
-    (short_tokens (on_line (n + 1) (code_words line)) ++ short_tokens (tokens_of (may && is_none (code_words line)) (n + 1) ls))))
+    (short_tokens (tokens_on_line (n + 1) (code_words line)) ++ short_tokens (tokens_of (may && has_no_words (code_words line)) (n + 1) ls))))
     = λ i. cond (percent i) [] (cond (comment i) (first i) (cond (p i) (cond may (header i) Wrong ∷ second i) (tokens i ++ third i))) in
     step ∙ pull_line (code_begins_with 37 line) (code_begins_with 99 line) (code_begins_with 112 line) may (n + 1) (code_header_in (code_words line))
-    (on_line (n + 1) (code_words line)) (tokens_of may (n + 1) ls) (tokens_of false (n + 1) ls) (tokens_of (may && is_none (code_words line)) (n + 1) ls)
+    (tokens_on_line (n + 1) (code_words line)) (tokens_of may (n + 1) ls) (tokens_of false (n + 1) ls) (tokens_of (may && has_no_words (code_words line)) (n + 1) ls)

@@ -4,13 +4,13 @@ use Rattle.std.proofs.lemmas.List.{append-nil}
 use Rattle.sat_base.specs.steps.Steps.{Step}
 use Rattle.sat_base.specs.steps.StepText.{SpellsStep, SpellsSteps}
 use Rattle.sat_checker.specs.Accepts.{effect, stored_after, ready_after}
-use Rattle.sat_checker.specs.ProofView.{most_bytes, taken_after}
+use Rattle.sat_checker.specs.ProofView.{most_bytes, steps_after}
 use Rattle.sat_checker.specs.Counters.{CountersExhausted, ExhaustsCounters}
 use Rattle.sat_checker.specs.Stored.{Stored}
 use Rattle.sat_checker.specs.Storing.{clause_with, irredundant_count, redundant_count, with_conflict_settled, settled_by}
 use Rattle.sat_checker.proofs.lemmas.checker.Proofs.{taken_one}
 use Rattle.sat_checker.proofs.lemmas.invariants.FewBytes.{ids_within_bytes, none_is_spent}
-use Rattle.certify.specs.confirm.Walks.{ReachesCounterEnd, spent_settling, spent_trying, spent_taking}
+use Rattle.certify.specs.confirm.FedSteps.{ReachesCounterEnd, exhausted_settling, exhausted_at_step, exhausted_later}
 
 -- settling a pending unit conflict does not change the stored clauses
 settled_clauses : (f : Stored) → (with_conflict_settled f).clauses ≡ f.clauses
@@ -39,16 +39,16 @@ longer text step rest bytes e l =
     let b : length bytes ≡ length step + length rest = ap length e ∙ length-append step rest in
     omega arith
 
-none_spent : (earlier done : List Step) (text bytes : List ℕ) → taken_after done [] ≡ earlier → SpellsSteps done text → length text + length bytes ≤ most_bytes → (CountersExhausted (ready_after earlier) → ⊥) → ReachesCounterEnd earlier bytes → ⊥
-none_spent earlier done text bytes e s l low (spent_settling h) = low h
-none_spent earlier done text bytes e s l low (spent_trying step following rest cut spelt h) =
+none_spent : (earlier done : List Step) (text bytes : List ℕ) → steps_after done [] ≡ earlier → SpellsSteps done text → length text + length bytes ≤ most_bytes → (CountersExhausted (ready_after earlier) → ⊥) → ReachesCounterEnd earlier bytes → ⊥
+none_spent earlier done text bytes e s l low (exhausted_settling h) = low h
+none_spent earlier done text bytes e s l low (exhausted_at_step step following rest cut spelt h) =
     let few : length (text ++ following) ≤ most_bytes = let k = longer text following rest bytes cut l in omega arith in
     none_is_spent done step (text ++ following) (spells_one done text step following s spelt) few (subst (λ z. ExhaustsCounters step (stored_after z)) (sym e) h)
-none_spent earlier done text bytes e s l low (spent_taking step following rest cut spelt accepts h) =
+none_spent earlier done text bytes e s l low (exhausted_later step following rest cut spelt accepts h) =
     let more = spells_one done text step following s spelt in
     let k = longer text following rest bytes cut l in
     let few : length (text ++ following) ≤ most_bytes = omega arith in
-    let whole : taken_after (done ++ step ∷ []) [] ≡ step ∷ earlier = taken_one done step [] ∙ ap (λ z. step ∷ z) e in
+    let whole : steps_after (done ++ step ∷ []) [] ≡ step ∷ earlier = taken_one done step [] ∙ ap (λ z. step ∷ z) e in
     let ids : (ready_after (step ∷ earlier)).next_id ≤ length (text ++ following) = subst (λ z. (ready_after z).next_id ≤ length (text ++ following)) whole (ids_within_bytes (done ++ step ∷ []) (text ++ following) more) in
     none_spent (step ∷ earlier) (done ++ step ∷ []) (text ++ following) rest whole more k
     (λ spent. none_is_spent done step (text ++ following) more few

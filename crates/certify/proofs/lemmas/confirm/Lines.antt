@@ -12,12 +12,12 @@ use Rattle.sat_base.specs.script.ScriptState.{Refusal, PastLimit, WitnessName}
 use Rattle.sat_checker.specs.matching.Expected.{Outcome, Sat, Unsat}
 use Rattle.certify.specs.answers.Answers.{outcome_text, refused_line, refusal_text, malformed_line, literals_text, literal_text}
 use Rattle.certify.specs.answers.AnswerForms.{HaveNames, IsPrintable, named_literals}
-use Rattle.certify.specs.answers.AnswerReading.{HasLine, NoKind, NoLine, StartsNoKind, StartsNoLine, first_answer_line, second_line, outcome_of}
-use Rattle.certify.specs.confirm.Lines.{TakesDueLine, stop_after}
-use Rattle.certify.specs.confirm.Streams.{Covers, rest_in}
-use Rattle.certify.specs.confirm.Stopping.{Replies, SaysSo, answers_stop}
-use Rattle.certify.specs.confirm.Lines.{EndsPart, GoesUpToLine, HasNoLf, IsOneLine, IsNextLine, IsReply, IsWantedLine, IsWrong, NextLine, ReadsFirst, ReadsLineOfKind, ReadsSecond, StartsNone}
-use Rattle.certify.specs.script.LastPiece.{NoReadFailedAhead, RefillsAhead, TakesSome}
+use Rattle.certify.specs.answers.AnswerReading.{HasSecondLine, WhyNoFirstLine, WhyNoSecondLine, CannotBeginFirstLine, CannotBeginSecondLine, first_answer_line, second_line, outcome_of}
+use Rattle.certify.specs.confirm.Lines.{ReadsDueLine, stop_for_answer}
+use Rattle.certify.specs.confirm.Streams.{CanBeTotal, rest_in}
+use Rattle.certify.specs.confirm.CallResults.{AnswersCall, ResultDecides, stop_for_answers_read}
+use Rattle.certify.specs.confirm.Lines.{IsLineOrAll, EndsLineAt, HasNoLf, IsOneLine, IsNextLine, ReadsReply, IsWantedLine, IsWrongStart, NextLine, ReadsFirstLine, ReadsLineOfKind, ReadsSecondLine, CannotBegin}
+use Rattle.certify.specs.script.LastPiece.{NoReadFailedAhead, RefillsAhead, ConsumesSome}
 use Rattle.certify.specs.declared.answers.read.AnswerFault.{AnswerFault}
 use Rattle.certify.specs.declared.answers.read.AnswerFault.TheVariants as fault
 use Rattle.certify.specs.declared.answers.read.AnswerKind.{AnswerKind}
@@ -122,7 +122,7 @@ literals_line : (ls : List Literal) → HaveNames ls → IsOneLine (literals_tex
 literals_line [] h = line_more 48 _ (above 48 (omega arith)) line_end
 literals_line (l ∷ ls) h = word_line l (32 ∷ literals_text ls) h.0.1 (line_more 32 _ (above 32 (omega arith)) (literals_line ls h.1))
 
-second_is_line : (k : AnswerKind) → HasLine k → (ls : List Literal) → IsPrintable (outcome_of k ls) → IsOneLine (second_line (outcome_of k ls))
+second_is_line : (k : AnswerKind) → HasSecondLine k → (ls : List Literal) → IsPrintable (outcome_of k ls) → IsOneLine (second_line (outcome_of k ls))
 second_is_line kind.Sat u ls h = line_more 118 _ (above 118 (omega arith)) (line_more 32 _ (above 32 (omega arith)) (literals_line ls h.0))
 second_is_line kind.Unsat u ls h = line_more 102 _ (above 102 (omega arith)) (line_more 32 _ (above 32 (omega arith)) (literals_line ls h.0))
 second_is_line kind.Unknown u ls h = absurd u
@@ -132,9 +132,9 @@ second_is_line kind.Unknown u ls h = absurd u
 -- `FirstLine P line bytes more` holds if `line` is a line, or all bytes without LF, or bytes that begin no expected
 -- line.
 abbrev FirstLine : (List ℕ → Type 0) → List ℕ → List ℕ → List ℕ → Type 0
-FirstLine P line bytes more = (IsOneLine line × (bytes ≡ line ++ more)) ⊎ ((HasNoLf line × (bytes ≡ line)) ⊎ ((HasNoLf line × (bytes ≡ line ++ more)) × IsWrong P line))
+FirstLine P line bytes more = (IsOneLine line × (bytes ≡ line ++ more)) ⊎ ((HasNoLf line × (bytes ≡ line)) ⊎ ((HasNoLf line × (bytes ≡ line ++ more)) × IsWrongStart P line))
 
-module _ (P : List ℕ → Type 0) (a b : Source) (line total : List ℕ) (c : Covers b total) where
+module _ (P : List ℕ → Type 0) (a b : Source) (line total : List ℕ) (c : CanBeTotal b total) where
   first_of : IsNextLine P a b line → FirstLine P line (rest_in total a) (rest_in total b)
   first_of (inl h) = inl (h.1, taken_front 0 a b line total h.0 c)
   first_of (inr (inl h)) = inr (inl (h.1, nothing_after a b line total h.0 c))
@@ -161,13 +161,13 @@ front_is_line line text following t l e =
     l.whole ∙ ap (λ (z : List ℕ). z ++ 10 ∷ []) r.0 ∙ sym t.whole
 
 module _ (P : List ℕ → Type 0) (a b : Source) (line : List ℕ) (open_yet : AtEnd a → ⊥) where
-  line_halts : IsNextLine P a b line → TakesSome false a b
+  line_halts : IsNextLine P a b line → ConsumesSome false a b
   line_halts (inl h) = took_halted a b open_yet (line, h.0)
   line_halts (inr (inl h)) = ((line, h.0.0), λ e. all_over b h.0.1)
   line_halts (inr (inr h)) = took_halted a b open_yet (line, h.0.0)
 
   -- if the line begins with `text`, exactly `text` was read
-  line_taken : (text following : List ℕ) → IsOneLine text → line ≡ text ++ following → IsNextLine P a b line → TakesSome true a b × ((total : List ℕ) → Covers b total → rest_in total a ≡ text ++ rest_in total b)
+  line_taken : (text following : List ℕ) → IsOneLine text → line ≡ text ++ following → IsNextLine P a b line → ConsumesSome true a b × ((total : List ℕ) → CanBeTotal b total → rest_in total a ≡ text ++ rest_in total b)
   line_taken text following t e (inl h) =
       let same = front_is_line line text following t h.1 e in
       ((line, h.0), λ total c. taken_front 0 a b line total h.0 c ∙ ap (λ (z : List ℕ). z ++ rest_in total b) same)
@@ -175,22 +175,22 @@ module _ (P : List ℕ → Type 0) (a b : Source) (line : List ℕ) (open_yet : 
   line_taken text following t e (inr (inr h)) = absurd (no_lf_in line t.front following h.0.1 (e ∙ ap (λ (z : List ℕ). z ++ following) t.whole ∙ append_assoc t.front (10 ∷ []) following))
 
   -- THE EXPECTED LINE
-  pub due_taken : (due : List ℕ) → IsOneLine due → line ≡ due → IsNextLine P a b line → Replies {A = Unit {0}} true (Ok tt) a b (λ before following. TakesDueLine before following due)
+  pub due_taken : (due : List ℕ) → IsOneLine due → line ≡ due → IsNextLine P a b line → AnswersCall {A = Unit {0}} true (Ok tt) a b (λ before following. ReadsDueLine before following due)
   due_taken due d e h = let r = line_taken due [] d (e ∙ sym (append-nil due)) h in (r.0, r.1)
 
   -- a line that is not the expected one is rejected
-  pub due_differs : (due : List ℕ) (why : Why) → P due → IsOneLine due → (line ≡ due → ⊥) → IsNextLine P a b line → Replies {A = Unit {0}} true (Err (stop.No why)) a b (λ before following. TakesDueLine before following due)
+  pub due_differs : (due : List ℕ) (why : Why) → P due → IsOneLine due → (line ≡ due → ⊥) → IsNextLine P a b line → AnswersCall {A = Unit {0}} true (Err (stop.No why)) a b (λ before following. ReadsDueLine before following due)
   due_differs due why right d differ h = (line_halts h, λ total c tail e. differ (the_line P line (rest_in total a) (rest_in total b) due tail right d (first_of P a b line total c h) e).0)
 
   -- AN ANSWER'S FIRST LINE
-  pub kind_read : (k : AnswerKind) (following : List ℕ) → line ≡ first_answer_line k ++ following → IsNextLine P a b line → Replies true (Ok k) a b ReadsFirst
+  pub kind_read : (k : AnswerKind) (following : List ℕ) → line ≡ first_answer_line k ++ following → IsNextLine P a b line → AnswersCall true (Ok k) a b ReadsFirstLine
   kind_read k following e h = line_taken (first_answer_line k) following (first_is_line k) e h
 
   -- a line that is not the first of an answer is rejected
-  pub kind_differs : ((k : AnswerKind) → P (first_answer_line k)) → (w : AnswerFault) → NoKind line w → IsNextLine P a b line → Replies {A = AnswerKind} true (Err (stop_after w)) a b ReadsFirst
+  pub kind_differs : ((k : AnswerKind) → P (first_answer_line k)) → (w : AnswerFault) → WhyNoFirstLine line w → IsNextLine P a b line → AnswersCall {A = AnswerKind} true (Err (stop_for_answer w)) a b ReadsFirstLine
   kind_differs right fault.Missing n h = (line_halts h, none)
     where
-      none : (total : List ℕ) → Covers b total → (o : Outcome) (tail : List ℕ) → rest_in total a ≡ outcome_text o ++ tail → ⊥
+      none : (total : List ℕ) → CanBeTotal b total → (o : Outcome) (tail : List ℕ) → rest_in total a ≡ outcome_text o ++ tail → ⊥
       none total c o tail e =
           let l = lines_of o tail (rest_in total a) e in
           let same = (the_line P line (rest_in total a) (rest_in total b) (first_answer_line l.kind) (second_line o ++ tail) (right l.kind) (first_is_line l.kind) (first_of P a b line total c h) l.text).0 in
@@ -198,7 +198,7 @@ module _ (P : List ℕ → Type 0) (a b : Source) (line : List ℕ) (open_yet : 
           no_lf_in [] t.front [] tt (sym n ∙ same ∙ t.whole)
   kind_differs right fault.Text n h = (line_halts h, none)
     where
-      none : (total : List ℕ) → Covers b total → (o : Outcome) (tail : List ℕ) → rest_in total a ≡ outcome_text o ++ tail → ⊥
+      none : (total : List ℕ) → CanBeTotal b total → (o : Outcome) (tail : List ℕ) → rest_in total a ≡ outcome_text o ++ tail → ⊥
       none total c o tail e =
           let l = lines_of o tail (rest_in total a) e in
           let same = (the_line P line (rest_in total a) (rest_in total b) (first_answer_line l.kind) (second_line o ++ tail) (right l.kind) (first_is_line l.kind) (first_of P a b line total c h) l.text).0 in
@@ -206,20 +206,20 @@ module _ (P : List ℕ → Type 0) (a b : Source) (line : List ℕ) (open_yet : 
   kind_differs right fault.OutOfMemory n h = absurd n
 
   -- AN ANSWER'S SECOND LINE
-  pub second_read : (k : AnswerKind) (ls : List Literal) (following : List ℕ) → HasLine k → IsPrintable (outcome_of k ls) → line ≡ second_line (outcome_of k ls) ++ following → IsNextLine P a b line → Replies {A = Unit {0}} true (Ok tt) a b (ReadsSecond k ls)
+  pub second_read : (k : AnswerKind) (ls : List Literal) (following : List ℕ) → HasSecondLine k → IsPrintable (outcome_of k ls) → line ≡ second_line (outcome_of k ls) ++ following → IsNextLine P a b line → AnswersCall {A = Unit {0}} true (Ok tt) a b (ReadsSecondLine k ls)
   second_read k ls following u f e h = let r = line_taken (second_line (outcome_of k ls)) following (second_is_line k u ls f) e h in (r.0, λ total c. (r.1 total c, f))
 
   -- a line that is not the second of an answer of this kind is rejected, or memory runs out for it
-  pub second_differs : (k : AnswerKind) (ls : List Literal) → ((ks : List Literal) → IsPrintable (outcome_of k ks) → P (second_line (outcome_of k ks))) → (w : AnswerFault) → HasLine k → NoLine k line w → IsNextLine P a b line → Replies {A = Unit {0}} true (Err (stop_after w)) a b (ReadsSecond k ls)
+  pub second_differs : (k : AnswerKind) (ls : List Literal) → ((ks : List Literal) → IsPrintable (outcome_of k ks) → P (second_line (outcome_of k ks))) → (w : AnswerFault) → HasSecondLine k → WhyNoSecondLine k line w → IsNextLine P a b line → AnswersCall {A = Unit {0}} true (Err (stop_for_answer w)) a b (ReadsSecondLine k ls)
   second_differs k ls right fault.Missing u n h = (line_halts h, none)
     where
-      none : (total : List ℕ) → Covers b total → (ks : List Literal) (tail : List ℕ) → IsPrintable (outcome_of k ks) → rest_in total a ≡ second_line (outcome_of k ks) ++ tail → ⊥
+      none : (total : List ℕ) → CanBeTotal b total → (ks : List Literal) (tail : List ℕ) → IsPrintable (outcome_of k ks) → rest_in total a ≡ second_line (outcome_of k ks) ++ tail → ⊥
       none total c ks tail f e =
           let t = second_is_line k u ks f in
           no_lf_in [] t.front [] tt (sym n.1 ∙ (the_line P line (rest_in total a) (rest_in total b) (second_line (outcome_of k ks)) tail (right ks f) t (first_of P a b line total c h) e).0 ∙ t.whole)
   second_differs k ls right fault.Text u n h = (line_halts h, none)
     where
-      none : (total : List ℕ) → Covers b total → (ks : List Literal) (tail : List ℕ) → IsPrintable (outcome_of k ks) → rest_in total a ≡ second_line (outcome_of k ks) ++ tail → ⊥
+      none : (total : List ℕ) → CanBeTotal b total → (ks : List Literal) (tail : List ℕ) → IsPrintable (outcome_of k ks) → rest_in total a ≡ second_line (outcome_of k ks) ++ tail → ⊥
       none total c ks tail f e =
           let t = second_is_line k u ks f in
           let same = (the_line P line (rest_in total a) (rest_in total b) (second_line (outcome_of k ks)) tail (right ks f) t (first_of P a b line total c h) e).0 in
@@ -230,23 +230,23 @@ module _ (P : List ℕ → Type 0) (a b : Source) (line : List ℕ) (open_yet : 
       line_kept h = took_kept false a b (line_halts h)
 
   -- THE END OF THE ANSWERS
-  pub over_here : line ≡ [] → IsNextLine P a b line → Replies {A = Unit {0}} false (Ok tt) a b (λ before following. SaysSo (before ≡ []))
+  pub over_here : line ≡ [] → IsNextLine P a b line → AnswersCall {A = Unit {0}} false (Ok tt) a b (λ before following. ResultDecides (before ≡ []))
   over_here e h = (line_halts h, λ total c. here total c h)
     where
-      here : (total : List ℕ) → Covers b total → IsNextLine P a b line → rest_in total a ≡ []
+      here : (total : List ℕ) → CanBeTotal b total → IsNextLine P a b line → rest_in total a ≡ []
       here total c (inl k) = absurd (no_lf_in [] k.1.front [] tt (sym e ∙ k.1.whole))
       here total c (inr (inl k)) = nothing_after a b line total k.0 c ∙ e
       here total c (inr (inr k)) = absurd (k.1.1 e)
 
   -- if there are more bytes, the answers have not ended
-  pub more_here : (why : Why) → (line ≡ [] → ⊥) → IsNextLine P a b line → Replies {A = Unit {0}} false (Err (stop.No why)) a b (λ before following. SaysSo (before ≡ []))
+  pub more_here : (why : Why) → (line ≡ [] → ⊥) → IsNextLine P a b line → AnswersCall {A = Unit {0}} false (Err (stop.No why)) a b (λ before following. ResultDecides (before ≡ []))
   more_here why some h = (line_halts h, λ total c e. some (nothing total c h e))
     where
       empty : (xs ys : List ℕ) → xs ++ ys ≡ [] → xs ≡ []
       empty [] ys e = refl
       empty (x ∷ xs) ys e = absurd (cc)
 
-      nothing : (total : List ℕ) → Covers b total → IsNextLine P a b line → rest_in total a ≡ [] → line ≡ []
+      nothing : (total : List ℕ) → CanBeTotal b total → IsNextLine P a b line → rest_in total a ≡ [] → line ≡ []
       nothing total c (inl k) e = empty line (rest_in total b) (sym (taken_front 0 a b line total k.0 c) ∙ e)
       nothing total c (inr (inl k)) e = sym (nothing_after a b line total k.0 c) ∙ e
       nothing total c (inr (inr k)) e = empty line (rest_in total b) (sym (taken_front 0 a b line total k.0.0 c) ∙ e)
@@ -279,11 +279,11 @@ no_second k p q e none o tail form f =
     none l.line tail (subst IsPrintable (sym is) form) (s.1 ∙ ap (λ (v : Outcome). second_line v ++ tail) (sym is))
 
 -- the first and the second line together are an answer
-pub whole_answer : (k : AnswerKind) (ls : List Literal) (p q s : List ℕ) → p ≡ first_answer_line k ++ q → ReadsSecond k ls q s (Ok tt) → (p ≡ outcome_text (outcome_of k ls) ++ s) × IsPrintable (outcome_of k ls)
+pub whole_answer : (k : AnswerKind) (ls : List Literal) (p q s : List ℕ) → p ≡ first_answer_line k ++ q → ReadsSecondLine k ls q s (Ok tt) → (p ≡ outcome_text (outcome_of k ls) ++ s) × IsPrintable (outcome_of k ls)
 whole_answer k ls p q s e f = (first_then k ls p q s e f.0, f.1)
 
 -- an answer with literals is not the empty core
-pub not_empty : (k : AnswerKind) (ls : List Literal) (p q s : List ℕ) → (ls ≡ [] → ⊥) → p ≡ first_answer_line k ++ q → ReadsSecond k ls q s (Ok tt) → (o : Outcome) (tail : List ℕ) → o ≡ Unsat [] → p ≡ outcome_text o ++ tail → ⊥
+pub not_empty : (k : AnswerKind) (ls : List Literal) (p q s : List ℕ) → (ls ≡ [] → ⊥) → p ≡ first_answer_line k ++ q → ReadsSecondLine k ls q s (Ok tt) → (o : Outcome) (tail : List ℕ) → o ≡ Unsat [] → p ≡ outcome_text o ++ tail → ⊥
 not_empty k ls p q s some e f o tail is g =
     let w = whole_answer k ls p q s e f in
     let same = same_outcome (outcome_of k ls) o s tail (printed (outcome_of k ls) w.1) (printed o (subst IsPrintable (sym is) (tt, tt))) (sym w.0 ∙ g) in
@@ -307,26 +307,26 @@ no_lf_all bytes i over h = subst HasNoLf (take_all i bytes over) h
 
 -- BYTES THAT BEGIN NO EXPECTED LINE
 
-pub starts_due : (w : Wanted) (due bytes : List ℕ) → w ≡ wanted.Due → ((more : List ℕ) → due ≡ bytes ++ more → ⊥) → StartsNone (IsWantedLine w due) bytes
+pub starts_due : (w : Wanted) (due bytes : List ℕ) → w ≡ wanted.Due → ((more : List ℕ) → due ≡ bytes ++ more → ⊥) → CannotBegin (IsWantedLine w due) bytes
 starts_due w due bytes is none more r = let e = subst (λ (v : Wanted). IsWantedLine v due (bytes ++ more)) is r in none more (sym e)
 
-pub starts_first : (w : Wanted) (due bytes : List ℕ) → w ≡ wanted.First → StartsNoKind bytes → StartsNone (IsWantedLine w due) bytes
+pub starts_first : (w : Wanted) (due bytes : List ℕ) → w ≡ wanted.First → CannotBeginFirstLine bytes → CannotBegin (IsWantedLine w due) bytes
 starts_first w due bytes is none more r = let e = subst (λ (v : Wanted). IsWantedLine v due (bytes ++ more)) is r in none e.0 more (sym e.1)
 
-pub starts_second : (w : Wanted) (k : AnswerKind) (due bytes : List ℕ) → w ≡ wanted.Second k → StartsNoLine k bytes → StartsNone (IsWantedLine w due) bytes
+pub starts_second : (w : Wanted) (k : AnswerKind) (due bytes : List ℕ) → w ≡ wanted.Second k → CannotBeginSecondLine k bytes → CannotBegin (IsWantedLine w due) bytes
 starts_second w k due bytes is none more r = let e = subst (λ (v : Wanted). IsWantedLine v due (bytes ++ more)) is r in none e.0 more e.1.0 (sym e.1.1)
 
-pub starts_nothing : (w : Wanted) (due bytes : List ℕ) → w ≡ wanted.Nothing → StartsNone (IsWantedLine w due) bytes
+pub starts_nothing : (w : Wanted) (due bytes : List ℕ) → w ≡ wanted.Nothing → CannotBegin (IsWantedLine w due) bytes
 starts_nothing w due bytes is more r = subst (λ (v : Wanted). IsWantedLine v due (bytes ++ more)) is r
 
 -- the call stops if no line was read
-pub line_stops : {A : Type 0} (F : List ℕ → Type 0) (goes : Bool) (e : Stop) (a b : Source) (line : List ℕ) (P : List ℕ → List ℕ → Result A Why → Type 0) → NextLine F (Err e) a b line → Replies {A = A} goes (Err e) a b P
+pub line_stops : {A : Type 0} (F : List ℕ → Type 0) (goes : Bool) (e : Stop) (a b : Source) (line : List ℕ) (P : List ℕ → List ℕ → Result A Why → Type 0) → NextLine F (Err e) a b line → AnswersCall {A = A} goes (Err e) a b P
 line_stops F goes stop.AnswersRead a b line P h = h
 line_stops F goes stop.OutOfMemory a b line P h = h
 line_stops F goes e a b line P h = absurd h
 
 -- the error of a line that was not read, as a `Stop`
-pub line_unread : (F : List ℕ → Type 0) (e : ReadError) (a b : Source) (line : List ℕ) → ReadsLineOfKind F (Err e) a b line → NextLine F (Err (answers_stop e)) a b line
+pub line_unread : (F : List ℕ → Type 0) (e : ReadError) (a b : Source) (line : List ℕ) → ReadsLineOfKind F (Err e) a b line → NextLine F (Err (stop_for_answers_read e)) a b line
 line_unread F errors.Failed a b line h = h
 line_unread F errors.OutOfMemory a b line h = h
 
@@ -334,7 +334,7 @@ line_unread F errors.OutOfMemory a b line h = h
 parts : (bytes w v : List ℕ) (count : ℕ) → bytes ≡ w → v ≡ drop count w → w ≡ take count bytes ++ v
 parts bytes w v count e d = sym (take-append-drop count w) ∙ ap (λ (z : List ℕ). take count z ++ drop count w) (sym e) ∙ ap (λ (z : List ℕ). take count bytes ++ z) (sym d)
 
-pub line_part : (whole : Bool) (bytes w v : List ℕ) (count : ℕ) → bytes ≡ w → v ≡ drop count w → GoesUpToLine whole bytes count → (w ≡ take count bytes ++ v) × EndsPart whole (take count bytes) v
+pub line_part : (whole : Bool) (bytes w v : List ℕ) (count : ℕ) → bytes ≡ w → v ≡ drop count w → EndsLineAt whole bytes count → (w ≡ take count bytes ++ v) × IsLineOrAll whole (take count bytes) v
 line_part true bytes w v count e d h = (parts bytes w v count e d, h.1)
 line_part false bytes w v count e d h =
     let all : take count bytes ≡ bytes = take_all count bytes (omega (arith, h.0)) in
@@ -360,12 +360,12 @@ line_fails F errors.Failed a b c line other p h = failed_then a b c (line, p) ([
 line_fails F errors.OutOfMemory a b c line other p h = absurd h
 
 -- an unknown answer has no second line
-pub second_unknown : (k : AnswerKind) (a : Source) (ls : List Literal) → k ≡ kind.Unknown → Replies {A = Unit {0}} true (Ok tt) a a (ReadsSecond k ls)
+pub second_unknown : (k : AnswerKind) (a : Source) (ls : List Literal) → k ≡ kind.Unknown → AnswersCall {A = Unit {0}} true (Ok tt) a a (ReadsSecondLine k ls)
 second_unknown kind.Sat a ls e = absurd (cc)
 second_unknown kind.Unsat a ls e = absurd (cc)
 second_unknown kind.Unknown a ls e = (took_none a, λ total c. (refl, (tt, tt)))
 
-pub has_line : (k : AnswerKind) → (k ≡ kind.Unknown → ⊥) → HasLine k
+pub has_line : (k : AnswerKind) → (k ≡ kind.Unknown → ⊥) → HasSecondLine k
 has_line kind.Sat u = tt
 has_line kind.Unsat u = tt
 has_line kind.Unknown u = absurd (u refl)
@@ -387,31 +387,31 @@ NoReply settled p = (o : Outcome) (tail : List ℕ) → IsPrintable o → (settl
 abbrev NoSecond : AnswerKind → List ℕ → Type 0
 NoSecond k q = (ls : List Literal) (tail : List ℕ) → IsPrintable (outcome_of k ls) → q ≡ second_line (outcome_of k ls) ++ tail → ⊥
 
-pub reply_without_first : (e : Stop) (a b : Source) (reply : Outcome) (settled : Bool) → Replies {A = AnswerKind} true (Err e) a b ReadsFirst → Replies {A = Unit {0}} true (Err e) a b (λ before following. IsReply before following reply settled)
-reply_without_first e a b reply settled h = replies_stop true e a b ReadsFirst (λ before following. IsReply before following reply settled) (λ p q why none o tail form alone x. none o tail x) h
+pub reply_without_first : (e : Stop) (a b : Source) (reply : Outcome) (settled : Bool) → AnswersCall {A = AnswerKind} true (Err e) a b ReadsFirstLine → AnswersCall {A = Unit {0}} true (Err e) a b (λ before following. ReadsReply before following reply settled)
+reply_without_first e a b reply settled h = replies_stop true e a b ReadsFirstLine (λ before following. ReadsReply before following reply settled) (λ p q why none o tail form alone x. none o tail x) h
 
-module _ (k : AnswerKind) (a b : Source) (settled : Bool) (open_yet : AtEnd a → ⊥) (first : Replies true (Ok k) a b ReadsFirst) where
+module _ (k : AnswerKind) (a b : Source) (settled : Bool) (open_yet : AtEnd a → ⊥) (first : AnswersCall true (Ok k) a b ReadsFirstLine) where
   -- if unsat is recorded, an answer of another kind is rejected
-  pub reply_other : (why : Why) (reply : Outcome) → (settled ≡ true) × (k ≡ kind.Unsat → ⊥) → Replies {A = Unit {0}} true (Err (stop.No why)) a b (λ before following. IsReply before following reply settled)
-  reply_other why reply u = replies_no true k why a b ReadsFirst (λ before following. IsReply before following reply settled) open_yet (λ p q e o tail form alone x. not_alone k p q u.1 e o tail (alone u.0) x) first
+  pub reply_other : (why : Why) (reply : Outcome) → (settled ≡ true) × (k ≡ kind.Unsat → ⊥) → AnswersCall {A = Unit {0}} true (Err (stop.No why)) a b (λ before following. ReadsReply before following reply settled)
+  reply_other why reply u = replies_no true k why a b ReadsFirstLine (λ before following. ReadsReply before following reply settled) open_yet (λ p q e o tail form alone x. not_alone k p q u.1 e o tail (alone u.0) x) first
 
-  pub reply_without_second : (e : Stop) (d : Source) (ls : List Literal) (reply : Outcome) → Replies {A = Unit {0}} true (Err e) b d (ReadsSecond k ls) → Replies {A = Unit {0}} true (Err e) a d (λ before following. IsReply before following reply settled)
+  pub reply_without_second : (e : Stop) (d : Source) (ls : List Literal) (reply : Outcome) → AnswersCall {A = Unit {0}} true (Err e) b d (ReadsSecondLine k ls) → AnswersCall {A = Unit {0}} true (Err e) a d (λ before following. ReadsReply before following reply settled)
   reply_without_second e d ls reply h =
-      let none = replies_stop true e b d (ReadsSecond k ls) (λ q s (y : Result (Unit {0}) Why). NoSecond k q) (λ q s why n. n) h in
-      replies_stop true e a d (λ p s (y : Result (Unit {0}) Why). NoReply settled p) (λ before following. IsReply before following reply settled) (λ p s why n. n)
-      (replies_then true k (Err e) a b d ReadsFirst (λ q s (y : Result (Unit {0}) Why). NoSecond k q) (λ p s (y : Result (Unit {0}) Why). NoReply settled p) open_yet (λ p q s y f n o tail form alone x. no_second k p q f n o tail form x) first none)
+      let none = replies_stop true e b d (ReadsSecondLine k ls) (λ q s (y : Result (Unit {0}) Why). NoSecond k q) (λ q s why n. n) h in
+      replies_stop true e a d (λ p s (y : Result (Unit {0}) Why). NoReply settled p) (λ before following. ReadsReply before following reply settled) (λ p s why n. n)
+      (replies_then true k (Err e) a b d ReadsFirstLine (λ q s (y : Result (Unit {0}) Why). NoSecond k q) (λ p s (y : Result (Unit {0}) Why). NoReply settled p) open_yet (λ p q s y f n o tail form alone x. no_second k p q f n o tail form x) first none)
 
-  module _ (d : Source) (ls : List Literal) (second : Replies {A = Unit {0}} true (Ok tt) b d (ReadsSecond k ls)) where
+  module _ (d : Source) (ls : List Literal) (second : AnswersCall {A = Unit {0}} true (Ok tt) b d (ReadsSecondLine k ls)) where
     abbrev TwoLines : List ℕ → List ℕ → Result (Unit {0}) Why → Type 0
-    TwoLines p s y = (q : List ℕ) × (p ≡ first_answer_line k ++ q) × ReadsSecond k ls q s (Ok tt)
+    TwoLines p s y = (q : List ℕ) × (p ≡ first_answer_line k ++ q) × ReadsSecondLine k ls q s (Ok tt)
 
-    two : Replies {A = Unit {0}} true (Ok tt) a d TwoLines
-    two = replies_then true k (Ok tt) a b d ReadsFirst (λ q s (y : Result (Unit {0}) Why). ReadsSecond k ls q s (Ok tt)) TwoLines open_yet (λ p q s y f g. (q, f, g)) first second
+    two : AnswersCall {A = Unit {0}} true (Ok tt) a d TwoLines
+    two = replies_then true k (Ok tt) a b d ReadsFirstLine (λ q s (y : Result (Unit {0}) Why). ReadsSecondLine k ls q s (Ok tt)) TwoLines open_yet (λ p q s y f g. (q, f, g)) first second
 
-    pub reply_more : (why : Why) (reply : Outcome) → (settled ≡ true) × (ls ≡ [] → ⊥) → Replies {A = Unit {0}} true (Err (stop.No why)) a d (λ before following. IsReply before following reply settled)
-    reply_more why reply u = replies_no true tt why a d TwoLines (λ before following. IsReply before following reply settled) open_yet (λ p s t o tail form alone x. not_empty k ls p t.0 s u.1 t.1 t.2 o tail (alone u.0) x) two
+    pub reply_more : (why : Why) (reply : Outcome) → (settled ≡ true) × (ls ≡ [] → ⊥) → AnswersCall {A = Unit {0}} true (Err (stop.No why)) a d (λ before following. ReadsReply before following reply settled)
+    reply_more why reply u = replies_no true tt why a d TwoLines (λ before following. ReadsReply before following reply settled) open_yet (λ p s t o tail form alone x. not_empty k ls p t.0 s u.1 t.1 t.2 o tail (alone u.0) x) two
 
-    pub reply_read : (settled ≡ true → k ≡ kind.Unsat) → (settled ≡ true → ls ≡ []) → Replies {A = Unit {0}} true (Ok tt) a d (λ before following. IsReply before following (outcome_of k ls) settled)
+    pub reply_read : (settled ≡ true → k ≡ kind.Unsat) → (settled ≡ true → ls ≡ []) → AnswersCall {A = Unit {0}} true (Ok tt) a d (λ before following. ReadsReply before following (outcome_of k ls) settled)
     reply_read u n = (
       two.0,
       λ total c.

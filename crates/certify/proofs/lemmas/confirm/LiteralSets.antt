@@ -7,7 +7,7 @@ use Rattle.std.specs.List.{AllByRecursion}
 use Rattle.sat_base.specs.values.Literals.{mk_lit}
 use Rattle.sat_base.specs.script.Script.{Literal, Among}
 use Rattle.sat_checker.specs.LiteralSets.{is_among}
-use Rattle.sat_checker.specs.matching.Expected.{Spells, EachSpelt, SameSet}
+use Rattle.sat_checker.specs.matching.Expected.{IsLiteralOf, EachHasItsLiteral, IsSameLiteralSet}
 use Rattle.sat_checker.proofs.lemmas.sets.Order.{among-append}
 use Rattle.certify.specs.confirm.SpeltLiterals.{AllAmong, AreSpelt}
 
@@ -29,25 +29,25 @@ is_from_among (x ∷ xs) l (inr h) = go (eqb x l) (is_from_among xs l h)
 
 -- the codes that spell literals
 
-spells_once : (names : ℕ → Option ℕ) (l : Literal) (c d : ℕ) → Spells names l c → Spells names l d → c ≡ d
+spells_once : (names : ℕ → Option ℕ) (l : Literal) (c d : ℕ) → IsLiteralOf names l c → IsLiteralOf names l d → c ≡ d
 spells_once names l c d s t = s.is ∙ ap (λ v. mk_lit v l.positive) (some (sym s.named ∙ t.named)) ∙ sym t.is
   where
     some : {v w : ℕ} → Some v ≡ Some w → v ≡ w
     some e = cc
 
-pub spelt_more : (names : ℕ → Option ℕ) (ls : List Literal) (cs : List ℕ) (l : Literal) (c : ℕ) → AreSpelt names ls cs → Spells names l c → AreSpelt names (ls ++ l ∷ []) (cs ++ c ∷ [])
+pub spelt_more : (names : ℕ → Option ℕ) (ls : List Literal) (cs : List ℕ) (l : Literal) (c : ℕ) → AreSpelt names ls cs → IsLiteralOf names l c → AreSpelt names (ls ++ l ∷ []) (cs ++ c ∷ [])
 spelt_more names [] [] l c a s = (s, tt)
 spelt_more names [] (d ∷ cs) l c a s = absurd a
 spelt_more names (k ∷ ls) [] l c a s = absurd a
 spelt_more names (k ∷ ls) (d ∷ cs) l c a s = (a.0, spelt_more names ls cs l c a.1 s)
 
-among_spelt : (names : ℕ → Option ℕ) (ls : List Literal) (cs codes : List ℕ) → AreSpelt names ls cs → AllAmong cs codes → EachSpelt names ls codes
+among_spelt : (names : ℕ → Option ℕ) (ls : List Literal) (cs codes : List ℕ) → AreSpelt names ls cs → AllAmong cs codes → EachHasItsLiteral names ls codes
 among_spelt names [] [] codes a h = tt
 among_spelt names [] (c ∷ cs) codes a h = absurd a
 among_spelt names (l ∷ ls) [] codes a h = absurd a
 among_spelt names (l ∷ ls) (c ∷ cs) codes a h = ((c, a.0, h.0), among_spelt names ls cs codes a.1 h.1)
 
-spelt_among : (names : ℕ → Option ℕ) (ls : List Literal) (cs codes : List ℕ) → AreSpelt names ls cs → EachSpelt names ls codes → AllAmong cs codes
+spelt_among : (names : ℕ → Option ℕ) (ls : List Literal) (cs codes : List ℕ) → AreSpelt names ls cs → EachHasItsLiteral names ls codes → AllAmong cs codes
 spelt_among names [] [] codes a h = tt
 spelt_among names [] (c ∷ cs) codes a h = absurd a
 spelt_among names (l ∷ ls) [] codes a h = absurd a
@@ -55,19 +55,19 @@ spelt_among names (l ∷ ls) (c ∷ cs) codes a h = (subst (λ x. Among x codes)
 
 -- `EachFrom names ls codes` holds if each code spells one of the literals.
 abbrev EachFrom : (ℕ → Option ℕ) → List Literal → List ℕ → Type 0
-EachFrom names ls codes = AllByRecursion (λ code. (l : Literal) × Spells names l code × Among l ls) codes
+EachFrom names ls codes = AllByRecursion (λ code. (l : Literal) × IsLiteralOf names l code × Among l ls) codes
 
-from_one : (names : ℕ → Option ℕ) (ls : List Literal) (cs : List ℕ) (c : ℕ) → AreSpelt names ls cs → Among c cs → (l : Literal) × Spells names l c × Among l ls
+from_one : (names : ℕ → Option ℕ) (ls : List Literal) (cs : List ℕ) (c : ℕ) → AreSpelt names ls cs → Among c cs → (l : Literal) × IsLiteralOf names l c × Among l ls
 from_one names [] [] c a h = absurd h
 from_one names [] (d ∷ cs) c a h = absurd a
 from_one names (l ∷ ls) [] c a h = absurd a
-from_one names (l ∷ ls) (d ∷ cs) c a (inl e) = (l, subst (Spells names l) (sym e) a.0, inl refl)
+from_one names (l ∷ ls) (d ∷ cs) c a (inl e) = (l, subst (IsLiteralOf names l) (sym e) a.0, inl refl)
 from_one names (l ∷ ls) (d ∷ cs) c a (inr h) = let p = from_one names ls cs c a.1 h in (p.0, p.1, inr p.2)
 
-one_from : (names : ℕ → Option ℕ) (ls : List Literal) (cs : List ℕ) (c : ℕ) (l : Literal) → AreSpelt names ls cs → Spells names l c → Among l ls → Among c cs
+one_from : (names : ℕ → Option ℕ) (ls : List Literal) (cs : List ℕ) (c : ℕ) (l : Literal) → AreSpelt names ls cs → IsLiteralOf names l c → Among l ls → Among c cs
 one_from names [] cs c l a s h = absurd h
 one_from names (k ∷ ls) [] c l a s h = absurd a
-one_from names (k ∷ ls) (d ∷ cs) c l a s (inl e) = inl (spells_once names k c d (subst (λ x. Spells names x c) e s) a.0)
+one_from names (k ∷ ls) (d ∷ cs) c l a s (inl e) = inl (spells_once names k c d (subst (λ x. IsLiteralOf names x c) e s) a.0)
 one_from names (k ∷ ls) (d ∷ cs) c l a s (inr h) = inr (one_from names ls cs c l a.1 s h)
 
 each_from : (names : ℕ → Option ℕ) (ls : List Literal) (cs codes : List ℕ) → AreSpelt names ls cs → AllAmong codes cs → EachFrom names ls codes
@@ -78,7 +78,7 @@ from_each : (names : ℕ → Option ℕ) (ls : List Literal) (cs codes : List �
 from_each names ls cs [] a h = tt
 from_each names ls cs (c ∷ codes) a h = (one_from names ls cs c h.0.0 a h.0.1 h.0.2, from_each names ls cs codes a h.1)
 
-pub same_set : (names : ℕ → Option ℕ) (ls : List Literal) (cs codes : List ℕ) → AreSpelt names ls cs → AllAmong cs codes → AllAmong codes cs → SameSet names ls codes
+pub same_set : (names : ℕ → Option ℕ) (ls : List Literal) (cs codes : List ℕ) → AreSpelt names ls cs → AllAmong cs codes → AllAmong codes cs → IsSameLiteralSet names ls codes
 same_set names ls cs codes a h k = (among_spelt names ls cs codes a h, each_from names ls cs codes a k)
 
 -- if the first statement holds, the second decides both
@@ -90,24 +90,24 @@ pub first_not : (P Q : Type 0) (first : Bool) → first ≡ false → MatchBool 
 first_not P Q first e m p = subst (λ x. MatchBool x P (P → ⊥)) e m p.0
 
 -- after the literals were spelled, comparing codes decides whether each spelling is among `codes`
-pub each_answer : (names : ℕ → Option ℕ) (ls : List Literal) (cs given codes : List ℕ) (first b : Bool) (N : Type 0) → first ≡ true → MatchBool first (AreSpelt names ls cs) N → given ≡ cs → MatchBool b (AllAmong given codes) (AllAmong given codes → ⊥) → MatchBool b (EachSpelt names ls codes) (EachSpelt names ls codes → ⊥)
+pub each_answer : (names : ℕ → Option ℕ) (ls : List Literal) (cs given codes : List ℕ) (first b : Bool) (N : Type 0) → first ≡ true → MatchBool first (AreSpelt names ls cs) N → given ≡ cs → MatchBool b (AllAmong given codes) (AllAmong given codes → ⊥) → MatchBool b (EachHasItsLiteral names ls codes) (EachHasItsLiteral names ls codes → ⊥)
 each_answer names ls cs given codes first b N e m g h = go b (subst (λ x. MatchBool x (AreSpelt names ls cs) N) e m) (subst (λ x. MatchBool b (AllAmong x codes) (AllAmong x codes → ⊥)) g h)
   where
-    go : (b : Bool) → AreSpelt names ls cs → MatchBool b (AllAmong cs codes) (AllAmong cs codes → ⊥) → MatchBool b (EachSpelt names ls codes) (EachSpelt names ls codes → ⊥)
+    go : (b : Bool) → AreSpelt names ls cs → MatchBool b (AllAmong cs codes) (AllAmong cs codes → ⊥) → MatchBool b (EachHasItsLiteral names ls codes) (EachHasItsLiteral names ls codes → ⊥)
     go true a h = among_spelt names ls cs codes a h
     go false a h = λ s. h (spelt_among names ls cs codes a s)
 
 -- the comparison of the spelt literals as sets decides whether the sets are the same
 pub set_answer : (names : ℕ → Option ℕ) (ls : List Literal) (cs given codes : List ℕ) (first b : Bool) (N : Type 0) → first ≡ true → MatchBool first (AreSpelt names ls cs) N → given ≡ cs
-    → MatchBool b (AllAmong given codes × AllAmong codes given) (AllAmong given codes × AllAmong codes given → ⊥) → MatchBool b (SameSet names ls codes) (SameSet names ls codes → ⊥)
+    → MatchBool b (AllAmong given codes × AllAmong codes given) (AllAmong given codes × AllAmong codes given → ⊥) → MatchBool b (IsSameLiteralSet names ls codes) (IsSameLiteralSet names ls codes → ⊥)
 set_answer names ls cs given codes first b N e m g h = go b (subst (λ x. MatchBool x (AreSpelt names ls cs) N) e m) (subst (λ x. MatchBool b (AllAmong x codes × AllAmong codes x) (AllAmong x codes × AllAmong codes x → ⊥)) g h)
   where
-    go : (b : Bool) → AreSpelt names ls cs → MatchBool b (AllAmong cs codes × AllAmong codes cs) (AllAmong cs codes × AllAmong codes cs → ⊥) → MatchBool b (SameSet names ls codes) (SameSet names ls codes → ⊥)
+    go : (b : Bool) → AreSpelt names ls cs → MatchBool b (AllAmong cs codes × AllAmong codes cs) (AllAmong cs codes × AllAmong codes cs → ⊥) → MatchBool b (IsSameLiteralSet names ls codes) (IsSameLiteralSet names ls codes → ⊥)
     go true a h = same_set names ls cs codes a h.0 h.1
     go false a h = λ s. h (spelt_among names ls cs codes a s.0, from_each names ls cs codes a s.1)
 
-pub unspelt_each : (names : ℕ → Option ℕ) (ls : List Literal) (codes : List ℕ) (first : Bool) (P : Type 0) → first ≡ false → MatchBool first P ((codes : List ℕ) → EachSpelt names ls codes → ⊥) → EachSpelt names ls codes → ⊥
-unspelt_each names ls codes first P e m s = subst (λ x. MatchBool x P ((codes : List ℕ) → EachSpelt names ls codes → ⊥)) e m codes s
+pub unspelt_each : (names : ℕ → Option ℕ) (ls : List Literal) (codes : List ℕ) (first : Bool) (P : Type 0) → first ≡ false → MatchBool first P ((codes : List ℕ) → EachHasItsLiteral names ls codes → ⊥) → EachHasItsLiteral names ls codes → ⊥
+unspelt_each names ls codes first P e m s = subst (λ x. MatchBool x P ((codes : List ℕ) → EachHasItsLiteral names ls codes → ⊥)) e m codes s
 
 -- one more literal is spelled
 pub spelt_loop : (names : ℕ → Option ℕ) (ls : List Literal) (cs new : List ℕ) (i : ℕ) (l : Literal) (v code : ℕ) → i < length ls → l ≡ get_or ls i l → AreSpelt names (take i ls) cs → new ≡ cs ++ code ∷ [] → names l.name ≡ Some v → code ≡ mk_lit v l.positive → AreSpelt names (take (i + 1) ls) new
@@ -116,7 +116,7 @@ spelt_loop names ls cs new i l v code h is a n e c =
     subst (AreSpelt names (take (i + 1) ls)) (sym n) (subst (λ xs. AreSpelt names xs (cs ++ code ∷ [])) (sym more) (spelt_more names (take i ls) cs l code a (record { variable = v; named = e; is = c })))
 
 -- a literal whose name has no variable is not spelled
-pub unspelt : (names : ℕ → Option ℕ) (ls : List Literal) (l : Literal) (codes : List ℕ) → Among l ls → names l.name ≡ None → EachSpelt names ls codes → ⊥
+pub unspelt : (names : ℕ → Option ℕ) (ls : List Literal) (l : Literal) (codes : List ℕ) → Among l ls → names l.name ≡ None → EachHasItsLiteral names ls codes → ⊥
 unspelt names [] l codes h n s = absurd h
 unspelt names (k ∷ ls) l codes (inl e) n s = let named = s.0.1.named in let f : names k.name ≡ None = subst (λ x. names x.name ≡ None) e n in absurd (cc)
 unspelt names (k ∷ ls) l codes (inr h) n s = unspelt names ls l codes h n s.1
@@ -127,7 +127,7 @@ among_got (l ∷ ls) zero d h = inl refl
 among_got (l ∷ ls) (suc i) d h = inr (among_got ls i d (omega arith))
 
 -- LITERALS SPELLED IN ORDER
-pub spelt_next : (names : ℕ → Option ℕ) (ls : List Literal) (codes : List ℕ) (i : ℕ) (l : Literal) (code : ℕ) → i < length ls → i < length codes → l ≡ get_or ls i l → code ≡ get_or codes i code → Spells names l code
+pub spelt_next : (names : ℕ → Option ℕ) (ls : List Literal) (codes : List ℕ) (i : ℕ) (l : Literal) (code : ℕ) → i < length ls → i < length codes → l ≡ get_or ls i l → code ≡ get_or codes i code → IsLiteralOf names l code
     → AreSpelt names (drop (i + 1) ls) (drop (i + 1) codes) → AreSpelt names (drop i ls) (drop i codes)
 spelt_next names ls codes i l code h k a b s r =
     let more : i + 1 ≡ suc i = omega arith in
@@ -147,10 +147,10 @@ all_among [] = tt
 all_among (x ∷ xs) = (inl refl, among_more xs xs x (all_among xs))
 
 -- literals that are spelled in order are spelled among the codes
-pub spelt_each : (names : ℕ → Option ℕ) (ls : List Literal) (codes : List ℕ) → AreSpelt names ls codes → EachSpelt names ls codes
+pub spelt_each : (names : ℕ → Option ℕ) (ls : List Literal) (codes : List ℕ) → AreSpelt names ls codes → EachHasItsLiteral names ls codes
 spelt_each names ls codes a = among_spelt names ls codes codes a (all_among codes)
 
-pub spelt_set : (names : ℕ → Option ℕ) (ls : List Literal) (codes : List ℕ) → AreSpelt names ls codes → SameSet names ls codes
+pub spelt_set : (names : ℕ → Option ℕ) (ls : List Literal) (codes : List ℕ) → AreSpelt names ls codes → IsSameLiteralSet names ls codes
 spelt_set names ls codes a = same_set names ls codes codes a (all_among codes) (all_among codes)
 
 -- PAIRS COMPARED

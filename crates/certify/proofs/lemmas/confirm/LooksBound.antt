@@ -3,19 +3,19 @@ use Rattle.std.proofs.Common.{ℕ, ◌+◌, ◌*◌, ◌≤◌, ◌≡◌, ◌==
 use Rattle.std.proofs.lemmas.List.{append-nil, length-append}
 use Rattle.std.proofs.Math.Nat.{mul-le-mul_left, mul-one, pow-succ', pow-zero}
 use Rattle.std.specs.Prelude.{nat_lt}
-use Rattle.sat_base.specs.device.Device.{Reader, GavePrefix, CanFollow}
+use Rattle.sat_base.specs.device.Device.{Reader, GavePrefix, CouldStillGive}
 use Rattle.sat_base.specs.values.Literals.{negated}
 use Rattle.sat_base.specs.steps.Formats.{Format, Items, ListOf, Both}
-use Rattle.sat_base.specs.steps.Numbers.{IsNumber, IsBelow}
+use Rattle.sat_base.specs.steps.Numbers.{SpellsNumber, SpellsNumberBelow}
 use Rattle.sat_base.specs.steps.Steps.{Redundant, Simplified, Satisfied, Step, SolverVarName, UserVarName, AddClause, AtClause, UnitClauses, DeleteClause, FailedAssumptions}
-use Rattle.sat_base.specs.steps.StepText.{tag_of, IsLiteral, IsHash, AreLiterals, AreHashes, AreHashedLiterals, SpellsFields, SpellsStep}
+use Rattle.sat_base.specs.steps.StepText.{tag_of, SpellsLiteral, SpellsHash, SpellsLiterals, SpellsHashes, SpellsHashedLiterals, SpellsFields, SpellsStep}
 use Rattle.sat_checker.specs.Accepts.{effect, ready_after}
 use Rattle.sat_checker.specs.LiteralSets.{with_literal, canonical, same_literals, is_tautology}
-use Rattle.sat_checker.specs.Looks.{total_length, literal_count, hashes_named}
+use Rattle.sat_checker.specs.Looks.{total_length, stored_literal_count, hash_count}
 use Rattle.sat_checker.specs.Stored.{StoredClause, Stored, is_unit}
-use Rattle.sat_checker.specs.Storing.{with_count, new_clause, with_stored_clause, without_count, unless_gone, without_clause, with_unit, with_contradiction, with_new_unit, with_units, settled_by, with_conflict_settled, with_set, with_canonical, with_stored, with_input, with_literals_known}
-use Rattle.certify.specs.confirm.VerdictPromises.{TakesLooks}
-use Rattle.certify.specs.confirm.Walks.{LooksReach, same_looks, looks_tried, looks_taken}
+use Rattle.sat_checker.specs.Storing.{with_count, new_clause, with_stored_clause, without_count, unless_removed, without_clause, with_unit, with_contradiction, with_new_unit, with_units, settled_by, with_conflict_settled, with_sorted_set, with_canonical, with_stored, with_input, with_literals_known}
+use Rattle.certify.specs.confirm.VerdictPromises.{LooksAreBounded}
+use Rattle.certify.specs.confirm.FedSteps.{StepsAccountForLooks, same_looks, looks_of_last, looks_of_accepted}
 
 -- A TEXT IS AT LEAST AS LONG AS ITS ITEMS
 
@@ -23,11 +23,11 @@ use Rattle.certify.specs.confirm.Walks.{LooksReach, same_looks, looks_tried, loo
 abbrev HasByte : {A : Type 0} → Format A → Type 0
 HasByte {A} F = (x : A) (bytes : List ℕ) → F x bytes → 1 ≤ length bytes
 
-number_has : (n : ℕ) (bytes : List ℕ) → IsNumber n bytes → 1 ≤ length bytes
+number_has : (n : ℕ) (bytes : List ℕ) → SpellsNumber n bytes → 1 ≤ length bytes
 number_has n [] h = absurd h
 number_has n (b ∷ bs) h = omega arith
 
-below_has : (limit : ℕ) → HasByte (IsBelow limit)
+below_has : (limit : ℕ) → HasByte (SpellsNumberBelow limit)
 below_has limit n bytes h = number_has n bytes h.0
 
 pair_has : {A B : Type 0} (F : Format A) (G : Format B) → HasByte F → HasByte (Both F G)
@@ -50,16 +50,16 @@ list_fits {A} C F h xs bytes p =
     let joined : length bytes ≡ length p.0 + length p.1 = ap length p.4 ∙ length-append p.0 p.1 in
     omega (arith, rest, joined)
 
-literals_fit : (ls bytes : List ℕ) → AreLiterals ls bytes → length ls ≤ length bytes
-literals_fit ls bytes p = list_fits (IsBelow (2 ^ 64)) IsLiteral (below_has _) ls bytes p
+literals_fit : (ls bytes : List ℕ) → SpellsLiterals ls bytes → length ls ≤ length bytes
+literals_fit ls bytes p = list_fits (SpellsNumberBelow (2 ^ 64)) SpellsLiteral (below_has _) ls bytes p
 
-hashes_fit : (hs bytes : List ℕ) → AreHashes hs bytes → length hs ≤ length bytes
-hashes_fit hs bytes p = list_fits (IsBelow (2 ^ 64)) IsHash (below_has _) hs bytes p
+hashes_fit : (hs bytes : List ℕ) → SpellsHashes hs bytes → length hs ≤ length bytes
+hashes_fit hs bytes p = list_fits (SpellsNumberBelow (2 ^ 64)) SpellsHash (below_has _) hs bytes p
 
-units_fit : (us : List (ℕ × ℕ)) (bytes : List ℕ) → AreHashedLiterals us bytes → length us ≤ length bytes
-units_fit us bytes p = list_fits (IsBelow (2 ^ 64)) (Both IsLiteral IsHash) (pair_has IsLiteral IsHash (below_has _)) us bytes p
+units_fit : (us : List (ℕ × ℕ)) (bytes : List ℕ) → SpellsHashedLiterals us bytes → length us ≤ length bytes
+units_fit us bytes p = list_fits (SpellsNumberBelow (2 ^ 64)) (Both SpellsLiteral SpellsHash) (pair_has SpellsLiteral SpellsHash (below_has _)) us bytes p
 
-both_fit : (ls hs bytes : List ℕ) → Both AreLiterals AreHashes (ls, hs) bytes → length ls + length hs ≤ length bytes
+both_fit : (ls hs bytes : List ℕ) → Both SpellsLiterals SpellsHashes (ls, hs) bytes → length ls + length hs ≤ length bytes
 both_fit ls hs bytes p =
     let one = literals_fit ls p.0 p.2 in
     let two = hashes_fit hs p.1 p.3 in
@@ -72,7 +72,7 @@ clause_size (AddClause clause) = length clause
 clause_size (AtClause redundant clause hashes) = length clause
 clause_size step = 0
 
-fields_fit : (step : Step) (bytes : List ℕ) → SpellsFields step bytes → clause_size step + hashes_named step ≤ length bytes
+fields_fit : (step : Step) (bytes : List ℕ) → SpellsFields step bytes → clause_size step + hash_count step ≤ length bytes
 fields_fit (AddClause clause) bytes p = let one = literals_fit clause bytes p in omega (arith, one)
 fields_fit (AtClause redundant clause hashes) bytes p =
     let one = both_fit clause hashes p.1 p.3 in
@@ -85,7 +85,7 @@ fields_fit (FailedAssumptions core hashes) bytes p =
     omega (arith, two, joined)
 fields_fit step bytes p = omega arith
 
-step_fits : (step : Step) (text : List ℕ) → SpellsStep step text → clause_size step + hashes_named step + 1 ≤ length text
+step_fits : (step : Step) (text : List ℕ) → SpellsStep step text → clause_size step + hash_count step + 1 ≤ length text
 step_fits step text p = let one = fields_fit step p.0 p.2 in let e : length text ≡ length (tag_of step ∷ p.0) = ap length p.1 in omega (arith, one, e)
 
 -- A STEP STORES AT MOST ONE CLAUSE
@@ -119,7 +119,7 @@ clause_goes redundant ls (c ∷ cs) = by_same (clause_goes redundant ls cs) (sam
     by_gone true = omega arith
     by_gone false = let e : length (without_count redundant c).literals ≡ length c.literals = ap length (uncounted_kept redundant c) in omega (arith, e)
 
-    by_same : literals_in (without_clause redundant ls cs) ≤ literals_in cs → (same : Bool) → literals_in (if same then unless_gone (without_count redundant c) ++ cs else c ∷ without_clause redundant ls cs) ≤ literals_in (c ∷ cs)
+    by_same : literals_in (without_clause redundant ls cs) ≤ literals_in cs → (same : Bool) → literals_in (if same then unless_removed (without_count redundant c) ++ cs else c ∷ without_clause redundant ls cs) ≤ literals_in (c ∷ cs)
     by_same rest true = let d : StoredClause = without_count redundant c in by_gone (d.irredundant == 0 && d.redundant == 0)
     by_same rest false = omega (arith, rest)
 
@@ -161,7 +161,7 @@ set_shorter : (ls : List ℕ) → length (canonical ls) ≤ length ls
 set_shorter [] = omega arith
 set_shorter (l ∷ ls) = let rest = set_shorter ls in let one = placed_shorter l (canonical ls) in omega (arith, rest, one)
 
-set_grows : (redundant : Bool) (ls : List ℕ) (f : Stored) → literals_in (with_set redundant ls f).clauses ≤ literals_in f.clauses + length ls
+set_grows : (redundant : Bool) (ls : List ℕ) (f : Stored) → literals_in (with_sorted_set redundant ls f).clauses ≤ literals_in f.clauses + length ls
 set_grows redundant [] f = omega arith
 set_grows redundant (l ∷ []) f = let e : literals_in (with_unit l f).clauses ≡ literals_in f.clauses = ap literals_in (unit_keeps l f) in omega (arith, e)
 set_grows redundant (l ∷ m ∷ ls) f = clause_grows redundant f.next_id (l ∷ m ∷ ls) f.clauses
@@ -195,11 +195,11 @@ effect_grows (DeleteClause clause Simplified) f = let less = clause_goes false (
 effect_grows (DeleteClause clause Satisfied) f = let less = clause_goes false (canonical clause) f.clauses in omega (arith, less)
 effect_grows step f = omega arith
 
-step_grows : (step : Step) (earlier : List Step) → literal_count (ready_after (step ∷ earlier)) ≤ literal_count (ready_after earlier) + clause_size step
+step_grows : (step : Step) (earlier : List Step) → stored_literal_count (ready_after (step ∷ earlier)) ≤ stored_literal_count (ready_after earlier) + clause_size step
 step_grows step earlier =
     let f : Stored = ready_after earlier in
     let grown = effect_grows step f in
-    let e : literal_count (with_conflict_settled (effect step f)) ≡ literals_in (effect step f).clauses = ap literals_in (settled_keeps (effect step f)) in
+    let e : stored_literal_count (with_conflict_settled (effect step f)) ≡ literals_in (effect step f).clauses = ap literals_in (settled_keeps (effect step f)) in
     omega (arith, grown, e)
 
 -- THE BOUND ON LOOKS
@@ -216,23 +216,23 @@ two_looks size rest count grown h =
     let more : rest * (grown + rest) ≤ rest * (count + (size + rest)) = mul-le-mul_left rest (let k : grown + rest ≤ count + (size + rest) = omega (arith, h) in k) in
     omega (arith, more)
 
-looks_within : (earlier : List Step) (bytes : List ℕ) (from to : ℕ) → LooksReach earlier bytes from to
-    → to ≤ from + 7 * ((literal_count (ready_after earlier) + length bytes) * length bytes)
+looks_within : (earlier : List Step) (bytes : List ℕ) (from to : ℕ) → StepsAccountForLooks earlier bytes from to
+    → to ≤ from + 7 * ((stored_literal_count (ready_after earlier) + length bytes) * length bytes)
 looks_within earlier bytes from to (same_looks) = omega arith
-looks_within earlier bytes from to (looks_tried step text rest e spelt most) =
-    let count = literal_count (ready_after earlier) in
+looks_within earlier bytes from to (looks_of_last step text rest e spelt most) =
+    let count = stored_literal_count (ready_after earlier) in
     let fits = step_fits step text spelt in
-    let one = step_looks (hashes_named step) (length text) count (length text + length rest) (let k : hashes_named step + 1 ≤ length text = omega (arith, fits) in k) in
+    let one = step_looks (hash_count step) (length text) count (length text + length rest) (let k : hash_count step + 1 ≤ length text = omega (arith, fits) in k) in
     let two = two_looks (length text) (length rest) count count (omega arith) in
     let joined : length bytes ≡ length text + length rest = ap length e ∙ length-append text rest in
     rw joined (omega (arith, one, two, most))
-looks_within earlier bytes from to (looks_taken step text rest between e spelt accepted most reach) =
-    let count = literal_count (ready_after earlier) in
+looks_within earlier bytes from to (looks_of_accepted step text rest between e spelt accepted most reach) =
+    let count = stored_literal_count (ready_after earlier) in
     let fits = step_fits step text spelt in
     let grown = step_grows step earlier in
     let following = looks_within (step ∷ earlier) rest between to reach in
-    let one = step_looks (hashes_named step) (length text) count (length text + length rest) (let k : hashes_named step + 1 ≤ length text = omega (arith, fits) in k) in
-    let two = two_looks (length text) (length rest) count (literal_count (ready_after (step ∷ earlier))) (omega (arith, grown, fits)) in
+    let one = step_looks (hash_count step) (length text) count (length text + length rest) (let k : hash_count step + 1 ≤ length text = omega (arith, fits) in k) in
+    let two = two_looks (length text) (length rest) count (stored_literal_count (ready_after (step ∷ earlier))) (omega (arith, grown, fits)) in
     let joined : length bytes ≡ length text + length rest = ap length e ∙ length-append text rest in
     rw joined (omega (arith, one, two, most, following))
 
@@ -240,7 +240,7 @@ square : (n : ℕ) → n ^ 2 ≡ n * n
 square n = pow-succ' n 1 ∙ ap (λ (k : ℕ). n * k) (pow-succ' n 0 ∙ ap (λ (k : ℕ). n * k) (pow-zero n) ∙ mul-one n)
 
 -- a text of n bytes takes at most 16 (n + 1)^2 looks
-looks_bounded : (bytes : List ℕ) (from to : ℕ) → LooksReach [] bytes from to → to ≤ from + 16 * (length bytes + 1) ^ 2
+looks_bounded : (bytes : List ℕ) (from to : ℕ) → StepsAccountForLooks [] bytes from to → to ≤ from + 16 * (length bytes + 1) ^ 2
 looks_bounded bytes from to reach =
     let n = length bytes in
     let most : to ≤ from + 7 * ((0 + n) * n) = looks_within [] bytes from to reach in
@@ -249,11 +249,11 @@ looks_bounded bytes from to reach =
 
 -- the looks of steps in the text that a reader gave are bounded
 pub takes_looks : (old new : Reader) (text : List ℕ) (from to : ℕ) → GavePrefix old new text → from ≤ to
-    → ((rest : List ℕ) → CanFollow old new rest → LooksReach [] (text ++ rest) from to) → TakesLooks old new from to
+    → ((rest : List ℕ) → CouldStillGive old new rest → StepsAccountForLooks [] (text ++ rest) from to) → LooksAreBounded old new from to
 takes_looks old new text from to front rises reached = record {
   text = text;
   front = front;
   rises = rises;
-  bound = looks_bounded text from to (subst (λ (bytes : List ℕ). LooksReach [] bytes from to) (append-nil text) (reached [] (λ _ _. refl)));
+  bound = looks_bounded text from to (subst (λ (bytes : List ℕ). StepsAccountForLooks [] bytes from to) (append-nil text) (reached [] (λ _ _. refl)));
   reached = reached;
 }

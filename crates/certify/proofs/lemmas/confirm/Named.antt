@@ -7,13 +7,13 @@ use Rattle.sat_base.specs.values.Tables.{value_at}
 use Rattle.sat_base.specs.values.Literals.{variable, is_positive}
 use Rattle.sat_base.specs.script.Script.{Literal, Among}
 use Rattle.certify.specs.answers.AnswerForms.{named_literal, named_literals}
-use Rattle.certify.specs.confirm.SpeltLiterals.{AllAmong, HasEach}
-use Rattle.certify.specs.confirm.Variables.{variable_in, PutsVariable}
+use Rattle.certify.specs.confirm.SpeltLiterals.{AllAmong, ContainsEach}
+use Rattle.certify.specs.confirm.Variables.{variable_in, SetsVariable}
 use Rattle.certify.specs.declared.confirm.variables.NamedVars.{NamedVars}
 use Rattle.certify.proofs.lemmas.judge.States.{same_place}
 
 -- the variable of a name is stored at the index that is one less than the name
-pub put_at : (old new : NamedVars) (place name : ℕ) (value : Option ℕ) → place + 1 ≡ name → ((v : ℕ) → value_at None new.variables v ≡ cond (eqb v place) value (value_at None old.variables v)) → PutsVariable old new name value
+pub put_at : (old new : NamedVars) (place name : ℕ) (value : Option ℕ) → place + 1 ≡ name → ((v : ℕ) → value_at None new.variables v ≡ cond (eqb v place) value (value_at None old.variables v)) → SetsVariable old new name value
 put_at old new place name value n h = record { each = at }
   where
     at : (m : ℕ) → variable_in new m ≡ cond (eqb name m) value (variable_in old m)
@@ -51,10 +51,10 @@ named_among [] l m = absurd m
 named_among (c ∷ codes) l (inl e) = inl (named_same l c e)
 named_among (c ∷ codes) l (inr m) = inr (named_among codes l m)
 
-pub each_named : (ask line : List ℕ) → AllAmong ask line → HasEach (named_literals line) (named_literals ask)
+pub each_named : (ask line : List ℕ) → AllAmong ask line → ContainsEach (named_literals line) (named_literals ask)
 each_named [] line h = tt
 each_named (l ∷ ask) line h = (among_named line l h.0, each_named ask line h.1)
 
-pub named_each : (ask line : List ℕ) → HasEach (named_literals line) (named_literals ask) → AllAmong ask line
+pub named_each : (ask line : List ℕ) → ContainsEach (named_literals line) (named_literals ask) → AllAmong ask line
 named_each [] line h = tt
 named_each (l ∷ ask) line h = (named_among line l h.0, named_each ask line h.1)

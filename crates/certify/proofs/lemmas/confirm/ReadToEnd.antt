@@ -2,7 +2,7 @@
 use Rattle.std.proofs.Common.{ℕ, ◌≡◌, ◌<◌, ◌∙◌, ◌⊎◌, true, List, [], ◌∷◌, ◌++◌, codes, decimal, refl, sym, ap, subst, arith, inl, inr, ⊎_elim, append_assoc, append-nil, true≢false}
 use Rattle.std.proofs.lemmas.Bool.{cases_lt, cases_Bool}
 use Rattle.std.proofs.lemmas.List.{append_cancel_left}
-use Rattle.sat_base.specs.device.Device.{Reader, CanFollow, GaveEnough, GaveAll}
+use Rattle.sat_base.specs.device.Device.{Reader, CouldStillGive, GaveEnough, GaveAll}
 use Rattle.sat_base.proofs.lemmas.device.Given.{enough_as}
 use Rattle.sat_base.specs.script.Script.{Literal}
 use Rattle.sat_base.specs.script.ScriptState.{Refusal, PastLimit, WitnessName}
@@ -85,7 +85,7 @@ no_more script a h =
 -- READERS
 
 -- nothing can always follow
-nothing : (old new : Reader) → CanFollow old new []
+nothing : (old new : Reader) → CouldStillGive old new []
 nothing old new = λ c e. refl
 
 -- the end of the answers was seen

@@ -3,7 +3,7 @@ use Rattle.std.proofs.Common.{◌≡◌, ℕ, Bool, false, List, ◌∷◌, refl
 use Rattle.std.proofs.lemmas.Bool.{true≢false}
 use Rattle.sat_base.specs.steps.Steps.{Step, SolverVarName, UserVarName}
 use Rattle.sat_base.specs.steps.StepText.{tag_of}
-use Rattle.sat_checker.specs.matching.Checking.{is_ordered, variable_of}
+use Rattle.sat_checker.specs.matching.Checking.{is_ordered, variable_named}
 use Rattle.certify.specs.confirm.Stepping.{is_ordered_tag}
 
 tag_is_ordered : (s : Step) → is_ordered_tag (tag_of s) ≡ is_ordered s
@@ -14,6 +14,6 @@ pub ordered_by_tag : (s : Step) (tag : ℕ) (answer b : Bool) → tag ≡ tag_of
 ordered_by_tag s tag answer b e f g = sym (tag_is_ordered s) ∙ ap is_ordered_tag (sym e) ∙ sym f ∙ g
 
 -- an unordered step does not change the variable of any name
-pub unordered_names : (step : Step) (earlier : List Step) → is_ordered step ≡ false → variable_of (step ∷ earlier) ≡ variable_of earlier
+pub unordered_names : (step : Step) (earlier : List Step) → is_ordered step ≡ false → variable_named (step ∷ earlier) ≡ variable_named earlier
 unordered_names (UserVarName v name) earlier h = absurd (true≢false h)
 unordered_names step earlier h = refl

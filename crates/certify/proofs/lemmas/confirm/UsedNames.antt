@@ -5,13 +5,13 @@ use Rattle.std.specs.List.{AllByRecursion}
 use Rattle.sat_base.specs.values.Literals.{var_limit}
 use Rattle.sat_base.specs.script.Script.{Literal, names_of}
 use Rattle.sat_base.specs.script.ScriptState.{ScriptState, Named, NameMode, Sampled, Witnessed, identity_in, identity_of}
-use Rattle.certify.specs.answers.AnswerForms.{HaveNames, NamesRise}
-use Rattle.certify.specs.judge.Names.{states_of, NamesHaveState, is_hidden, state_of_mode, state_of_identity, used_from, used_in}
+use Rattle.certify.specs.answers.AnswerForms.{HaveNames, NamesStrictlyIncrease}
+use Rattle.certify.specs.refusals.Names.{states_of, NamesHaveState, is_hidden, state_of_mode, state_of_identity, names_in_use_from, names_in_use}
 use Rattle.certify.proofs.lemmas.judge.States.{states_length}
-use Rattle.sat_base.specs.script.ScriptStateLaws.{NamesIncrease}
-use Rattle.certify.specs.declared.judge.NameState.{NameState}
-use Rattle.certify.specs.declared.judge.NameState.TheVariants as state
-use Rattle.certify.specs.declared.judge.names.Names.{Names}
+use Rattle.sat_base.specs.script.ScriptStateLaws.{NamesAreIncreasing}
+use Rattle.certify.specs.declared.refusals.NameState.{NameState}
+use Rattle.certify.specs.declared.refusals.NameState.TheVariants as state
+use Rattle.certify.specs.declared.refusals.names.Names.{Names}
 
 -- THE SAME NAMES
 
@@ -55,13 +55,13 @@ no_name first (n ∷ ns) a h =
     let t : true ≡ false = sym (found n ns) ∙ ap (λ (m : ℕ). is_some (identity_in (n ∷ ns) m)) (sym e) ∙ at in
     absurd (cc)
 
-module _ (first : ℕ) (s : NameState) (ss : List NameState) (rest : (ns : List Named) → NamesIncrease ns → Above (first + 1) ns → Agree (first + 1) ns ss → map (λ n. n.name) ns ≡ used_from (first + 1) ss) where
-  at_first : (ns : List Named) → NamesIncrease ns → Above first ns → Agree first ns (s ∷ ss) → (b : Bool) → is_hidden s ≡ b → map (λ n. n.name) ns ≡ cond b (used_from (first + 1) ss) (first ∷ used_from (first + 1) ss)
+module _ (first : ℕ) (s : NameState) (ss : List NameState) (rest : (ns : List Named) → NamesAreIncreasing ns → Above (first + 1) ns → Agree (first + 1) ns ss → map (λ n. n.name) ns ≡ names_in_use_from (first + 1) ss) where
+  at_first : (ns : List Named) → NamesAreIncreasing ns → Above first ns → Agree first ns (s ∷ ss) → (b : Bool) → is_hidden s ≡ b → map (λ n. n.name) ns ≡ cond b (names_in_use_from (first + 1) ss) (first ∷ names_in_use_from (first + 1) ss)
   at_first [] up a h true e = rest [] tt tt (agree_next first [] s ss h)
   at_first [] up a h false e = let t : false ≡ true = agree_here first [] s ss h ∙ ap not e in absurd (cc)
   at_first (n ∷ ns) up a h b e = by_name (eqb n.name first) refl b e
     where
-      by_name : (d : Bool) → eqb n.name first ≡ d → (b : Bool) → is_hidden s ≡ b → map (λ n. n.name) (n ∷ ns) ≡ cond b (used_from (first + 1) ss) (first ∷ used_from (first + 1) ss)
+      by_name : (d : Bool) → eqb n.name first ≡ d → (b : Bool) → is_hidden s ≡ b → map (λ n. n.name) (n ∷ ns) ≡ cond b (names_in_use_from (first + 1) ss) (first ∷ names_in_use_from (first + 1) ss)
       by_name true x true e =
           let same = eqb-true n.name first x in
           let t : true ≡ false = sym (found n ns) ∙ ap (λ (m : ℕ). is_some (identity_in (n ∷ ns) m)) same ∙ agree_here first (n ∷ ns) s ss h ∙ ap not e in
@@ -83,7 +83,7 @@ module _ (first : ℕ) (s : NameState) (ss : List NameState) (rest : (ns : List 
           let t : false ≡ true = ap is_some (sym (absent first (n ∷ ns) up_all)) ∙ agree_here first (n ∷ ns) s ss h ∙ ap not e in
           absurd (cc)
 
-same_from : (ss : List NameState) (first : ℕ) (ns : List Named) → NamesIncrease ns → Above first ns → Agree first ns ss → map (λ n. n.name) ns ≡ used_from first ss
+same_from : (ss : List NameState) (first : ℕ) (ns : List Named) → NamesAreIncreasing ns → Above first ns → Agree first ns ss → map (λ n. n.name) ns ≡ names_in_use_from first ss
 same_from [] first ns up a h = ap (map (λ n. n.name)) (no_name first ns a h)
 same_from (s ∷ ss) first ns up a h = at_first first s ss (λ ms. same_from ss (first + 1) ms) ns up a h (is_hidden s) refl
 
@@ -99,7 +99,7 @@ all_above : (ns : List Named) → Above 0 ns
 all_above [] = tt
 all_above (n ∷ ns) = (omega arith, all_above ns)
 
-pub used_names : (names : Names) (j : ScriptState) → NamesHaveState names j → NamesIncrease j.in_use → map (λ n. n.name) j.in_use ≡ used_in (states_of names)
+pub used_names : (names : Names) (j : ScriptState) → NamesHaveState names j → NamesAreIncreasing j.in_use → map (λ n. n.name) j.in_use ≡ names_in_use (states_of names)
 used_names names j h up = same_from (state.Hidden ∷ (states_of names)) 0 j.in_use up (all_above j.in_use) agree
   where
     agree : Agree 0 j.in_use (state.Hidden ∷ (states_of names))
@@ -119,29 +119,29 @@ between_more : (b : Bool) (first size : ℕ) (ms : List ℕ) → Between (first 
 between_more true first size ms h = wider first size ms h
 between_more false first size ms h = ((omega arith, omega arith), wider first size ms h)
 
-used_between : (ss : List NameState) (first : ℕ) → Between first (first + length ss) (used_from first ss)
+used_between : (ss : List NameState) (first : ℕ) → Between first (first + length ss) (names_in_use_from first ss)
 used_between [] first = tt
-used_between (s ∷ ss) first = between_more (is_hidden s) first (length ss) (used_from (first + 1) ss) (used_between ss (first + 1))
+used_between (s ∷ ss) first = between_more (is_hidden s) first (length ss) (names_in_use_from (first + 1) ss) (used_between ss (first + 1))
 
-rise_more : (m first bound : ℕ) (ms : List ℕ) → m < first → Between first bound ms → NamesRise ms → NamesRise (m ∷ ms)
+rise_more : (m first bound : ℕ) (ms : List ℕ) → m < first → Between first bound ms → NamesStrictlyIncrease ms → NamesStrictlyIncrease (m ∷ ms)
 rise_more m first bound [] low a h = tt
 rise_more m first bound (k ∷ ms) low a h = let l = a.0.0 in (omega arith, h)
 
-rise_if : (b : Bool) (first size : ℕ) (ms : List ℕ) → Between (first + 1) (first + 1 + size) ms → NamesRise ms → NamesRise (cond b ms (first ∷ ms))
+rise_if : (b : Bool) (first size : ℕ) (ms : List ℕ) → Between (first + 1) (first + 1 + size) ms → NamesStrictlyIncrease ms → NamesStrictlyIncrease (cond b ms (first ∷ ms))
 rise_if true first size ms a h = h
 rise_if false first size ms a h = rise_more first (first + 1) (first + 1 + size) ms (omega arith) a h
 
-used_rise : (ss : List NameState) (first : ℕ) → NamesRise (used_from first ss)
+used_rise : (ss : List NameState) (first : ℕ) → NamesStrictlyIncrease (names_in_use_from first ss)
 used_rise [] first = tt
-used_rise (s ∷ ss) first = rise_if (is_hidden s) first (length ss) (used_from (first + 1) ss) (used_between ss (first + 1)) (used_rise ss (first + 1))
+used_rise (s ∷ ss) first = rise_if (is_hidden s) first (length ss) (names_in_use_from (first + 1) ss) (used_between ss (first + 1)) (used_rise ss (first + 1))
 
 have_names : (line : List Literal) (bound : ℕ) → bound ≤ var_limit → Between 1 (1 + bound) (names_of line) → HaveNames line
 have_names [] bound low h = tt
 have_names (l ∷ ls) bound low h = let a = h.0.0 in let b = h.0.1 in ((omega arith, omega arith), have_names ls bound low h.1)
 
 -- a line that lists the names in use is in form
-pub line_form : (names : Names) (line : List Literal) → names.used ≤ var_limit → names_of line ≡ used_in (states_of names) → HaveNames line × NamesRise (names_of line)
+pub line_form : (names : Names) (line : List Literal) → names.used ≤ var_limit → names_of line ≡ names_in_use (states_of names) → HaveNames line × NamesStrictlyIncrease (names_of line)
 line_form names line low e =
     let ss = states_of names in
     let l = states_length names.states names.used in
-    (have_names line (length ss) (omega arith) (subst (Between 1 (1 + length ss)) (sym e) (used_between ss 1)), subst NamesRise (sym e) (used_rise ss 1))
+    (have_names line (length ss) (omega arith) (subst (Between 1 (1 + length ss)) (sym e) (used_between ss 1)), subst NamesStrictlyIncrease (sym e) (used_rise ss 1))

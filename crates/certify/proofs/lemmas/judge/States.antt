@@ -8,12 +8,12 @@ use Rattle.sat_base.specs.values.Literals.{var_limit}
 use Rattle.sat_base.specs.script.ScriptState.{ScriptState, Named, NameMode, Sampled, Witnessed, identity_of, with_name, with_names, names_from, new_names, introduce, without_name, with_mode}
 use Rattle.sat_base.proofs.lemmas.script.LiteralValues.{all_map, placed_found, removed_found, removed_gone}
 use Rattle.sat_base.proofs.lemmas.script.ScriptStates.{placed_all, filtered_all, given_at}
-use Rattle.certify.specs.declared.judge.NameState.{NameState}
-use Rattle.certify.specs.declared.judge.NameState.TheVariants as state
-use Rattle.certify.specs.declared.judge.names.Names.{Names}
+use Rattle.certify.specs.declared.refusals.NameState.{NameState}
+use Rattle.certify.specs.declared.refusals.NameState.TheVariants as state
+use Rattle.certify.specs.declared.refusals.names.Names.{Names}
 use Rattle.sat_base.specs.values.Tables.{value_at, SetsValue}
 use Rattle.sat_base.specs.declared.table.Table.{Table}
-use Rattle.certify.specs.judge.Names.{UnusedAreUnlisted, Changes, IsInUse, changed_to, first_states, state_in, state_of_mode, state_of_identity, states_of, NamesHaveState}
+use Rattle.certify.specs.refusals.Names.{UnusedHaveDefaultState, NamesChangeBy, IsInUse, with_name_state, first_states, name_state_in, state_of_mode, state_of_identity, states_of, NamesHaveState}
 
 none_some : {i : ℕ} → (let o : Option ℕ = None in o) ≡ Some i → ⊥
 none_some e = cc
@@ -27,12 +27,12 @@ past_end [] i h = refl
 past_end (x ∷ xs) zero h = absurd (omega arith)
 past_end (x ∷ xs) (suc i) h = past_end xs i (omega arith)
 
-pub past_states : (xs : List NameState) (name : ℕ) → length xs < name → state_in xs name ≡ state.Hidden
+pub past_states : (xs : List NameState) (name : ℕ) → length xs < name → name_state_in xs name ≡ state.Hidden
 past_states xs zero h = refl
 past_states xs (suc i) h = past_end xs i (omega arith)
 
 -- the states of names after one more state is appended
-pub pushed_at : (xs : List NameState) (s : NameState) (m : ℕ) → state_in (xs ++ s ∷ []) m ≡ cond (eqb (length xs + 1) m) s (state_in xs m)
+pub pushed_at : (xs : List NameState) (s : NameState) (m : ℕ) → name_state_in (xs ++ s ∷ []) m ≡ cond (eqb (length xs + 1) m) s (name_state_in xs m)
 pushed_at xs s zero = let e : eqb (length xs + 1) zero ≡ false = ne_eqb (length xs + 1) zero (λ x. omega arith) in rw e refl
 pushed_at xs s (suc i) = go (eqb (length xs + 1) (suc i)) refl (ltb i (length xs)) refl
   where
@@ -51,10 +51,10 @@ pub states_length : (t : Table NameState) (n : ℕ) → length (first_states t n
 states_length t zero = refl
 states_length t (suc n) = let l = states_length t n in let k = length-append (first_states t n) (value_at state.Sampled t n ∷ []) in omega arith
 
-pub past_used : (names : Names) (name : ℕ) → names.used < name → state_in (states_of names) name ≡ state.Hidden
+pub past_used : (names : Names) (name : ℕ) → names.used < name → name_state_in (states_of names) name ≡ state.Hidden
 past_used names name h = let l = states_length names.states names.used in past_states (states_of names) name (omega arith)
 
-pub got : (t : Table NameState) (n i : ℕ) → i < n → state_in (first_states t n) (suc i) ≡ value_at state.Sampled t i
+pub got : (t : Table NameState) (n i : ℕ) → i < n → name_state_in (first_states t n) (suc i) ≡ value_at state.Sampled t i
 got t zero i h = absurd (omega arith)
 got t (suc n) i h = pushed_at (first_states t n) (value_at state.Sampled t n) (suc i) ∙ go (eqb (length (first_states t n) + 1) (suc i)) refl (λ low. got t n i low)
   where
@@ -62,14 +62,14 @@ got t (suc n) i h = pushed_at (first_states t n) (value_at state.Sampled t n) (s
     below true y x l = ltb-true i n y
     below false y x l = let z = ltb-false i n y in absurd (x (omega arith))
 
-    go : (b : Bool) → eqb (length (first_states t n) + 1) (suc i) ≡ b → (i < n → state_in (first_states t n) (suc i) ≡ value_at state.Sampled t i)
-        → cond b (value_at state.Sampled t n) (state_in (first_states t n) (suc i)) ≡ value_at state.Sampled t i
+    go : (b : Bool) → eqb (length (first_states t n) + 1) (suc i) ≡ b → (i < n → name_state_in (first_states t n) (suc i) ≡ value_at state.Sampled t i)
+        → cond b (value_at state.Sampled t n) (name_state_in (first_states t n) (suc i)) ≡ value_at state.Sampled t i
     go true e earlier = let l = states_length t n in let x = eqb-true (length (first_states t n) + 1) (suc i) e in let same : n ≡ i = omega arith in ap (value_at state.Sampled t) same
     go false e earlier = earlier (below (ltb i n) refl (eqb-false (length (first_states t n) + 1) (suc i) e) (states_length t n))
 
 -- the state of a name that was used
-pub got_at : (names : Names) (index name : ℕ) (s : NameState) → index < names.used → index + 1 ≡ name → s ≡ value_at state.Sampled names.states index → state_in (states_of names) name ≡ s
-got_at names index name s low n e = let m : name ≡ suc index = omega arith in ap (state_in (states_of names)) m ∙ got names.states names.used index low ∙ sym e
+pub got_at : (names : Names) (index name : ℕ) (s : NameState) → index < names.used → index + 1 ≡ name → s ≡ value_at state.Sampled names.states index → name_state_in (states_of names) name ≡ s
+got_at names index name s low n e = let m : name ≡ suc index = omega arith in ap (name_state_in (states_of names)) m ∙ got names.states names.used index low ∙ sym e
 
 -- a name is in use if its state is not hidden
 pub in_use_at : (names : Names) (index name : ℕ) (s : NameState) → index < names.used → index + 1 ≡ name → s ≡ value_at state.Sampled names.states index → (s ≡ state.Hidden → ⊥) → IsInUse names name
@@ -96,11 +96,11 @@ same_place i place name n = go (eqb i place) refl
 
 module _ (old new : Names) (index name : ℕ) (s : NameState) (low : index < old.used) (is : index + 1 ≡ name) (same : new.used ≡ old.used) (sets : SetsValue state.Sampled old.states new.states index s) where
   -- the name has the new state, and every other name keeps its state
-  pub set_at : (m : ℕ) → state_in (states_of new) m ≡ cond (eqb name m) s (state_in (states_of old) m)
+  pub set_at : (m : ℕ) → name_state_in (states_of new) m ≡ cond (eqb name m) s (name_state_in (states_of old) m)
   set_at zero = let e : eqb name zero ≡ false = ne_eqb name zero (λ x. omega arith) in rw e refl
   set_at (suc i) = go (ltb i old.used) refl
     where
-      go : (b : Bool) → ltb i old.used ≡ b → state_in (states_of new) (suc i) ≡ cond (eqb name (suc i)) s (state_in (states_of old) (suc i))
+      go : (b : Bool) → ltb i old.used ≡ b → name_state_in (states_of new) (suc i) ≡ cond (eqb name (suc i)) s (name_state_in (states_of old) (suc i))
       go true e =
           let below : i < old.used = ltb-true i old.used e in
           got new.states new.used i (omega arith) ∙ sets i
@@ -109,9 +109,9 @@ module _ (old new : Names) (index name : ℕ) (s : NameState) (low : index < old
       go false e =
           let past = ltb-false i old.used e in
           let differ : eqb name (suc i) ≡ false = ne_eqb name (suc i) (λ x. omega arith) in
-          past_used new (suc i) (omega arith) ∙ sym (past_used old (suc i) (omega arith)) ∙ ap (λ (b : Bool). cond b s (state_in (states_of old) (suc i))) (sym differ)
+          past_used new (suc i) (omega arith) ∙ sym (past_used old (suc i) (omega arith)) ∙ ap (λ (b : Bool). cond b s (name_state_in (states_of old) (suc i))) (sym differ)
 
-  pub set_fresh : UnusedAreUnlisted old → UnusedAreUnlisted new
+  pub set_fresh : UnusedHaveDefaultState old → UnusedHaveDefaultState new
   set_fresh h v past = sets v ∙ ap (λ (b : Bool). cond b s (value_at state.Sampled old.states v)) (ne_eqb v index (λ x. omega arith)) ∙ h v (omega arith)
 
 -- WHAT A STATE SAYS
@@ -123,7 +123,7 @@ some_used modes i e = go (get_or modes i Sampled) e
     go Witnessed e = cc
 
 -- a hidden name has no identity
-pub hidden_none : (names : Names) (j : ScriptState) (name : ℕ) → NamesHaveState names j → state_in (states_of names) name ≡ state.Hidden → identity_of j name ≡ None
+pub hidden_none : (names : Names) (j : ScriptState) (name : ℕ) → NamesHaveState names j → name_state_in (states_of names) name ≡ state.Hidden → identity_of j name ≡ None
 hidden_none names j name h e = go (identity_of j name) refl
   where
     go : (o : Option ℕ) → identity_of j name ≡ o → o ≡ None
@@ -131,7 +131,7 @@ hidden_none names j name h e = go (identity_of j name) refl
     go (Some i) x = absurd (some_used j.modes i (ap (state_of_identity j.modes) (sym x) ∙ h.each name ∙ e))
 
 -- a name that is not hidden has an identity
-pub used_some : (names : Names) (j : ScriptState) (name : ℕ) → NamesHaveState names j → (state_in (states_of names) name ≡ state.Hidden → ⊥) → (i : ℕ) × (identity_of j name ≡ Some i)
+pub used_some : (names : Names) (j : ScriptState) (name : ℕ) → NamesHaveState names j → (name_state_in (states_of names) name ≡ state.Hidden → ⊥) → (i : ℕ) × (identity_of j name ≡ Some i)
 used_some names j name h u = go (identity_of j name) refl
   where
     go : (o : Option ℕ) → identity_of j name ≡ o → (i : ℕ) × (identity_of j name ≡ Some i)
@@ -144,9 +144,9 @@ named_state j None h = refl
 named_state j (Some i) h = ap state_of_mode (get_or-append j.modes (Sampled ∷ []) Sampled i (h i refl))
 
 -- a hidden name that is introduced gets a new identity
-pub named : (old new : Names) (j : ScriptState) (name : ℕ) → NamesHaveState old j → state_in (states_of old) name ≡ state.Hidden → 1 ≤ name → name ≤ var_limit → name ≤ j.first_unused
-    → new.used ≡ max old.used name → UnusedAreUnlisted new
-    → ((m : ℕ) → state_in (states_of new) m ≡ cond (eqb name m) state.Sampled (state_in (states_of old) m)) → NamesHaveState new (with_name name j)
+pub named : (old new : Names) (j : ScriptState) (name : ℕ) → NamesHaveState old j → name_state_in (states_of old) name ≡ state.Hidden → 1 ≤ name → name ≤ var_limit → name ≤ j.first_unused
+    → new.used ≡ max old.used name → UnusedHaveDefaultState new
+    → ((m : ℕ) → name_state_in (states_of new) m ≡ cond (eqb name m) state.Sampled (name_state_in (states_of old) m)) → NamesHaveState new (with_name name j)
 named old new j name h hidden low high next longer fresh states =
     let n : Named = record { name = name; identity = j.identity_count } in
     let f = h.first in
@@ -163,7 +163,7 @@ named old new j name h hidden low high next longer fresh states =
       apart = λ m k i x y. alone m k i (eqb name m) refl (eqb name k) refl (sym (found m) ∙ x) (sym (found k) ∙ y);
     }
   where
-    at : (m : ℕ) (b : Bool) → state_of_identity (j.modes ++ Sampled ∷ []) (cond b (Some j.identity_count) (identity_of j m)) ≡ cond b state.Sampled (state_in (states_of old) m)
+    at : (m : ℕ) (b : Bool) → state_of_identity (j.modes ++ Sampled ∷ []) (cond b (Some j.identity_count) (identity_of j m)) ≡ cond b state.Sampled (name_state_in (states_of old) m)
     at m true = ap (λ (k : ℕ). state_of_mode (get_or (j.modes ++ Sampled ∷ []) k Sampled)) (sym h.modes) ∙ ap state_of_mode (get_or-append_seam j.modes Sampled [] Sampled)
     at m false = named_state j (identity_of j m) (λ i e. let x = given_at j.in_use m i j.identity_count h.given e in let y = h.modes in omega arith) ∙ h.each m
 
@@ -174,8 +174,8 @@ named old new j name h hidden low high next longer fresh states =
     alone m k i false e false g x y = h.apart m k i x y
 
 -- HIDING A NAME
-pub hidden : (old new : Names) (j : ScriptState) (name : ℕ) → NamesHaveState old j → new.used ≡ old.used → UnusedAreUnlisted new
-    → ((m : ℕ) → state_in (states_of new) m ≡ cond (eqb name m) state.Hidden (state_in (states_of old) m)) → NamesHaveState new (without_name name j)
+pub hidden : (old new : Names) (j : ScriptState) (name : ℕ) → NamesHaveState old j → new.used ≡ old.used → UnusedHaveDefaultState new
+    → ((m : ℕ) → name_state_in (states_of new) m ≡ cond (eqb name m) state.Hidden (name_state_in (states_of old) m)) → NamesHaveState new (without_name name j)
 hidden old new j name h same fresh states = record {
   fresh = fresh;
   first = let f = h.first in omega arith;
@@ -186,7 +186,7 @@ hidden old new j name h same fresh states = record {
   apart = λ m k i x y. h.apart m k i (still m i x) (still k i y);
 }
   where
-    at : (m : ℕ) (b : Bool) → eqb name m ≡ b → state_of_identity j.modes (identity_of (without_name name j) m) ≡ cond b state.Hidden (state_in (states_of old) m)
+    at : (m : ℕ) (b : Bool) → eqb name m ≡ b → state_of_identity j.modes (identity_of (without_name name j) m) ≡ cond b state.Hidden (name_state_in (states_of old) m)
     at m true e = ap (λ (k : ℕ). state_of_identity j.modes (identity_of (without_name name j) k)) (sym (eqb-true name m e)) ∙ ap (state_of_identity j.modes) (removed_gone name j.in_use)
     at m false e = ap (state_of_identity j.modes) (removed_found name j.in_use m (λ q. eqb-false name m e (sym q))) ∙ h.each m
 
@@ -198,8 +198,8 @@ hidden old new j name h same fresh states = record {
         go false e = sym (removed_found name j.in_use m (λ q. eqb-false name m e (sym q))) ∙ x
 
 -- SETTING A MODE
-pub moded : (old new : Names) (j : ScriptState) (mode : NameMode) (name : ℕ) → NamesHaveState old j → (state_in (states_of old) name ≡ state.Hidden → ⊥) → new.used ≡ old.used → UnusedAreUnlisted new
-    → ((m : ℕ) → state_in (states_of new) m ≡ cond (eqb name m) (state_of_mode mode) (state_in (states_of old) m)) → NamesHaveState new (with_mode mode name j)
+pub moded : (old new : Names) (j : ScriptState) (mode : NameMode) (name : ℕ) → NamesHaveState old j → (name_state_in (states_of old) name ≡ state.Hidden → ⊥) → new.used ≡ old.used → UnusedHaveDefaultState new
+    → ((m : ℕ) → name_state_in (states_of new) m ≡ cond (eqb name m) (state_of_mode mode) (name_state_in (states_of old) m)) → NamesHaveState new (with_mode mode name j)
 moded old new j mode name h used same fresh states =
     let u = used_some old j name h used in
     let at_name : unwrap_or (identity_of j name) 0 ≡ u.0 = ap (λ o. unwrap_or o 0) u.1 in
@@ -214,8 +214,8 @@ moded old new j mode name h used same fresh states =
     }
   where
     at : (m : ℕ) (o : Option ℕ) → identity_of j m ≡ o → (b : Bool) → eqb name m ≡ b
-        → state_of_identity (set j.modes (unwrap_or (identity_of j name) 0) mode) (identity_of j m) ≡ cond b (state_of_mode mode) (state_in (states_of old) m)
-    at m None x true e = absurd (used (ap (state_in (states_of old)) (eqb-true name m e) ∙ sym (h.each m) ∙ ap (state_of_identity j.modes) x))
+        → state_of_identity (set j.modes (unwrap_or (identity_of j name) 0) mode) (identity_of j m) ≡ cond b (state_of_mode mode) (name_state_in (states_of old) m)
+    at m None x true e = absurd (used (ap (name_state_in (states_of old)) (eqb-true name m e) ∙ sym (h.each m) ∙ ap (state_of_identity j.modes) x))
     at m None x false e = ap (state_of_identity (set j.modes (unwrap_or (identity_of j name) 0) mode)) x ∙ sym (ap (state_of_identity j.modes) x) ∙ h.each m
     at m (Some i) x true e =
         let here : unwrap_or (identity_of j name) 0 ≡ i = ap (λ (k : ℕ). unwrap_or (identity_of j k) 0) (eqb-true name m e) ∙ ap (λ o. unwrap_or o 0) x in
@@ -247,11 +247,11 @@ below_at j name b low e = go (ltb name j.first_unused) refl
     go true x = rw e refl
     go false x = let y = ltb-false name j.first_unused x in absurd (omega arith)
 
-pub new_hidden : (names : Names) (j : ScriptState) (name : ℕ) → NamesHaveState names j → name < j.first_unused → state_in (states_of names) name ≡ state.Hidden → new_names name j ≡ name ∷ []
+pub new_hidden : (names : Names) (j : ScriptState) (name : ℕ) → NamesHaveState names j → name < j.first_unused → name_state_in (states_of names) name ≡ state.Hidden → new_names name j ≡ name ∷ []
 new_hidden names j name h low e = below_at j name false low (ap is_some (hidden_none names j name h e))
 
 -- a name in use is not introduced again
-pub new_used : (names : Names) (j : ScriptState) (name : ℕ) → NamesHaveState names j → (state_in (states_of names) name ≡ state.Hidden → ⊥) → new_names name j ≡ []
+pub new_used : (names : Names) (j : ScriptState) (name : ℕ) → NamesHaveState names j → (name_state_in (states_of names) name ≡ state.Hidden → ⊥) → new_names name j ≡ []
 new_used names j name h u = below_at j name true (low (ltb names.used name) refl) (ap is_some (used_some names j name h u).1)
   where
     low : (b : Bool) → ltb names.used name ≡ b → name < j.first_unused
@@ -259,7 +259,7 @@ new_used names j name h u = below_at j name true (low (ltb names.used name) refl
     low false e = let f = h.first in let x = ltb-false names.used name e in omega arith
 
 -- so introducing it changes nothing
-pub stays : (names : Names) (name : ℕ) → IsInUse names name → Changes names names (introduce name)
+pub stays : (names : Names) (name : ℕ) → IsInUse names name → NamesChangeBy names names (introduce name)
 stays names name u j h = subst (λ (ns : List ℕ). NamesHaveState names (with_names ns j)) (sym (new_used names j name h u)) h
 
 pub witnessed_used : (s : NameState) → s ≡ state.Witnessed → s ≡ state.Hidden → ⊥
@@ -273,20 +273,20 @@ pub hide_at : (old new : Names) (j : ScriptState) (index name : ℕ) → NamesHa
 hide_at old new j index name h low n same sets = hidden old new j name h same (set_fresh old new index name state.Hidden low n same sets h.fresh) (set_at old new index name state.Hidden low n same sets)
 
 mode_at : (old new : Names) (j : ScriptState) (mode : NameMode) (index name : ℕ) → NamesHaveState old j → index < old.used → index + 1 ≡ name → new.used ≡ old.used → SetsValue state.Sampled old.states new.states index (state_of_mode mode)
-    → (state_in (states_of old) name ≡ state.Hidden → ⊥) → NamesHaveState new (with_mode mode name j)
+    → (name_state_in (states_of old) name ≡ state.Hidden → ⊥) → NamesHaveState new (with_mode mode name j)
 mode_at old new j mode index name h low n same sets used =
     moded old new j mode name h used same (set_fresh old new index name (state_of_mode mode) low n same sets h.fresh) (set_at old new index name (state_of_mode mode) low n same sets)
 
 -- a name in use gets a state
 pub state_set : (old new : Names) (s : NameState) (index name : ℕ) → index < old.used → index + 1 ≡ name → new.used ≡ old.used → SetsValue state.Sampled old.states new.states index s
-    → IsInUse old name → Changes old new (changed_to s name)
+    → IsInUse old name → NamesChangeBy old new (with_name_state s name)
 state_set old new state.Hidden index name low n same sets used j h = hide_at old new j index name h low n same sets
 state_set old new state.Sampled index name low n same sets used j h = mode_at old new j Sampled index name h low n same sets used
 state_set old new state.Witnessed index name low n same sets used j h = mode_at old new j Witnessed index name h low n same sets used
 
 -- a hidden name is introduced again
 pub again_at : (old new : Names) (j : ScriptState) (index name : ℕ) → NamesHaveState old j → index < old.used → index + 1 ≡ name → index < var_limit → new.used ≡ old.used → SetsValue state.Sampled old.states new.states index state.Sampled
-    → state_in (states_of old) name ≡ state.Hidden → NamesHaveState new (introduce name j)
+    → name_state_in (states_of old) name ≡ state.Hidden → NamesHaveState new (introduce name j)
 again_at old new j index name h low n within same sets hidden_yet =
     let f = h.first in
     let longer : new.used ≡ max old.used name = omega arith in
@@ -297,4 +297,4 @@ again_at old new j index name h low n within same sets hidden_yet =
 pub again_used : (old new : Names) (index name : ℕ) → index < old.used → index + 1 ≡ name → new.used ≡ old.used → SetsValue state.Sampled old.states new.states index state.Sampled → IsInUse new name
 again_used old new index name low n same sets e =
     let here : eqb name name ≡ true = eq-eqb name name refl in
-    sampled_used _ (set_at old new index name state.Sampled low n same sets name ∙ ap (λ (b : Bool). cond b state.Sampled (state_in (states_of old) name)) here) e
+    sampled_used _ (set_at old new index name state.Sampled low n same sets name ∙ ap (λ (b : Bool). cond b state.Sampled (name_state_in (states_of old) name)) here) e

@@ -10,14 +10,14 @@ use Rattle.sat_base.specs.steps.Steps.{Step}
 use Rattle.sat_base.specs.steps.StepText.{SpellsSteps}
 use Rattle.sat_checker.specs.Accepts.{AcceptsAll, effect, ready_after}
 use Rattle.sat_checker.proofs.lemmas.invariants.Stored.{unsat_stays}
-use Rattle.sat_checker.specs.matching.Checking.{Accepted}
-use Rattle.sat_checker.specs.matching.Expected.{Outcome, Sat, Unsat, Unknown, Expected, Adds, Opens, Shows, Fails, expected}
+use Rattle.sat_checker.specs.matching.Checking.{AreAcceptedBy}
+use Rattle.sat_checker.specs.matching.Expected.{Outcome, Sat, Unsat, Unknown, Expected, Adds, Opens, Shows, Fails, expected_steps}
 use Rattle.sat_checker.specs.matching.ProofChecking.{checker_rules}
 use Rattle.certify.specs.answers.Answers.{answers_text}
-use Rattle.certify.specs.answers.RightAnswers.{AreRight, AnswersAreRight}
-use Rattle.certify.specs.confirm.Matches.{OneOutcomePerAsk, CoreIsInOrder, MayBeUnmet, Meets, met, cut, other, ordered, Matches}
+use Rattle.certify.specs.answers.RightAnswers.{OutcomesAreRight, AnswersAreRight}
+use Rattle.certify.specs.confirm.Matches.{OneOutcomePerAsk, CoreIsInOrder, IsOptionalOnceUnsat, Meets, met, cut, other, ordered, Matches}
 use Rattle.certify.specs.run.Certifies as by
-use Rattle.certify.specs.run.Certifies.{Certifies, MayBeLeftOut, MayOccur}
+use Rattle.certify.specs.run.Certifies.{Certifies, CanBeOmittedOnceUnsat, CanHaveStep}
 use Rattle.certify.proofs.lemmas.confirm.Settled.{settled_unsat}
 
 -- once recorded, unsat stays recorded
@@ -26,12 +26,12 @@ stays s step u = settled_unsat (effect step (ready_after s)) ∙ unsat_stays (re
 
 -- WHAT MAY BE LEFT UNMET
 
-lacked_excused : (e : Expected) → MayBeLeftOut e → MayBeUnmet e
+lacked_excused : (e : Expected) → CanBeOmittedOnceUnsat e → IsOptionalOnceUnsat e
 lacked_excused (Adds ls) h = tt
 lacked_excused (Fails ask core) h = h
 lacked_excused e h = absurd h
 
-stood_excused : (e : Expected) → MayOccur true e → MayBeUnmet e
+stood_excused : (e : Expected) → CanHaveStep true e → IsOptionalOnceUnsat e
 stood_excused (Fails ask core) h = absurd (both_ways true h refl)
 stood_excused (Opens ls o) h = absurd h
 stood_excused (Shows names ask line) h = absurd (both_ways true h refl)
@@ -39,12 +39,12 @@ stood_excused e h = tt
 
 -- once unsat is recorded, every expected step may be unmet
 excused : {all : List Step} {current : Option Outcome} {earlier : List Step} {es : List Expected} {counts : List ℕ}
-    → Certifies checker_rules all current earlier es counts → checker_rules.unsat earlier ≡ true → AllByRecursion MayBeUnmet es
+    → Certifies checker_rules all current earlier es counts → checker_rules.unsat earlier ≡ true → AllByRecursion IsOptionalOnceUnsat es
 excused by.complete u = tt
 excused (by.left_out {e = e} m r c) u = (lacked_excused e m, excused c u)
 excused (by.other {earlier = earlier} {step = step} n c) u = excused c (stays earlier step u)
 excused (by.ordered {earlier = earlier} {step = step} {e = e} m f c) u =
-    (stood_excused e (subst (λ b. MayOccur b e) u m), excused c (stays earlier step u))
+    (stood_excused e (subst (λ b. CanHaveStep b e) u m), excused c (stays earlier step u))
 excused (by.asked {earlier = earlier} {step = step} i f c) u = ((i u).outcome, excused c (stays earlier step u))
 excused (by.answered {earlier = earlier} {step = step} i f c) u = (tt, excused c (stays earlier step u))
 
@@ -60,7 +60,7 @@ onto_reversed [] earlier = sym (append-nil (reverse earlier))
 onto_reversed (step ∷ steps) earlier =
     onto_reversed steps (step ∷ earlier) ∙ ap (λ s. s ++ steps) (reverse-append (step ∷ []) earlier) ∙ append_assoc (reverse earlier) (step ∷ []) steps
 
-accepted_front : (steps earlier : List Step) → Accepted checker_rules (onto steps earlier) → Accepted checker_rules earlier
+accepted_front : (steps earlier : List Step) → AreAcceptedBy checker_rules (onto steps earlier) → AreAcceptedBy checker_rules earlier
 accepted_front [] earlier h = h
 accepted_front (step ∷ steps) earlier h = (accepted_front steps (step ∷ earlier) h).0
 
@@ -76,10 +76,10 @@ following (by.answered {step = step} i f c) = let h = following c in (step ∷ h
 
 -- the next step is accepted
 next_accepted : {all : List Step} {current : Option Outcome} {step : Step} {earlier : List Step} {es : List Expected} {counts : List ℕ}
-    → Accepted checker_rules all → Certifies checker_rules all current (step ∷ earlier) es counts → checker_rules.Accepts earlier step
+    → AreAcceptedBy checker_rules all → Certifies checker_rules all current (step ∷ earlier) es counts → checker_rules.Accepts earlier step
 next_accepted {step = step} {earlier = earlier} a c =
     let h = following c in
-    (accepted_front h.0 (step ∷ earlier) (subst (Accepted checker_rules) h.1 a)).1
+    (accepted_front h.0 (step ∷ earlier) (subst (AreAcceptedBy checker_rules) h.1 a)).1
 
 -- WHAT IS MET
 
@@ -90,7 +90,7 @@ record Front (all earlier : List Step) (es : List Expected) : Type 0 where
   pub meets : Meets checker_rules earlier steps es
   pub whole : all ≡ onto (steps ++ rest) earlier
 
-module _ (all : List Step) (a : Accepted checker_rules all) where
+module _ (all : List Step) (a : AreAcceptedBy checker_rules all) where
   met_by : {current : Option Outcome} {earlier : List Step} {es : List Expected} {counts : List ℕ}
       → Certifies checker_rules all current earlier es counts → (b : Bool) → checker_rules.unsat earlier ≡ b → Front all earlier es
   met_by c true u = let h = following c in record { steps = []; rest = h.0; meets = cut u (excused c u); whole = h.1 }
@@ -109,13 +109,13 @@ module _ (all : List Step) (a : Accepted checker_rules all) where
       let h = met_by c (checker_rules.unsat (step ∷ earlier)) refl in
       record { steps = step ∷ h.steps; rest = h.rest; meets = ordered u f (next_accepted a c) h.meets; whole = h.whole }
 
-accepted_each : (steps : List Step) → AcceptsAll steps → Accepted checker_rules steps
+accepted_each : (steps : List Step) → AcceptsAll steps → AreAcceptedBy checker_rules steps
 accepted_each [] h = tt
 accepted_each (step ∷ earlier) h = (accepted_each earlier h.0, h.1)
 
 -- OUTCOMES
 
-one_each : (j : ScriptState) (commands : List Command) (outcomes : List Outcome) → AreRight j commands outcomes → OneOutcomePerAsk commands outcomes
+one_each : (j : ScriptState) (commands : List Command) (outcomes : List Outcome) → OutcomesAreRight j commands outcomes → OneOutcomePerAsk commands outcomes
 one_each j [] [] h = tt
 one_each j [] (o ∷ os) h = absurd h
 one_each j (Ask ls ∷ commands) [] h = absurd h
@@ -125,7 +125,7 @@ one_each j (Hide names ∷ commands) os h = one_each (state_after_accepted (Hide
 one_each j (Witness names ∷ commands) os h = one_each (state_after_accepted (Witness names) j) commands os h
 one_each j (Sample names ∷ commands) os h = one_each (state_after_accepted (Sample names) j) commands os h
 
-in_form : (j : ScriptState) (commands : List Command) (outcomes : List Outcome) → AreRight j commands outcomes → AllByRecursion CoreIsInOrder outcomes
+in_form : (j : ScriptState) (commands : List Command) (outcomes : List Outcome) → OutcomesAreRight j commands outcomes → AllByRecursion CoreIsInOrder outcomes
 in_form j commands [] h = tt
 in_form j [] (o ∷ os) h = absurd h
 in_form j (Ask ls ∷ commands) (Sat line ∷ os) h = (tt, in_form (state_after_accepted (Ask ls) j) commands os h.1)
@@ -159,7 +159,7 @@ text_front (step ∷ front) rest text h =
 pub certified_matches : (reading : List ℕ → List Command × ScriptEnding) (script certificate : List ℕ) (outcomes : List Outcome) (steps : List Step) (counts : List ℕ)
     → AnswersAreRight (reading script).0 outcomes
     → AcceptsAll steps
-    → Certifies checker_rules steps None [] (expected initial_state (accepted_commands initial_state (reading script).0) outcomes) counts
+    → Certifies checker_rules steps None [] (expected_steps initial_state (accepted_commands initial_state (reading script).0) outcomes) counts
     → SpellsSteps (reverse steps) certificate
     → Matches checker_rules reading script (answers_text (reading script).0 (reading script).1 outcomes) certificate
 certified_matches reading script certificate outcomes steps counts right a c spelt =

@@ -3,10 +3,10 @@ use Rattle.std.proofs.Common.{ℕ, Bool, true, false, not, ◌||◌, ◌≡◌, 
 use Rattle.std.proofs.lemmas.Bool.{true≢false}
 use Rattle.sat_base.specs.script.Script.{Literal}
 use Rattle.sat_base.specs.steps.Steps.{Step, UserVarName, AddClause, AtClause, Assumptions, End}
-use Rattle.sat_checker.specs.matching.Expected.{Outcome, Sat, Unsat, Expected, NewName, Adds, Opens, Shows, Closes, Finish, Fits, new_name, adds, opens, shows, closes, finish}
+use Rattle.sat_checker.specs.matching.Expected.{Outcome, Sat, Unsat, Expected, NewName, Adds, Opens, Shows, Closes, Finish, FitsExpected, new_name, adds, opens, shows, closes, finish}
 use Rattle.sat_checker.specs.matching.Checking.{is_ordered}
 use Rattle.sat_checker.specs.matching.ProofChecking.{checker_rules}
-use Rattle.certify.specs.run.Certifies.{Certifies, IsKnown, complete, left_out, other, ordered, asked, answered}
+use Rattle.certify.specs.run.Certifies.{Certifies, IsKnownUnsat, complete, left_out, other, ordered, asked, answered}
 use Rattle.certify.specs.laws.Rows.{AfterEndUncertified, ChainCertified, ClauseAndAskCertified, ClauseUncertified, CoreUncertified, EarlyUncertified, EndAloneUncertified, KnownWithoutRounds, LeftOutCertified, ModelUncertified, UnknownUncertified, neg, pos}
 use Rattle.certify.proofs.lemmas.confirm.FittingSteps.{fits_new_name, fits_adds, fits_shows}
 use Rattle.certify.proofs.lemmas.run.Written.{certified_front, next_same}
@@ -60,26 +60,26 @@ no_other : {all earlier : List Step} {current : Option Outcome} {es : List Expec
 no_other later step first i next o c = true≢false (sym i ∙ ap is_ordered (sym (is_next later step next first c)) ∙ o)
 
 next_name : {all earlier : List Step} {current : Option Outcome} {name : ℕ} {es : List Expected} {counts : List ℕ} (later : List Step) (step : Step) → all ≡ later ++ step ∷ earlier → is_ordered step ≡ true
-    → Certifies checker_rules all current earlier (NewName name ∷ es) counts → Fits (checker_rules.knows earlier) earlier (NewName name) step × Certifies checker_rules all current (step ∷ earlier) es counts
+    → Certifies checker_rules all current earlier (NewName name ∷ es) counts → FitsExpected (checker_rules.knows earlier) earlier (NewName name) step × Certifies checker_rules all current (step ∷ earlier) es counts
 next_name later step first i (left_out m r c) = absurd m
 next_name later step first i (other {step = next} o c) = absurd (no_other later step first i next o c)
 next_name {all} {earlier} {current} {name} {es} {counts} later step first i (ordered {step = next} s f c) =
     let e = is_next later step next first c in
-    (subst (λ x. Fits (checker_rules.knows earlier) earlier (NewName name) x) e f, subst (λ (x : Step). Certifies checker_rules all current (x ∷ earlier) es counts) e c)
+    (subst (λ x. FitsExpected (checker_rules.knows earlier) earlier (NewName name) x) e f, subst (λ (x : Step). Certifies checker_rules all current (x ∷ earlier) es counts) e c)
 
 next_added : {all earlier : List Step} {current : Option Outcome} {ls : List Literal} {es : List Expected} {counts : List ℕ} (later : List Step) (step : Step) → all ≡ later ++ step ∷ earlier → is_ordered step ≡ true
-    → checker_rules.unsat earlier ≡ false → Certifies checker_rules all current earlier (Adds ls ∷ es) counts → Fits (checker_rules.knows earlier) earlier (Adds ls) step × Certifies checker_rules all current (step ∷ earlier) es counts
+    → checker_rules.unsat earlier ≡ false → Certifies checker_rules all current earlier (Adds ls ∷ es) counts → FitsExpected (checker_rules.knows earlier) earlier (Adds ls) step × Certifies checker_rules all current (step ∷ earlier) es counts
 next_added later step first i u (left_out m r c) = absurd (true≢false (sym r.recorded ∙ u))
 next_added later step first i u (other {step = next} o c) = absurd (no_other later step first i next o c)
 next_added {all} {earlier} {current} {ls} {es} {counts} later step first i u (ordered {step = next} s f c) =
     let e = is_next later step next first c in
-    (subst (λ x. Fits (checker_rules.knows earlier) earlier (Adds ls) x) e f, subst (λ (x : Step). Certifies checker_rules all current (x ∷ earlier) es counts) e c)
+    (subst (λ x. FitsExpected (checker_rules.knows earlier) earlier (Adds ls) x) e f, subst (λ (x : Step). Certifies checker_rules all current (x ∷ earlier) es counts) e c)
 
 left_added : {all earlier : List Step} {current : Option Outcome} {ls : List Literal} {es : List Expected} {counts : List ℕ} (later : List Step) (step : Step) → all ≡ later ++ step ∷ earlier → is_ordered step ≡ true
-    → checker_rules.unsat earlier ≡ true → Certifies checker_rules all current earlier (Adds ls ∷ es) counts → Fits (checker_rules.knows earlier) earlier (Adds ls) step ⊎ Certifies checker_rules all current earlier es counts
+    → checker_rules.unsat earlier ≡ true → Certifies checker_rules all current earlier (Adds ls ∷ es) counts → FitsExpected (checker_rules.knows earlier) earlier (Adds ls) step ⊎ Certifies checker_rules all current earlier es counts
 left_added later step first i u (left_out m r c) = inr c
 left_added later step first i u (other {step = next} o c) = absurd (no_other later step first i next o c)
-left_added {earlier = earlier} {ls = ls} later step first i u (ordered {step = next} s f c) = inl (subst (λ x. Fits (checker_rules.knows earlier) earlier (Adds ls) x) (is_next later step next first c) f)
+left_added {earlier = earlier} {ls = ls} later step first i u (ordered {step = next} s f c) = inl (subst (λ x. FitsExpected (checker_rules.knows earlier) earlier (Adds ls) x) (is_next later step next first c) f)
 
 -- `OpenedBy all earlier step o es counts` holds if what follows `step`, which opens an ask with outcome `o`, is
 -- certified, and `counts` begins with its rounds. If unsat was recorded before, the outcome is the empty core, without
@@ -88,7 +88,7 @@ record OpenedBy (all earlier : List Step) (step : Step) (o : Outcome) (es : List
   rounds : ℕ
   rest : List ℕ
   counts_are : counts ≡ rounds ∷ rest
-  known : checker_rules.unsat earlier ≡ true → IsKnown o rounds
+  known : checker_rules.unsat earlier ≡ true → IsKnownUnsat o rounds
   leads : Certifies checker_rules all (Some o) (step ∷ earlier) es rest
 
 next_asked : {all earlier : List Step} {ask : List Literal} {o : Outcome} {es : List Expected} {counts : List ℕ} (later : List Step) (step : Step) → all ≡ later ++ step ∷ earlier → is_ordered step ≡ true → Certifies checker_rules all None earlier (Opens ask o ∷ es) counts → OpenedBy all earlier step o es counts
@@ -99,7 +99,7 @@ next_asked {all} {earlier} {o = o} {es = es} later step first i (asked {step = n
     let e = is_next later step next first c in
     record { rounds = n; rest = counts; counts_are = refl; known = k; leads = subst (λ (x : Step). Certifies checker_rules all (Some o) (x ∷ earlier) es counts) e c }
 
-closes_ordered : {knows : ℕ → Bool} {earlier : List Step} {step : Step} → Fits knows earlier Closes step → is_ordered step ≡ true
+closes_ordered : {knows : ℕ → Bool} {earlier : List Step} {step : Step} → FitsExpected knows earlier Closes step → is_ordered step ≡ true
 closes_ordered closes = refl
 
 -- an unordered step in an ask
@@ -132,7 +132,7 @@ core shown counts c =
     split [] ys s zs = refl
     split (x ∷ xs) ys s zs = ap (λ ws. x ∷ ws) (split xs ys s zs)
 
-no_fit : (earlier : List Step) (ls : List Literal) (c : List ℕ) → Fits (checker_rules.knows earlier) earlier (Adds ls) (Assumptions c) → ⊥
+no_fit : (earlier : List Step) (ls : List Literal) (c : List ℕ) → FitsExpected (checker_rules.knows earlier) earlier (Adds ls) (Assumptions c) → ⊥
 no_fit earlier ls c f = let p = (fits_adds checker_rules earlier ls (Assumptions c)).0 f in absurd (let q = p.1 in cc)
 
 pub without_rounds : KnownWithoutRounds
@@ -208,7 +208,7 @@ no_model counts (left_out m none c) = m
 no_model counts (other {step = next} o c) = no_other (End ∷ []) (Assumptions []) refl refl next o c
 no_model counts (ordered {step = next} s f c) =
     let e = is_next (End ∷ []) (Assumptions []) next refl c in
-    let p = (fits_shows checker_rules (Assumptions [] ∷ []) [] [] [] (Assumptions [])).0 (subst (λ x. Fits (checker_rules.knows (Assumptions [] ∷ [])) (Assumptions [] ∷ []) (Shows [] [] []) x) e f) in
+    let p = (fits_shows checker_rules (Assumptions [] ∷ []) [] [] [] (Assumptions [])).0 (subst (λ x. FitsExpected (checker_rules.knows (Assumptions [] ∷ [])) (Assumptions [] ∷ []) (Shows [] [] []) x) e f) in
     absurd (let q = p.1 in cc)
 
 pub model_needed : ModelUncertified

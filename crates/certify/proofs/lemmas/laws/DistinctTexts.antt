@@ -11,7 +11,7 @@ use Rattle.sat_base.specs.script.ScriptState.{ScriptState, Refusal, refusal_of, 
 use Rattle.certify.specs.answers.Answers.{literal_text, literals_text, outcome_text, answers_from, answer_to_command, outcomes_left}
 use Rattle.sat_checker.specs.matching.Expected.{Outcome, Sat, Unsat, Unknown}
 use Rattle.certify.specs.confirm.Matches.{OneOutcomePerAsk}
-use Rattle.certify.specs.laws.Laws.{HasPrintableNames, TextsDetermineOutcomes, AskBindsNothing}
+use Rattle.certify.specs.laws.Laws.{HasPrintableNames, TextsDetermineOutcomes, AskKeepsClauses}
 
 -- `Plain bytes` holds if no byte is a space or LF.
 abbrev pub Plain : List ℕ → Type 0
@@ -145,5 +145,5 @@ brought_leave : (names : List ℕ) (j : ScriptState) → (introduce_all names j)
 brought_leave [] j = refl
 brought_leave (name ∷ names) j = brought_leave names (introduce name j) ∙ names_leave (new_names name j) j
 
-pub ask_leaves : AskBindsNothing
+pub ask_leaves : AskKeepsClauses
 ask_leaves j ls = brought_leave (names_of ls) j

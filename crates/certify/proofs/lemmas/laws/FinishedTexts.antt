@@ -9,8 +9,8 @@ use Rattle.sat_base.specs.script.Language.{reading}
 use Rattle.sat_base.proofs.lemmas.device.Given.{enough_known}
 use Rattle.sat_checker.specs.matching.ProofChecking.{checker_rules}
 use Rattle.certify.specs.confirm.Matches.{Matches, TextsMatch}
-use Rattle.certify.specs.confirm.VerdictPromises.{AreRightAnswers, Exact, GaveTextWith, IsSoundVerdict, TakesLooks}
-use Rattle.certify.specs.laws.EndToEnd.{CanBe, FinishedIsConfirmed, VerdictGuarantee, most_looks_over}
+use Rattle.certify.specs.confirm.VerdictPromises.{AreRightAnswers, VerdictIsExact, GaveTextWith, IsSoundVerdict, LooksAreBounded}
+use Rattle.certify.specs.laws.EndToEnd.{CanGiveText, FinishedIsConfirmed, VerdictGuarantee, most_looks_for}
 use Rattle.certify.specs.run.FinishedRun.{CertificateGuarantee, rounds_of_asks}
 use Rattle.certify.specs.declared.summary.Summary.{Summary}
 use Rattle.certify.specs.declared.verdict.ConfirmFault.{ConfirmFault}
@@ -20,7 +20,7 @@ use Rattle.certify.proofs.lemmas.laws.Headlines.{same_matches}
 use Rattle.certify.proofs.lemmas.laws.CertifiedMatches.{certified_matches}
 
 -- what holds whatever the reader could still give holds of any text that it can be
-can_be : (a b : Reader) (P : List ℕ → Type 0) (text : List ℕ) → CanBe (a, b) text → GaveEnough a b P → P text
+can_be : (a b : Reader) (P : List ℕ → Type 0) (text : List ℕ) → CanGiveText (a, b) text → GaveEnough a b P → P text
 can_be a b P text c g =
     let same : c.given ≡ g.text = append_cancel_left a.given c.given g.text (sym c.front.gave ∙ g.front.gave) in
     subst P (sym (c.whole ∙ ap (λ (xs : List ℕ). xs ++ c.rest) same)) (g.holds c.rest c.follows)
@@ -50,7 +50,7 @@ all_known (Some xs) (Some ys) t text e h k =
     sym (append-nil text) ∙ ap (λ (zs : List ℕ). text ++ zs) (sym k) ∙ sym h ∙ same
 
 pub says : (r : Result Verdict ConfirmFault) (a x b y c z : Reader) (s t u : List ℕ) → a.to_come ≡ Some s → b.to_come ≡ Some t → c.to_come ≡ Some u
-    → IfOk r (Exact (a, x) (b, y) (c, z)) → IfOk r (IsSoundVerdict (a, x) (b, y)) → IfOk r (VerdictGuarantee s t u)
+    → IfOk r (VerdictIsExact (a, x) (b, y) (c, z)) → IfOk r (IsSoundVerdict (a, x) (b, y)) → IfOk r (VerdictGuarantee s t u)
 says (Ok v) a x b y c z s t u d e f h k = record {
   exact = of_known_text c z (λ n. (v ≡ Yes) ↔ TextsMatch s t n) u f
       (of_known_text b y (λ m. GaveTextWith (c, z) (λ n. (v ≡ Yes) ↔ TextsMatch s m n)) t e
@@ -78,7 +78,7 @@ squares_rise m n h =
     let p : m * m ≤ n * n = mul-le-mul h h in
     rw (square m, square n) (omega (arith, p))
 
-pub looks_within : (c z : Reader) (u : List ℕ) (from to : ℕ) → c.to_come ≡ Some u → TakesLooks c z from to → to ≤ from + most_looks_over u
+pub looks_within : (c z : Reader) (u : List ℕ) (from to : ℕ) → c.to_come ≡ Some u → LooksAreBounded c z from to → to ≤ from + most_looks_for u
 looks_within c z u from to e k =
     let few = consumed c.to_come z.to_come u k.text e k.front.known_bytes in
     let up = squares_rise (length k.text + 1) (length u + 1) (omega (arith, few)) in

@@ -17,7 +17,7 @@ use Rattle.certify.specs.confirm.Matches.{StepsMatch}
 use Rattle.certify.specs.confirm.VerdictPromises.{AreRightAnswers}
 use Rattle.certify.specs.run.FinishedRun.{AreWithinBudget, answer_kind, identities_given, malformed_at, rounds_of_asks}
 use Rattle.certify.specs.laws.Headline.{EachTookRounds}
-use Rattle.certify.specs.laws.HeadlineLaws.{CertifiedIsHeadline, MatchingAnswersAreRight, RightByOutcomes, SameMatches, SameReports}
+use Rattle.certify.specs.laws.HeadlineLaws.{CertifyImpliesHeadline, MatchingAnswersAreRight, RightByOutcomes, SameMatches, SameReports}
 use Rattle.certify.specs.declared.summary.Answer.TheVariants as kind
 use Rattle.certify.specs.declared.summary.AskReport.{AskReport}
 use Rattle.certify.specs.declared.summary.Summary.{Summary}
@@ -138,7 +138,7 @@ took (Asked state ls ∷ es) budget before (o ∷ os) (r ∷ rs) k h =
     let rest : map (λ r. r.answer) rs ≡ map answer_kind os = cc in
     (record { within = h.0.within; few = h.1.few; unknown = λ e. h.0.unknown (first ∙ ap answer_kind e) }, took es budget (before + r.steps) os rs rest h.2)
 
-pub certified_headline : CertifiedIsHeadline
+pub certified_headline : CertifyImpliesHeadline
 unfolding right_answers
 certified_headline script budget claimed shown summary answers certificate own other before after c =
     let g = c.answered in

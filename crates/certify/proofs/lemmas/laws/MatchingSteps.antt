@@ -2,13 +2,13 @@
 use Rattle.std.proofs.Common.{ℕ, ◌≡◌, Bool, true, false, List, [], ◌∷◌, map, Option, Some, None, refl, sym, ◌∙◌, ap, subst}
 use Rattle.std.proofs.lemmas.Bool.{true≢false}
 use Rattle.std.specs.List.{AllByRecursion}
-use Rattle.sat_base.specs.values.Clauses.{Valuation, literal_true, EachTrue, EachHolds}
+use Rattle.sat_base.specs.values.Clauses.{Valuation, literal_true, AllLitsTrue, AllClausesTrue}
 use Rattle.sat_base.specs.script.Script.{Literal, names_of, Among}
 use Rattle.sat_base.specs.script.ScriptState.{ScriptState, identity_lit, with_name, without_name, with_clause, IsRightModel}
 use Rattle.sat_base.specs.steps.Steps.{Step, SolverVarName, DeleteVar, ChangeSamplingMode, AddClause, AtClause, UnitClauses, DeleteClause, ChangeHashBits, Model, Assumptions, FailedAssumptions, End}
-use Rattle.sat_checker.specs.matching.Checking.{variable_of, assumed, is_ordered, CheckerRules, IsSound}
-use Rattle.certify.specs.confirm.Matches.{MayBeUnmet, Meets, met, cut, other, ordered}
-use Rattle.sat_checker.specs.matching.Expected.{Expected, NewName, NoName, Adds, Opens, Shows, Fails, Closes, Finish, Spells, EachSpelt, SameSet, new_name, no_name, adds, opens, shows, fails, closes, finish}
+use Rattle.sat_checker.specs.matching.Checking.{variable_named, latest_assumptions, is_ordered, CheckerRules, IsSound}
+use Rattle.certify.specs.confirm.Matches.{IsOptionalOnceUnsat, Meets, met, cut, other, ordered}
+use Rattle.sat_checker.specs.matching.Expected.{Expected, NewName, NoName, Adds, Opens, Shows, Fails, Closes, Finish, IsLiteralOf, EachHasItsLiteral, IsSameLiteralSet, new_name, no_name, adds, opens, shows, fails, closes, finish}
 use Rattle.sat_checker.specs.matching.Bridge.{LiveVariables, IsBridge}
 use Rattle.sat_base.proofs.lemmas.script.LiteralValues.{all_at, all_map, true_mapped, mapped_true, coded_same}
 use Rattle.sat_checker.proofs.lemmas.matching.Bridge.{line_true, core_true, pulled, pulled_agrees, without, nothing_new, added, named_new, unnamed, deleted}
@@ -16,7 +16,7 @@ use Rattle.sat_checker.proofs.lemmas.matching.Bridge.{line_true, core_true, pull
 -- `IsCore j ask core` holds if a core is correct, except for its order.
 pub record IsCore (j : ScriptState) (ask core : List Literal) : Type 0 where
   pub among : AllByRecursion (λ l. Among l ask) core
-  pub none : (a : Valuation) → EachTrue a (map (identity_lit j) core) → EachHolds a j.clauses → ⊥
+  pub none : (a : Valuation) → AllLitsTrue a (map (identity_lit j) core) → AllClausesTrue a j.clauses → ⊥
 
 -- `RightFor q j es` holds if the expected steps show correct answers, given the script state. `q` is the open ask, if
 -- no name was introduced or removed since it was opened.
@@ -32,7 +32,7 @@ RightFor q j (Closes ∷ es) = RightFor None j es
 RightFor q j (Finish ∷ es) = RightFor q j es
 
 -- answers are correct if no valuation satisfies the clauses and no model is expected
-dead_for : (es : List Expected) (q : Option (List Literal)) (j : ScriptState) → ((b : Valuation) → EachHolds b j.clauses → ⊥) → AllByRecursion MayBeUnmet es → RightFor q j es
+dead_for : (es : List Expected) (q : Option (List Literal)) (j : ScriptState) → ((b : Valuation) → AllClausesTrue b j.clauses → ⊥) → AllByRecursion IsOptionalOnceUnsat es → RightFor q j es
 dead_for [] q j d x = tt
 dead_for (NewName name ∷ es) q j d x = dead_for es None (with_name name j) d x.1
 dead_for (NoName name ∷ es) q j d x = dead_for es None (without_name name j) d x.1
@@ -46,10 +46,10 @@ dead_for (Finish ∷ es) q j d x = dead_for es q j d x.1
 -- `Asked q earlier` holds if the open ask, if any, is what was assumed last.
 abbrev Asked : Option (List Literal) → List Step → Type 0
 Asked None earlier = Unit {0}
-Asked (Some ask) earlier = SameSet (variable_of earlier) ask (assumed earlier)
+Asked (Some ask) earlier = IsSameLiteralSet (variable_named earlier) ask (latest_assumptions earlier)
 
 -- two literals of names with the same code are the same
-spelt_once : (k : CheckerRules) (j : ScriptState) (earlier : List Step) (live : LiveVariables) → IsBridge k j earlier live → (l m : Literal) (code : ℕ) → Spells (variable_of earlier) l code → Spells (variable_of earlier) m code → l ≡ m
+spelt_once : (k : CheckerRules) (j : ScriptState) (earlier : List Step) (live : LiveVariables) → IsBridge k j earlier live → (l m : Literal) (code : ℕ) → IsLiteralOf (variable_named earlier) l code → IsLiteralOf (variable_named earlier) m code → l ≡ m
 spelt_once k j earlier live bridge l m code s t =
     let e = coded_same s.variable t.variable l.positive m.positive (sym s.is ∙ t.is) in
     let n : l.name ≡ m.name = bridge.distinct l.name m.name t.variable (s.named ∙ ap Some e.0) t.named in
@@ -102,10 +102,10 @@ module _ (k : CheckerRules) (sound : IsSound k) where
   passed earlier q j live step o b w acc = absurd (true≢false o)
 
   -- once unsat is recorded, no valuation satisfies the clauses
-  dead : (j : ScriptState) (earlier : List Step) (live : LiveVariables) → IsBridge k j earlier live → k.unsat earlier ≡ true → (b : Valuation) → EachHolds b j.clauses → ⊥
+  dead : (j : ScriptState) (earlier : List Step) (live : LiveVariables) → IsBridge k j earlier live → k.unsat earlier ≡ true → (b : Valuation) → AllClausesTrue b j.clauses → ⊥
   dead j earlier live bridge u b h = sound.none_left earlier (pulled live b) bridge.accepted u (bridge.back (pulled live b) (b, pulled_agrees live b bridge.once, h))
 
-  right_model : (j : ScriptState) (earlier : List Step) (live : LiveVariables) → IsBridge k j earlier live → (names c : List ℕ) (ask line : List Literal) → names_of line ≡ names → EachSpelt (variable_of earlier) line c → AllByRecursion (λ l. Among l line) ask → k.Accepts earlier (Model c) → names ≡ map (λ n. n.name) j.in_use → IsRightModel j ask line
+  right_model : (j : ScriptState) (earlier : List Step) (live : LiveVariables) → IsBridge k j earlier live → (names c : List ℕ) (ask line : List Literal) → names_of line ≡ names → EachHasItsLiteral (variable_named earlier) line c → AllByRecursion (λ l. Among l line) ask → k.Accepts earlier (Model c) → names ≡ map (λ n. n.name) j.in_use → IsRightModel j ask line
   right_model j earlier live bridge names c ask line n spelt asked acc e =
       let a = sound.model earlier c bridge.accepted acc in
       let m = bridge.to a.0 a.1 in
@@ -118,12 +118,12 @@ module _ (k : CheckerRules) (sound : IsSound k) where
         asked = true_mapped m.0 (identity_lit j) ask (all_map (λ l. Among l line) (λ l. literal_true m.0 (identity_lit j l) ≡ true) ask (λ l x. all_at (λ l. literal_true m.0 (identity_lit j l) ≡ true) l line t x) asked);
       }
 
-  is_core : (j : ScriptState) (earlier : List Step) (live : LiveVariables) → IsBridge k j earlier live → (c hashes : List ℕ) (ask core : List Literal) → SameSet (variable_of earlier) core c → k.Accepts earlier (FailedAssumptions c hashes) → SameSet (variable_of earlier) ask (assumed earlier) → IsCore j ask core
+  is_core : (j : ScriptState) (earlier : List Step) (live : LiveVariables) → IsBridge k j earlier live → (c hashes : List ℕ) (ask core : List Literal) → IsSameLiteralSet (variable_named earlier) core c → k.Accepts earlier (FailedAssumptions c hashes) → IsSameLiteralSet (variable_named earlier) ask (latest_assumptions earlier) → IsCore j ask core
   is_core j earlier live bridge c hashes ask core same acc asked = record {
-    among = all_map (λ l. (code : ℕ) × Spells (variable_of earlier) l code × Among code c) (λ l. Among l ask) core
+    among = all_map (λ l. (code : ℕ) × IsLiteralOf (variable_named earlier) l code × Among code c) (λ l. Among l ask) core
         (λ l x.
-        let y = all_at (λ x. Among x (assumed earlier)) x.0 c (sound.among earlier c hashes bridge.accepted acc) x.2 in
-        let m = all_at (λ code. (l : Literal) × Spells (variable_of earlier) l code × Among l ask) x.0 (assumed earlier) asked.1 y in
+        let y = all_at (λ x. Among x (latest_assumptions earlier)) x.0 c (sound.among earlier c hashes bridge.accepted acc) x.2 in
+        let m = all_at (λ code. (l : Literal) × IsLiteralOf (variable_named earlier) l code × Among l ask) x.0 (latest_assumptions earlier) asked.1 y in
         subst (λ l. Among l ask) (sym (spelt_once k j earlier live bridge l m.0 x.0 x.1 m.1)) m.2)
         same.0;
     none = λ b t h.

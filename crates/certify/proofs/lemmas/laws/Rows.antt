@@ -6,17 +6,17 @@ use Rattle.std.specs.List.{AllByRecursion}
 use Rattle.sat_base.specs.values.Literals.{var_limit}
 use Rattle.sat_base.specs.script.Script.{Literal, Clean, names_of}
 use Rattle.sat_base.specs.steps.Formats.{Items}
-use Rattle.sat_base.specs.steps.Numbers.{IsNumber, IsBelow}
+use Rattle.sat_base.specs.steps.Numbers.{SpellsNumber, SpellsNumberBelow}
 use Rattle.sat_base.specs.steps.Steps.{Step, UserVarName, AddClause, Model, Assumptions, End}
-use Rattle.sat_base.specs.steps.StepText.{AreLiterals, SpellsStep, SpellsSteps}
-use Rattle.sat_checker.specs.Stored.{Sample, unknown, is_known}
-use Rattle.sat_checker.specs.Accepts.{MayGetName, ready_after}
+use Rattle.sat_base.specs.steps.StepText.{SpellsLiterals, SpellsStep, SpellsSteps}
+use Rattle.sat_checker.specs.Stored.{Sample, initial_variable, is_known}
+use Rattle.sat_checker.specs.Accepts.{CanGetName, ready_after}
 use Rattle.certify.specs.answers.Answers.{answers_text, outcome_text}
-use Rattle.sat_checker.specs.matching.Expected.{Outcome, Sat, Unsat, Unknown, Fits, NewName, new_name, adds, opens, shows, closes, finish}
+use Rattle.sat_checker.specs.matching.Expected.{Outcome, Sat, Unsat, Unknown, FitsExpected, NewName, new_name, adds, opens, shows, closes, finish}
 use Rattle.sat_checker.specs.matching.Checking.{CheckerRules}
 use Rattle.certify.specs.confirm.Matches.{met, cut, ordered, OneOutcomePerAsk, StepsMatch}
 use Rattle.sat_checker.specs.matching.ProofChecking.{checker_rules}
-use Rattle.certify.specs.laws.Rows.{AskAloneText, clause_and_ask, clause_and_ask_text, ClauseAndAskText, ClauseAndAskExpected, ClauseAndAskRight, ClauseAndAskSteps, ClauseAndAskMatches, TwoUnitsRight, TwoUnitsSteps, TwoUnitsMatches, EmptyMatches, HiddenAndBackState, HiddenAndBackExpected, HiddenAtOnceState, WitnessRefusedText, LeftmostRefuses, WitnessRefusesAsk, MalformedText, EmptyText, NameOnOldVariable, EndAloneMatches, NoAnswers, AnswersTwice, pos, neg}
+use Rattle.certify.specs.laws.Rows.{AskAloneText, clause_and_ask, clause_and_ask_text, ClauseAndAskText, ClauseAndAskExpected, ClauseAndAskRight, ClauseAndAskSteps, ClauseAndAskMatches, TwoUnitsRight, TwoUnitsSteps, TwoUnitsMatches, EmptyMatches, HiddenAndBackState, HiddenAndBackExpected, HiddenAtOnceState, WitnessRefusedText, LeftmostRefuses, WitnessRefusesAsk, MalformedText, EmptyText, NameOnOldVariable, EndAloneDoesNotMatch, NoAnswers, AnswersTwice, pos, neg}
 use Rattle.certify.proofs.lemmas.confirm.NextStep.{taken, skipped, fits_new}
 use Rattle.certify.proofs.lemmas.laws.ExpectedOutcomes.{matching_right}
 use Rattle.sat_checker.proofs.lemmas.matching.CheckerIsSound.{the_checking_sound}
@@ -51,13 +51,13 @@ clause_and_ask_right = (
 some_differs : (m n : ℕ) → Some m ≡ Some n → m ≡ n
 some_differs m n e = cc
 
-first_name : MayGetName (ready_after []) 0 0
+first_name : CanGetName (ready_after []) 0 0
 first_name = record { free = λ w e. absurd (cc); nameless = refl; not_hidden = λ e. absurd (cc) }
 
-second_name : MayGetName (ready_after (UserVarName 0 (Some 0) ∷ [])) 1 1
+second_name : CanGetName (ready_after (UserVarName 0 (Some 0) ∷ [])) 1 1
 second_name = record { free = λ w e. taken_by w (eqb w 0) e; nameless = refl; not_hidden = λ e. absurd (cc) }
   where
-    taken_by : (w : ℕ) (b : Bool) → (cond b (record { known = true; mode = Sample; name = Some 0 }) unknown).name ≡ Some 1 → ⊥
+    taken_by : (w : ℕ) (b : Bool) → (cond b (record { known = true; mode = Sample; name = Some 0 }) initial_variable).name ≡ Some 1 → ⊥
     taken_by w true e = let d = some_differs 0 1 e in omega arith
     taken_by w false e = cc
 
@@ -73,17 +73,17 @@ clause_and_ask_steps = record {
 }
 
 -- a number below 128 is encoded as one byte
-small : (n : ℕ) → n < 128 → IsNumber n (n ∷ [])
+small : (n : ℕ) → n < 128 → SpellsNumber n (n ∷ [])
 small n h = (h, refl)
 
 name_spelt : (v : ℕ) → v < 127 → SpellsStep (UserVarName v (Some v)) (2 ∷ v ∷ (v + 1) ∷ [])
 name_spelt v h = (v ∷ (v + 1) ∷ [], refl, (v ∷ [], (v + 1) ∷ [], (small v (omega arith), omega arith), (small (v + 1) (omega arith), omega arith), refl))
 
-items_spelt : (ls : List ℕ) → AllByRecursion (λ l. l < 128) ls → Items (IsBelow (2 * var_limit)) ls ls
+items_spelt : (ls : List ℕ) → AllByRecursion (λ l. l < 128) ls → Items (SpellsNumberBelow (2 * var_limit)) ls ls
 items_spelt [] h = refl
 items_spelt (l ∷ ls) h = let x = h.0 in (l ∷ [], ls, (small l x, omega arith), items_spelt ls h.1, refl)
 
-literals_spelt : (ls : List ℕ) → AllByRecursion (λ l. l < 128) ls → length ls < 128 → AreLiterals ls (length ls ∷ ls)
+literals_spelt : (ls : List ℕ) → AllByRecursion (λ l. l < 128) ls → length ls < 128 → SpellsLiterals ls (length ls ∷ ls)
 literals_spelt ls h n = (length ls ∷ [], ls, (small (length ls) n, omega arith), items_spelt ls h, refl)
 
 clause_spelt : (c : List ℕ) → AllByRecursion (λ l. l < 128) c → length c < 128 → SpellsStep (AddClause c) (5 ∷ length c ∷ c)
@@ -203,11 +203,11 @@ name_on_old_variable accepts unsat (o ∷ os) m =
     let five = taken k refl four.1 in
     true≢false (fits_new k _ five.0).1
 
-pub end_alone : EndAloneMatches
+pub end_alone : EndAloneDoesNotMatch
 end_alone [] m = m.one_each
 end_alone (o ∷ os) m = no (taken checker_rules refl m.meets).0
   where
-    no : Fits (checker_rules.knows []) [] (NewName 1) End → ⊥
+    no : FitsExpected (checker_rules.knows []) [] (NewName 1) End → ⊥
     no f = elim f [ ]
 
 no_text : (o : Outcome) → [] ≡ outcome_text o ++ [] → ⊥

@@ -7,13 +7,13 @@ use Rattle.sat_base.specs.device.Device.{Reader, Writer, WriterAccepts}
 use Rattle.sat_base.specs.steps.Steps.{Step, End}
 use Rattle.sat_base.specs.steps.StepText.{SpellsSteps}
 use Rattle.sat_checker.specs.Accepts.{AcceptsAll}
-use Rattle.sat_checker.specs.ProofView.{taken_after}
+use Rattle.sat_checker.specs.ProofView.{steps_after}
 use Rattle.sat_hints.specs.Checks.{IsProof}
 use Rattle.sat_base.specs.text.Tokenizing.{capped}
-use Rattle.sat_hints.specs.Conversion.{hint_text, lines_of}
+use Rattle.sat_hints.specs.Conversion.{hint_text, lines_of_steps}
 use Rattle.sat_hints.specs.Converts.{Converts}
-use Rattle.sat_hints.specs.Hints.{derives_empty, count_of_cores}
-use Rattle.sat_hints.specs.Laws.{IsCertificate, IsTextOrFault}
+use Rattle.sat_hints.specs.Hints.{derives_empty, core_count}
+use Rattle.sat_hints.specs.Laws.{IsCertificate, WritesTextOrFault}
 use Rattle.sat_hints.specs.declared.error.HintError.{HintError}
 use Rattle.sat_hints.specs.declared.error.HintError.TheVariants.{Refused, HasDeleteVar}
 use Rattle.sat_hints.proofs.lemmas.Converted.{accepted_converts}
@@ -21,11 +21,11 @@ use Rattle.certify.specs.laws.HintTexts.{HasHints, RunsHaveHints}
 use Rattle.certify.proofs.lemmas.run.Unhidden.{EndsWith, run_ends}
 
 -- STEPS IN THE ORDER IN WHICH THEY ARE WRITTEN
-taken_is : (xs earlier : List Step) → taken_after xs earlier ≡ reverse xs ++ earlier
+taken_is : (xs earlier : List Step) → steps_after xs earlier ≡ reverse xs ++ earlier
 taken_is [] earlier = refl
 taken_is (x ∷ xs) earlier = taken_is xs (x ∷ earlier) ∙ sym (append_assoc (reverse xs) (x ∷ []) earlier) ∙ ap (λ ys. ys ++ earlier) (sym (reverse_onto xs x []))
 
-taken_back : (steps : List Step) → taken_after (reverse steps) [] ≡ steps
+taken_back : (steps : List Step) → steps_after (reverse steps) [] ≡ steps
 taken_back steps = taken_is (reverse steps) [] ∙ append-nil (reverse (reverse steps)) ∙ reverse-reverse steps
 
 abbrev GoOn : List Step → Type 0
@@ -51,18 +51,18 @@ one_text : (old new : Writer) (s t : List ℕ) → WriterAccepts old new s → W
 one_text old new s t a b = append_cancel_left old.taken s t (sym a.taken ∙ b.taken)
 
 -- THE RESULT
-is_hinted : (steps written : List Step) (result : Result (Unit {0}) HintError) (from to : Reader) (old new : Writer) → End ∷ taken_after written [] ≡ steps → Converts result from to old new → IsTextOrFault result written old new
+is_hinted : (steps written : List Step) (result : Result (Unit {0}) HintError) (from to : Reader) (old new : Writer) → End ∷ steps_after written [] ≡ steps → Converts result from to old new → WritesTextOrFault result written old new
     → HasHints result steps old new
 is_hinted steps written (Ok x) from to old new e c t =
-    let all : List Step = End ∷ taken_after c.0 [] in
+    let all : List Step = End ∷ steps_after c.0 [] in
     let took : WriterAccepts old new (hint_text steps) = subst (λ s. WriterAccepts old new (hint_text s)) e t in
-    let proof : IsProof (hint_text all) (derives_empty (lines_of all)) (capped (count_of_cores (lines_of all))) (capped (length (lines_of all))) = c.3 in (
+    let proof : IsProof (hint_text all) (derives_empty (lines_of_steps all)) (capped (core_count (lines_of_steps all))) (capped (length (lines_of_steps all))) = c.3 in (
       took,
       record {
-        empty = derives_empty (lines_of all);
-        cores = capped (count_of_cores (lines_of all));
-        lines = capped (length (lines_of all));
-        proof = subst (λ s. IsProof s (derives_empty (lines_of all)) (capped (count_of_cores (lines_of all))) (capped (length (lines_of all)))) (one_text old new (hint_text all) (hint_text steps) c.4 took) proof;
+        empty = derives_empty (lines_of_steps all);
+        cores = capped (core_count (lines_of_steps all));
+        lines = capped (length (lines_of_steps all));
+        proof = subst (λ s. IsProof s (derives_empty (lines_of_steps all)) (capped (core_count (lines_of_steps all))) (capped (length (lines_of_steps all)))) (one_text old new (hint_text all) (hint_text steps) c.4 took) proof;
       },
     )
 is_hinted steps written (Err HasDeleteVar) from to old new e c t = t

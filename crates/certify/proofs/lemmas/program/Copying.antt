@@ -2,10 +2,10 @@
 use Rattle.std.proofs.Common.{ℕ, ◌≡◌, ◌+◌, ◌-◌, ◌≤◌, ◌<◌, Bool, true, false, List, [], ◌∷◌, ◌++◌, length, length-append, length-drop, drop, take, Result, Ok, Err, IfOk, append_assoc, refl, sym, ap, subst, ◌∙◌, arith}
 use Rattle.std.specs.Prelude.{OnOk, if◌then◌else◌, nat_lt}
 use Rattle.std.proofs.lemmas.List.{append-nil, drop_all}
-use Rattle.sat_base.specs.device.Device.{Reader, CanFollow, FewReads, GavePrefix, GaveEnough, lent_reader}
-use Rattle.sat_base.specs.dimacs.Parsing.{StopsReading}
+use Rattle.sat_base.specs.device.Device.{Reader, CouldStillGive, FewReads, GavePrefix, GaveEnough, lent_reader}
+use Rattle.sat_base.specs.dimacs.Parsing.{MakesNoReadAfterEnd}
 use Rattle.certify.specs.program.Copies.{GaveKept, IsCopy, given_before, kept_reader}
-use Rattle.certify.specs.program.Failures.{ReadsToFailure}
+use Rattle.certify.specs.program.Failures.{ReadsStopAtFailure}
 
 -- nothing kept
 pub copy_none : (given : List ℕ) → IsCopy given []
@@ -54,7 +54,7 @@ run_keeps a b kept n m early late k P c none e l en ln g f =
     (subst (λ (z : Reader). GaveEnough z (kept_reader b kept 0) P) old (subst (λ (z : Reader). GaveEnough (kept_reader a k n) z P) new g))
 
 -- the failed reads of a reader, seen through one that keeps what it gives
-pub keeps_to_failure : (a b : Reader) (k kept : List ℕ) (n m : ℕ) → n ≡ 0 → ReadsToFailure (kept_reader a k n, kept_reader b kept m) → ReadsToFailure (a, b)
+pub keeps_to_failure : (a b : Reader) (k kept : List ℕ) (n m : ℕ) → n ≡ 0 → ReadsStopAtFailure (kept_reader a k n, kept_reader b kept m) → ReadsStopAtFailure (a, b)
 keeps_to_failure a b k kept n m none h = record {
   failures = omega (arith, none, h.failures);
   last = λ one.
@@ -69,17 +69,22 @@ keeps_loans : (a b : Reader) (k kept : List ℕ) (n m : ℕ) → (kept_reader b 
 keeps_loans a b k kept n m h = let e : ◌≡◌ {A = List ℕ} (given_before b.given kept ∷ b.loans) (given_before a.given k ∷ a.loans) = h in cc
 
 -- a reader was read no further than it was through one that keeps what it gives
-pub keeps_stop : (a b : Reader) (k kept : List ℕ) (n m : ℕ) → StopsReading (kept_reader a k n) (kept_reader b kept m) → StopsReading a b
-keeps_stop a b k kept n m h = (h.0, record { gave = h.1.gave; known_bytes = h.1.known_bytes; loans = keeps_loans a b k kept n m h.1.loans }, h.2)
+pub keeps_stop : (a b : Reader) (k kept : List ℕ) (n m : ℕ) → n ≡ 0 → MakesNoReadAfterEnd (kept_reader a k n) (kept_reader b kept m) → MakesNoReadAfterEnd a b
+keeps_stop a b k kept n m none h =
+    (h.0, record { gave = h.1.gave; known_bytes = h.1.known_bytes; loans = keeps_loans a b k kept n m h.1.loans }, h.2, λ ended called. last (nat_lt 0 m) b.failed b.ended (h.3 ended (omega arith)))
+  where
+    last : (refused failed ended : Bool) → ((if refused then true else failed) ≡ false) × ((if refused then false else ended) ≡ false) → (failed ≡ false) × (ended ≡ false)
+    last false failed ended p = p
+    last true failed ended p = absurd (let t : ◌≡◌ {A = Bool} true false = p.0 in cc)
 
 -- a reader that was lent was returned through the same loan
 pub same_loan : (a b : Reader) (given back : ℕ) → (lent_reader back b).loans ≡ (lent_reader given a).loans → given ≡ back
 same_loan a b given back e = let h : ◌≡◌ {A = List ℕ} (back ∷ b.loans) (given ∷ a.loans) = e in cc
 
 -- how far a reader that was lent was read
-pub stop_unlent : (a b : Reader) (given back : ℕ) → StopsReading (lent_reader given a) (lent_reader back b) → StopsReading a b
+pub stop_unlent : (a b : Reader) (given back : ℕ) → MakesNoReadAfterEnd (lent_reader given a) (lent_reader back b) → MakesNoReadAfterEnd a b
 stop_unlent a b given back h =
-    (h.0, record { gave = h.1.gave; known_bytes = h.1.known_bytes; loans = let k : ◌≡◌ {A = List ℕ} (back ∷ b.loans) (given ∷ a.loans) = h.1.loans in cc }, h.2)
+    (h.0, record { gave = h.1.gave; known_bytes = h.1.known_bytes; loans = let k : ◌≡◌ {A = List ℕ} (back ∷ b.loans) (given ∷ a.loans) = h.1.loans in cc }, h.2, h.3)
 
 -- what a reader that was lent gave
 pub enough_unlent : (a b : Reader) (given back : ℕ) (P : List ℕ → Type 0) → GaveEnough (lent_reader given a) (lent_reader back b) P → GaveEnough a b P

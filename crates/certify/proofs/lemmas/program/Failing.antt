@@ -1,9 +1,9 @@
 -- Failed calls of the devices of a call.
 use Rattle.std.proofs.Common.{ℕ, ◌≡◌, ◌+◌, ◌≤◌, ◌⊎◌, ◌∙◌, Result, Err, inl, inr, sym, arith}
 use Rattle.std.specs.Prelude.{IsErrOf}
-use Rattle.sat_base.specs.device.Device.{Reader, Writer, LastCallFails, ReadFails, ReadsAreExhausted, most_reads}
-use Rattle.certify.specs.program.Failures.{ConfirmsToFailure, NoReadFailed, ReadsToFailure, RunsToFailure, WritesToFailure}
-use Rattle.certify.specs.run.FinishedRun.{WriteFails}
+use Rattle.sat_base.specs.device.Device.{Reader, Writer, LastCallFails, ReadFails, ReadsAreExhausted, max_reads}
+use Rattle.certify.specs.program.Failures.{ConfirmStopsAtFailure, NoReadFailed, ReadsStopAtFailure, RunStopsAtFailure, WritesStopAtFailure}
+use Rattle.certify.specs.run.FinishedRun.{LastWriterCallFails}
 use Rattle.certify.specs.declared.fault.RunFault.{RunFault}
 use Rattle.certify.specs.declared.fault.RunFault.TheVariants as run_fault
 use Rattle.certify.specs.declared.summary.Summary.{Summary}
@@ -11,16 +11,16 @@ use Rattle.certify.specs.declared.verdict.ConfirmFault.{ConfirmFault}
 use Rattle.certify.specs.declared.verdict.ConfirmFault.TheVariants as confirm_fault
 
 -- a reader of which a read failed only if the result says so
-pub reads_to_failure : (Said : Type 0) (a b : Reader) → (Said → ReadFails a b) → Said ⊎ (b.failures ≡ a.failures) → b.calls ≤ a.calls + most_reads → ReadsToFailure (a, b)
+pub reads_to_failure : (Said : Type 0) (a b : Reader) → (Said → ReadFails a b) → Said ⊎ (b.failures ≡ a.failures) → b.calls ≤ a.calls + max_reads → ReadsStopAtFailure (a, b)
 reads_to_failure Said a b fails (inr kept) few = record { failures = omega (arith, kept); last = λ one. absurd (omega (arith, kept, one)); reads = few }
 reads_to_failure Said a b fails (inl said) few = read_failed (fails said).0
   where
-    read_failed : LastCallFails a b ⊎ ReadsAreExhausted a b → ReadsToFailure (a, b)
+    read_failed : LastCallFails a b ⊎ ReadsAreExhausted a b → ReadsStopAtFailure (a, b)
     read_failed (inl last) = record { failures = omega (arith, last.0); last = λ one. last.1; reads = few }
     read_failed (inr none) = record { failures = omega (arith, none.0); last = λ one. absurd (omega (arith, none.0, one)); reads = few }
 
 -- a writer of which a call failed only if the result says so
-pub writes_to_failure : (Said : Type 0) (a b : Writer) → (Said → WriteFails a b) → Said ⊎ (b.failures ≡ a.failures) → WritesToFailure (a, b)
+pub writes_to_failure : (Said : Type 0) (a b : Writer) → (Said → LastWriterCallFails a b) → Said ⊎ (b.failures ≡ a.failures) → WritesStopAtFailure (a, b)
 writes_to_failure Said a b fails (inr kept) = record { failures = omega (arith, kept); last = λ one. absurd (omega (arith, kept, one)) }
 writes_to_failure Said a b fails (inl said) = record { failures = omega (arith, (fails said).0); last = λ one. (fails said).1 }
 
@@ -41,9 +41,9 @@ one_error r e f other is was = other (sym is ∙ was)
 
 -- the devices of a run
 pub run_to_failure : (r : Result Summary RunFault) (s t : Reader) (a b c d : Writer)
-    → (IsErrOf r run_fault.ScriptRead → ReadFails s t) → (IsErrOf r run_fault.AnswersWrite → WriteFails a b) → (IsErrOf r run_fault.CertificateWrite → WriteFails c d)
+    → (IsErrOf r run_fault.ScriptRead → ReadFails s t) → (IsErrOf r run_fault.AnswersWrite → LastWriterCallFails a b) → (IsErrOf r run_fault.CertificateWrite → LastWriterCallFails c d)
     → IsErrOf r run_fault.ScriptRead ⊎ (t.failures ≡ s.failures) → IsErrOf r run_fault.AnswersWrite ⊎ (b.failures ≡ a.failures) → IsErrOf r run_fault.CertificateWrite ⊎ (d.failures ≡ c.failures)
-    → t.calls ≤ s.calls + most_reads → RunsToFailure (s, t) (a, b) (c, d)
+    → t.calls ≤ s.calls + max_reads → RunStopsAtFailure (s, t) (a, b) (c, d)
 run_to_failure r s t a b c d sf af cf sk ak ck few =
     let script = reads_to_failure _ s t sf sk few in
     let answers = writes_to_failure _ a b af ak in
@@ -60,7 +60,7 @@ run_to_failure r s t a b c d sf af cf sk ak ck few =
 pub confirm_to_failure : {A : Type 0} (r : Result A ConfirmFault) (s t a b c d : Reader)
     → (IsErrOf r confirm_fault.ScriptRead → ReadFails s t) → (IsErrOf r confirm_fault.AnswersRead → ReadFails a b) → (IsErrOf r confirm_fault.CertificateRead → ReadFails c d)
     → IsErrOf r confirm_fault.ScriptRead ⊎ (t.failures ≡ s.failures) → IsErrOf r confirm_fault.AnswersRead ⊎ (b.failures ≡ a.failures) → IsErrOf r confirm_fault.CertificateRead ⊎ (d.failures ≡ c.failures)
-    → t.calls ≤ s.calls + most_reads → b.calls ≤ a.calls + most_reads → d.calls ≤ c.calls + most_reads → ConfirmsToFailure (s, t) (a, b) (c, d)
+    → t.calls ≤ s.calls + max_reads → b.calls ≤ a.calls + max_reads → d.calls ≤ c.calls + max_reads → ConfirmStopsAtFailure (s, t) (a, b) (c, d)
 confirm_to_failure r s t a b c d sf af cf sk ak ck few few' few'' =
     let script = reads_to_failure _ s t sf sk few in
     let answers = reads_to_failure _ a b af ak few' in

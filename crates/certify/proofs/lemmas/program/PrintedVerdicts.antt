@@ -2,13 +2,13 @@
 use Rattle.std.proofs.Common.{ℕ, ◌≡◌, ◌+◌, ◌<◌, ◌^◌, ◌⊎◌, Vec, Global, arith, List, ◌++◌, Result, Ok, Err, IfOk, OnOk, inl, inr, length, refl, subst, sym, ◌∙◌, ap, append_assoc}
 use Rattle.std.specs.Prelude.{OnErr, is_ok, is_some, if◌then◌else◌}
 use Rattle.sat_base.specs.device.Device.{Reader, Writer, GaveEnough, lent_reader}
-use Rattle.sat_base.specs.dimacs.Parsing.{StopsReading}
+use Rattle.sat_base.specs.dimacs.Parsing.{MakesNoReadAfterEnd}
 use Rattle.sat_base.specs.script.Language.{reading}
 use Rattle.sat_base.proofs.lemmas.device.Given.{enough_as}
 use Rattle.sat_base.specs.script.Script.{ScriptEnding, Clean, Malformed}
 use Rattle.certify.specs.program.Copies.{GaveKept}
-use Rattle.certify.specs.program.Failures.{ReadsToFailure}
-use Rattle.certify.specs.program.Printing.{CutsRun, CutsWritten, IsWritten, Prints, PrintsCut, PrintsRun, PrintsWritten, RunOf, is_malformed}
+use Rattle.certify.specs.program.Failures.{ReadsStopAtFailure}
+use Rattle.certify.specs.program.Printing.{PrintsRunPrefix, PrintsWrittenPrefix, IsWritten, Prints, PrintsPrefix, PrintsRun, PrintsWritten, RunOf, is_malformed}
 use Rattle.certify.specs.run.FinishedRun.{malformed_at}
 use Rattle.certify.specs.run.RoundsLeft.{most_rounds}
 use Rattle.certify.specs.declared.headline.Written.{Written}
@@ -55,7 +55,7 @@ prints_run s text w a b p is =
       done = (λ zero. sym said ∙ p.done.0 zero, λ formed. p.done.1 (said ∙ formed));
     }
 
-cuts_run : (text : List ℕ) (w : Written) (a b : Writer) → CutsWritten w a b → IsWritten text w → CutsRun text a b
+cuts_run : (text : List ℕ) (w : Written) (a b : Writer) → PrintsWrittenPrefix w a b → IsWritten text w → PrintsRunPrefix text a b
 cuts_run text w a b p is = record { run = run_of text w is; printed = p }
 
 -- what is printed for the bytes that were kept is printed for what the reader gave
@@ -65,30 +65,30 @@ prints_given (Ok s) x y a b kept w g p = record { given = enough_as x y (λ text
 prints_given (Err e) x y a b kept w g p = tt
 
 pub cut_given : {A E : Type 0} (r : Result A E) (x y : Reader) (a b : Writer) (kept : List ℕ) (w : Written) → GaveKept x y kept (λ text. IsWritten text w)
-    → OnErr r (CutsWritten w a b) → OnErr r ((b ≡ a) ⊎ PrintsCut (x, y) (a, b))
+    → OnErr r (PrintsWrittenPrefix w a b) → OnErr r ((b ≡ a) ⊎ PrintsPrefix (x, y) (a, b))
 cut_given (Ok s) x y a b kept w g p = tt
-cut_given (Err e) x y a b kept w g p = inr (record { given = enough_as x y (λ text. IsWritten text w) (λ text. CutsRun text a b) (λ text. cuts_run text w a b p) g.gave; read = g.read })
+cut_given (Err e) x y a b kept w g p = inr (record { given = enough_as x y (λ text. IsWritten text w) (λ text. PrintsRunPrefix text a b) (λ text. cuts_run text w a b p) g.gave; read = g.read })
 
 -- A READER THAT IS LENT
 
-module _ {I : Type 0} (seen : I → Reader) (x c v : I) (given back : ℕ) (same : given ≡ back → c ≡ v) (stops : StopsReading (lent_reader given (seen x)) (lent_reader back (seen v))) where
+module _ {I : Type 0} (seen : I → Reader) (x c v : I) (given back : ℕ) (same : given ≡ back → c ≡ v) (stops : MakesNoReadAfterEnd (lent_reader given (seen x)) (lent_reader back (seen v))) where
   came_back : (P : I → Type 0) → P v → P c
   came_back P p = subst P (sym (same (same_loan (seen x) (seen v) given back stops.1.loans))) p
 
   -- once a lent reader is returned, how far it was read holds for it
-  pub stop_lent : StopsReading (seen x) (seen c)
-  stop_lent = came_back (λ k. StopsReading (seen x) (seen k)) (stop_unlent (seen x) (seen v) given back stops)
+  pub stop_lent : MakesNoReadAfterEnd (seen x) (seen c)
+  stop_lent = came_back (λ k. MakesNoReadAfterEnd (seen x) (seen k)) (stop_unlent (seen x) (seen v) given back stops)
 
   -- once a lent reader is returned, so are its failed reads
-  pub reads_lent : ReadsToFailure (lent_reader given (seen x), lent_reader back (seen v)) → ReadsToFailure (seen x, seen c)
-  reads_lent h = came_back (λ k. ReadsToFailure (seen x, seen k)) (record { failures = h.failures; last = h.last; reads = h.reads })
+  pub reads_lent : ReadsStopAtFailure (lent_reader given (seen x), lent_reader back (seen v)) → ReadsStopAtFailure (seen x, seen c)
+  reads_lent h = came_back (λ k. ReadsStopAtFailure (seen x, seen k)) (record { failures = h.failures; last = h.last; reads = h.reads })
 
   -- once a lent reader is returned, what was printed holds for it
   pub prints_lent : {E : Type 0} (a b : Writer) (r : Result ℕ E) → IfOk r (λ s. Prints s (lent_reader given (seen x), lent_reader back (seen v)) (a, b)) → IfOk r (λ s. Prints s (seen x, seen c) (a, b))
   prints_lent a b (Ok s) p = came_back (λ k. Prints s (seen x, seen k) (a, b)) (record { given = enough_unlent (seen x) (seen v) given back (λ text. PrintsRun s text a b) p.given; read = p.read })
   prints_lent a b (Err e) p = tt
 
-  pub cut_lent : {E : Type 0} (a b : Writer) (r : Result ℕ E) → OnErr r ((b ≡ a) ⊎ PrintsCut (lent_reader given (seen x), lent_reader back (seen v)) (a, b)) → OnErr r ((b ≡ a) ⊎ PrintsCut (seen x, seen c) (a, b))
+  pub cut_lent : {E : Type 0} (a b : Writer) (r : Result ℕ E) → OnErr r ((b ≡ a) ⊎ PrintsPrefix (lent_reader given (seen x), lent_reader back (seen v)) (a, b)) → OnErr r ((b ≡ a) ⊎ PrintsPrefix (seen x, seen c) (a, b))
   cut_lent a b (Ok s) p = tt
   cut_lent a b (Err e) (inl none) = inl none
-  cut_lent a b (Err e) (inr p) = inr (came_back (λ k. PrintsCut (seen x, seen k) (a, b)) (record { given = enough_unlent (seen x) (seen v) given back (λ text. CutsRun text a b) p.given; read = p.read }))
+  cut_lent a b (Err e) (inr p) = inr (came_back (λ k. PrintsPrefix (seen x, seen k) (a, b)) (record { given = enough_unlent (seen x) (seen v) given back (λ text. PrintsRunPrefix text a b) p.given; read = p.read }))

@@ -3,7 +3,7 @@ use Rattle.std.proofs.Common.{ℕ, ◌≡◌, ◌∙◌, List, [], ◌++◌, Opt
 use Rattle.std.specs.Io.KnownBytes.{Appends}
 use Rattle.sat_base.specs.device.Device.{Reader, Writer, GaveEnough}
 use Rattle.sat_base.proofs.lemmas.device.Given.{enough_as}
-use Rattle.certify.specs.run.FinishedRun.{CertificateGuarantee, TookCertificate}
+use Rattle.certify.specs.run.FinishedRun.{CertificateGuarantee, ReceivedCertificate}
 use Rattle.certify.specs.declared.fault.RunFault.{RunFault}
 use Rattle.certify.specs.declared.headline.Written.{Written}
 use Rattle.certify.specs.declared.summary.Summary.{Summary}
@@ -21,7 +21,7 @@ appended (Some xs) (Some ys) text items h e f =
 -- what a run wrote to memory, for what the reader gave
 pub run_taken : (budget : ℕ) (summary : Summary) (x y : Reader) (a b c d : Writer) (answers certificate : List ℕ)
     → a.contents ≡ Some [] → b.contents ≡ Some answers → c.contents ≡ Some [] → d.contents ≡ Some certificate
-    → TookCertificate budget summary (x, y) (a, b) (c, d) → GaveEnough x y (λ text. CertificateGuarantee text budget summary answers certificate)
+    → ReceivedCertificate budget summary (x, y) (a, b) (c, d) → GaveEnough x y (λ text. CertificateGuarantee text budget summary answers certificate)
 run_taken budget summary x y a b c d answers certificate f g h i took =
     enough_as x y _ (λ text. CertificateGuarantee text budget summary answers certificate)
     (λ text p. let is_answered : answers ≡ p.0 = appended a.contents b.contents p.0 answers p.2.known_bytes f g in

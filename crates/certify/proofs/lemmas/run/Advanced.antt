@@ -12,7 +12,7 @@ use Rattle.sat_checker.specs.Storing.{clause_with, irredundant_count, redundant_
 use Rattle.sat_checker.specs.Propagation.{IsFalsified, IsUnit}
 use Rattle.sat_checker.specs.Accepts.{ready_after}
 use Rattle.sat_checker.specs.Contents.{ProofState, Contents, stored_state, state_after, contents_of, count_of}
-use Rattle.sat_checker.specs.Invariants.{IsProper}
+use Rattle.sat_checker.specs.Invariants.{IsProperClause}
 use Rattle.sat_checker.proofs.lemmas.contents.Steps.{contents_of_steps}
 use Rattle.sat_checker.proofs.lemmas.contents.Counts.{found}
 use Rattle.sat_checker.proofs.lemmas.invariants.Counted.{tidy_clauses}
@@ -25,14 +25,14 @@ use Rattle.sat_checker.proofs.lemmas.sets.Order.{among-append}
 use Rattle.sat_checker.proofs.lemmas.sets.Rising.{canonical_stays}
 use Rattle.sat_solver.specs.session.Session.{Session, session_with, after, last_after, session_after, IsLive, rup_assumptions}
 use Rattle.sat_solver.specs.proof.Widths.{narrowed}
-use Rattle.sat_solver.specs.proof.Counting.{TruncatesHashes, none_made, ask_begun, one_made, counted}
-use Rattle.sat_solver.specs.session.Advancing as made
+use Rattle.sat_solver.specs.proof.Counting.{TruncatesHashes, none_made, ask_begun, one_made, counting_after}
+use Rattle.sat_solver.specs.session.Empowering as made
 use Rattle.sat_solver.specs.session.Quiet.{IsNeverEmpowering, others_of}
 use Rattle.sat_solver.specs.schedule.Solving as made_steps
 use Rattle.sat_solver.specs.declared.proof.hash_bits.Counting.{Counting}
 use Rattle.sat_solver.proofs.lemmas.session.Mapped.{among_mapped}
 use Rattle.sat_solver.proofs.lemmas.session.WidthLemmas.{wide, after_wide}
-use Rattle.certify.specs.run.Advancing.{PropagatesTo, leads_none, leads_one, start_literals, StaysUnassignedInStored, LeavesUnassigned, IsEmpoweringFor, DerivesEmpowering}
+use Rattle.certify.specs.run.Empowering.{PropagatesTo, leads_none, leads_one, start_literals, StaysUnassignedInStored, LeavesUnassigned, IsEmpoweringFor, DerivesEmpowering}
 
 -- THE SESSION AFTER STEPS
 session_is : (steps : List Step) → (last : Option (List ℕ)) × (session_after steps ≡ session_with last (contents_of steps).state)
@@ -53,7 +53,7 @@ cuts_state none_made = (64, refl)
 cuts_state (ask_begun p) = cuts_state p
 cuts_state (one_made {d = d} {made = made} {written = written} step k p) =
     let h = cuts_state p in
-    let now = (counted step d).bits in
+    let now = (counting_after step d).bits in
     let t = change_wide (nat_eq d.bits now) now written (contents_of made).state h.0 h.1 in
     (t.0, ap (state_after (narrowed now step)) t.1 ∙ after_wide now step t.0 (contents_of made).state k)
 
@@ -87,7 +87,7 @@ both : (P Q : StoredClause → Type 0) (cs : List StoredClause) → AllByRecursi
 both P Q [] p q = tt
 both P Q (c ∷ cs) p q = ((p.0, q.0), both P Q cs p.1 q.1)
 
-proper_of : (cs : List StoredClause) → AllByRecursion IsProper (map (λ c. c.literals) cs) → AllByRecursion (λ c. IsProper c.literals) cs
+proper_of : (cs : List StoredClause) → AllByRecursion IsProperClause (map (λ c. c.literals) cs) → AllByRecursion (λ c. IsProperClause c.literals) cs
 proper_of [] h = tt
 proper_of (c ∷ cs) h = (h.0, proper_of cs h.1)
 
@@ -96,9 +96,9 @@ is_live : (steps : List Step) (s : Session) → IsSame (ready_after steps) s →
 is_live steps s same clause a =
     let f = ready_after steps in
     let tidy = tidy_clauses steps in
-    let k = kept (λ c. (IsProper c.literals × (clause_with c.literals f.clauses ≡ Some c)) × (0 < c.irredundant + c.redundant)) f.clauses clause
-    (both (λ c. IsProper c.literals × (clause_with c.literals f.clauses ≡ Some c)) (λ c. 0 < c.irredundant + c.redundant) f.clauses
-    (both (λ c. IsProper c.literals) (λ c. clause_with c.literals f.clauses ≡ Some c) f.clauses (proper_of f.clauses (all_proper steps)) (found f.clauses tidy.once)) tidy.counted) a in
+    let k = kept (λ c. (IsProperClause c.literals × (clause_with c.literals f.clauses ≡ Some c)) × (0 < c.irredundant + c.redundant)) f.clauses clause
+    (both (λ c. IsProperClause c.literals × (clause_with c.literals f.clauses ≡ Some c)) (λ c. 0 < c.irredundant + c.redundant) f.clauses
+    (both (λ c. IsProperClause c.literals) (λ c. clause_with c.literals f.clauses ≡ Some c) f.clauses (proper_of f.clauses (all_proper steps)) (found f.clauses tidy.once)) tidy.counted) a in
     let d = k.stored in
     let sorted = canonical_stays d.literals k.holds.0.0.sorted in
     let irredundant : d.irredundant ≡ s.live false (canonical d.literals) =

@@ -12,10 +12,10 @@ use Rattle.sat_checker.proofs.lemmas.contents.Steps.{contents_of_steps}
 use Rattle.sat_solver.specs.declared.proof.hash_bits.Counting.{Counting}
 use Rattle.sat_solver.specs.session.Quiet.{IsNeverEmpowering}
 use Rattle.sat_solver.specs.schedule.Solving as made
-use Rattle.sat_solver.specs.proof.Counting.{TruncatesHashes, none_made, ask_begun, one_made, width_change, written_for, counted}
+use Rattle.sat_solver.specs.proof.Counting.{TruncatesHashes, none_made, ask_begun, one_made, width_change, written_for, counting_after}
 use Rattle.sat_solver.specs.session.Session.{Session, session_after}
 use Rattle.sat_solver.specs.proof.Widths.{narrowed}
-use Rattle.certify.specs.run.Advancing.{DerivesEmpowering, CountsEmpoweringFor, AreUnordered}
+use Rattle.certify.specs.run.Empowering.{DerivesEmpowering, CountsEmpoweringFor, AreUnordered}
 use Rattle.certify.proofs.lemmas.run.Advanced.{IsSame, advancing_as, cuts_state, is_same, never_as, change_wide}
 
 -- STEPS THAT DERIVE AND RECORD NOTHING
@@ -119,7 +119,7 @@ split none_made (s ∷ later) made e = none_first s (later ++ made) e
 split {c} {d} {m} {w} (ask_begun {d = k} p) (s ∷ later) made e = split {c = c} {d = k} {m = m} {w = w} p (s ∷ later) made e
 split (one_made {d = d} {made = m} {written = w} step k p) (s ∷ later) made e =
     let q = split p later made (same_later step s m (later ++ made) e) in
-    let f = written_for d.bits (counted step d).bits step in
+    let f = written_for d.bits (counting_after step d).bits step in
     record {
       front = f ++ q.front;
       back = q.back;
@@ -158,7 +158,7 @@ pub head_cut : {c d : Counting} {m w : List Step} → TruncatesHashes c m w d �
 head_cut none_made step made e = none_first step made e
 head_cut {c} {d} {m} {w} (ask_begun {d = k} p) step made e = head_cut {c = c} {d = k} {m = m} {w = w} p step made e
 head_cut {c} (one_made {d = d} {made = m} {written = w} s k p) step made e =
-    let now = (counted s d).bits in
+    let now = (counting_after s d).bits in
     record {
       bits = now;
       widths = width_change d.bits now;
@@ -171,11 +171,11 @@ head_cut {c} (one_made {d = d} {made = m} {written = w} s k p) step made e =
 
 -- `Here d step m w` holds if before the step is written, the checker agrees with the session.
 record Here (d : Counting) (step : Step) (m w : List Step) : Type 0 where
-  same : IsSame (ready_after (width_change d.bits (counted step d).bits ++ w)) (session_after m)
+  same : IsSame (ready_after (width_change d.bits (counting_after step d).bits ++ w)) (session_after m)
 
 here : {c d : Counting} {m w : List Step} (step : Step) → TruncatesHashes c m w d → Here d step m w
 here {d = d} {m = m} {w = w} step p =
-    let now = (counted step d).bits in
+    let now = (counting_after step d).bits in
     let h = cuts_state p in
     let wider = change_wide (nat_eq d.bits now) now w (contents_of m).state h.0 h.1 in
     record { same = is_same (width_change d.bits now ++ w) m wider.0 wider.1 }
@@ -189,7 +189,7 @@ timed (one_made {d = d} {made = m} {written = w} step kw p) (s ∷ steps) opened
     let rest = same_later step s m (steps ++ opened) e in
     let first = same_first step s m (steps ++ opened) e in
     let q = timed p steps opened k rest t in
-    let now = (counted step d).bits in
+    let now = (counting_after step d).bits in
     let f = width_change d.bits now in
     let place : f ++ w ≡ (f ++ q.middle) ++ q.before = ap (λ (v : List Step). f ++ v) q.whole ∙ sym (append_assoc f q.middle q.before) in
     let never : IsNeverEmpowering (session_after m) step = subst (λ (x : Step). IsNeverEmpowering (session_after m) x) (sym first) (subst (λ (v : List Step). IsNeverEmpowering (session_after v) s) (sym rest) still.never) in
@@ -209,7 +209,7 @@ timed (one_made {d = d} {made = m} {written = w} step kw p) (s ∷ steps) opened
     let rest = same_later step s m (steps ++ opened) e in
     let first = same_first step s m (steps ++ opened) e in
     let q = timed p steps opened j rest t in
-    let now = (counted step d).bits in
+    let now = (counting_after step d).bits in
     let f = width_change d.bits now in
     let place : f ++ w ≡ (f ++ q.middle) ++ q.before = ap (λ (v : List Step). f ++ v) q.whole ∙ sym (append_assoc f q.middle q.before) in
     let there : made.IsEmpoweringStep (session_after m) step = subst (λ (x : Step). made.IsEmpoweringStep (session_after m) x) (sym first) (subst (λ (v : List Step). made.IsEmpoweringStep (session_after v) s) (sym rest) a) in

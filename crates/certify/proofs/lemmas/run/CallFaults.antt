@@ -2,7 +2,7 @@
 use Rattle.std.proofs.Common.{◌≡◌, ◌∙◌, inl, inr, true, false, Option, None, Some, List, [], ◌∷◌, Err, refl, sym, ap, subst}
 use Rattle.std.specs.Prelude.{ℕ, MatchOption}
 use Rattle.sat_base.specs.script.Script.{Among}
-use Rattle.sat_base.specs.script.ScriptState.{ScriptState, Refusal, refused_literal}
+use Rattle.sat_base.specs.script.ScriptState.{ScriptState, Refusal, refusal_of_names}
 use Rattle.sat_checker.specs.contracts.processing.NobodyProofProcessor.TheImpl.{ghosts}
 use Rattle.sat_checker.specs.declared.processing.Nobody.{Nobody}
 use Rattle.sat_checker.specs.matching.Expected.{Expected}
@@ -16,13 +16,13 @@ use Rattle.sat_solver.specs.variables.Refusing.{names_in}
 use Rattle.sat_solver.specs.variables.VariableRoom.{user_vars_in}
 use Rattle.sat_solver.specs.facade.Adding.{AddsClause, AssumesOrRefuses, HasWitness}
 use Rattle.sat_solver.specs.facade.Answers.{Solves}
-use Rattle.sat_solver.specs.facade.Calls.{BreaksOff, FailsAtNames, HasFullStore}
+use Rattle.sat_solver.specs.facade.Calls.{FailsAfterSteps, NameCallFails, HasFullStore}
 use Rattle.sat_solver.specs.facade.Checking.{CheckerAfterAsk, CheckerAfterError, CheckerFailed, FailsAfterHearing}
-use Rattle.sat_solver.specs.facade.Naming.{ChangesMode, IsAsked}
+use Rattle.sat_solver.specs.facade.Naming.{ChangesMode, IsAssumedName}
 use Rattle.certify.specs.declared.fault.RunFault.{RunFault}
 use Rattle.certify.specs.declared.fault.RunFault.TheVariants as fault
-use Rattle.certify.specs.run.SolverCalls.{FailsSolver, IsAllowed, IsCaused, IsReadySolver, IsSolverFault, RefusedForRoom, fault_for, is_interrupted}
-use Rattle.certify.specs.run.Quiet.{Solver}
+use Rattle.certify.specs.run.SolverCalls.{FailsSolver, AreAllowedNames, IsCaused, IsReadySolver, IsSolverFault, RefusedForRoom, fault_for, is_interrupted}
+use Rattle.certify.specs.run.RunSolver.{Solver}
 
 apart : true ≡ false → ⊥
 apart e = cc
@@ -43,7 +43,7 @@ fault_so full e f = f
 
 module _ (a b : Solver) where
   -- what a call that failed has written
-  pub call_fails : (e : SolverError) → BreaksOff e a b → FailsSolver (fault_for e) a b
+  pub call_fails : (e : SolverError) → FailsAfterSteps e a b → FailsSolver (fault_for e) a b
   call_fails (errors.ProofIoError cause) h = record { steps = h.steps; history = h.history; listening = h.listening; target = h.target }
   call_fails e h = record { steps = h.steps; history = h.history; listening = h.listening; target = h.target }
 
@@ -59,12 +59,12 @@ module _ (a b : Solver) where
   caused full errors.CounterEnd f none w = none_failed checks.CounterEnd none w
   caused full e f none w = absurd f
 
-  caused_at_names : (full lacks : Type 0) (e : SolverError) → FailsAtNames full e a b → b.listeners ≡ None → CheckerAfterError ghosts.takes e a b → IsCaused (fault_for e) full lacks
+  caused_at_names : (full lacks : Type 0) (e : SolverError) → NameCallFails full e a b → b.listeners ≡ None → CheckerAfterError ghosts.takes e a b → IsCaused (fault_for e) full lacks
   caused_at_names full lacks e h none w = caused_map (fault_for e) full ⊥ full lacks (λ x. x) (λ x. absurd x) (caused full e h.fails.fault none w)
 
-  module _ (user : List ℕ) (ready : IsReadySolver a) (allowed : IsAllowed a user) where
+  module _ (user : List ℕ) (ready : IsReadySolver a) (allowed : AreAllowedNames a user) where
     named : HasWitness a user → ⊥
-    named h = none_some _ (sym allowed.3 ∙ ap (λ (i : ScriptState). refused_literal i (names_in user)) (sym allowed.2.state) ∙ h.1)
+    named h = none_some _ (sym allowed.3 ∙ ap (λ (i : ScriptState). refusal_of_names i (names_in user)) (sym allowed.2.state) ∙ h.1)
 
     pub clause_fault : (e : SolverError) → AddsClause (Err e) a b user → IsSolverFault e
     clause_fault errors.WitnessVariable h = absurd (named h.cause.1)
@@ -80,14 +80,14 @@ module _ (a b : Solver) where
     assume_fault errors.VariableLimit h = inr refl
     assume_fault e h = inl (fault_so ⊥ e h.2.fails.fault)
 
-    pub clause_caused : (e : SolverError) → AddsClause (Err e) a b user → BreaksOff e a b → CheckerAfterError ghosts.takes e a b → IsCaused (fault_for e) (HasFullStore b) (RefusedForRoom a b (user_vars_in user))
+    pub clause_caused : (e : SolverError) → AddsClause (Err e) a b user → FailsAfterSteps e a b → CheckerAfterError ghosts.takes e a b → IsCaused (fault_for e) (HasFullStore b) (RefusedForRoom a b (user_vars_in user))
     clause_caused errors.WitnessVariable h t w = absurd (named h.cause.1)
     clause_caused errors.NotInDrat h t w = absurd (apart (sym h.cause.1.0 ∙ ready.no_lines))
     clause_caused errors.HasFailed h t w = absurd (apart (sym h.cause ∙ ready.going))
     clause_caused errors.VariableLimit h t w = (h.cause.1.2, h.same)
     clause_caused e h t w = caused_at_names (HasFullStore b) (RefusedForRoom a b (user_vars_in user)) e h.2 (t.listening ∙ ready.unchecked) w
 
-    pub assume_caused : (e : SolverError) → AssumesOrRefuses (Err e) a b user → BreaksOff e a b → CheckerAfterError ghosts.takes e a b → IsCaused (fault_for e) ⊥ (RefusedForRoom a b (user_vars_in user))
+    pub assume_caused : (e : SolverError) → AssumesOrRefuses (Err e) a b user → FailsAfterSteps e a b → CheckerAfterError ghosts.takes e a b → IsCaused (fault_for e) ⊥ (RefusedForRoom a b (user_vars_in user))
     assume_caused errors.WitnessVariable h t w = absurd (named h.cause.1)
     assume_caused errors.NotInDrat h t w = absurd (apart (sym h.cause.1 ∙ ready.no_lines))
     assume_caused errors.HasFailed h t w = absurd (apart (sym h.cause ∙ ready.going))
@@ -95,7 +95,7 @@ module _ (a b : Solver) where
     assume_caused e h t w = caused_at_names ⊥ (RefusedForRoom a b (user_vars_in user)) e h.2 (t.listening ∙ ready.unchecked) w
 
   -- no name is assumed if no literal is
-  none_asked : (user : ℕ) → a.assumptions ≡ [] → IsAsked a user → ⊥
+  none_asked : (user : ℕ) → a.assumptions ≡ [] → IsAssumedName a user → ⊥
   none_asked user free h = subst (Among h.0) free h.1
 
   module _ (user : ℕ) (judge : ScriptState → ScriptState) (ready : IsReadySolver a) (free : a.assumptions ≡ []) where
@@ -105,7 +105,7 @@ module _ (a b : Solver) where
     name_fault errors.VariableLimit h = inr refl
     name_fault e h = inl (fault_so ⊥ e h.2.fails.fault)
 
-    pub name_caused : (e : SolverError) → ChangesMode (Err e) a b user judge → BreaksOff e a b → CheckerAfterError ghosts.takes e a b → IsCaused (fault_for e) ⊥ (RefusedForRoom a b (user ∷ []))
+    pub name_caused : (e : SolverError) → ChangesMode (Err e) a b user judge → FailsAfterSteps e a b → CheckerAfterError ghosts.takes e a b → IsCaused (fault_for e) ⊥ (RefusedForRoom a b (user ∷ []))
     name_caused errors.AssumedVariable h t w = absurd (none_asked user free h.cause.1)
     name_caused errors.HasFailed h t w = absurd (apart (sym h.cause ∙ ready.going))
     name_caused errors.VariableLimit h t w = (h.cause.2, h.same)
@@ -117,7 +117,7 @@ module _ (a b : Solver) where
     solve_fault errors.HasFailed q h = absurd (apart (sym h.cause ∙ ready.going))
     solve_fault e q h = inl (fault_so (HasFullStore b) e h.fails.fault)
 
-    pub solve_caused : (e : SolverError) → is_interrupted e ≡ false → Solves (Err e) a b → BreaksOff e a b → CheckerAfterAsk ghosts.takes (Err e) a b → IsCaused (fault_for e) (HasFullStore b) ⊥
+    pub solve_caused : (e : SolverError) → is_interrupted e ≡ false → Solves (Err e) a b → FailsAfterSteps e a b → CheckerAfterAsk ghosts.takes (Err e) a b → IsCaused (fault_for e) (HasFullStore b) ⊥
     solve_caused errors.Interrupted q h t w = absurd (apart q)
     solve_caused errors.HasFailed q h t w = absurd (apart (sym h.cause ∙ ready.going))
     solve_caused e q h t w = caused (HasFullStore b) e h.fails.fault (t.listening ∙ ready.unchecked) w.after

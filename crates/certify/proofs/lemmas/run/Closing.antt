@@ -5,7 +5,7 @@ use Rattle.std.specs.List.{AllByRecursion}
 use Rattle.sat_base.specs.steps.Steps.{Step, SolverVarName, ChangeHashBits, Assumptions}
 use Rattle.sat_checker.specs.Accepts.{effect, ready_after}
 use Rattle.sat_checker.specs.matching.Checking.{is_ordered}
-use Rattle.sat_checker.specs.matching.Expected.{Expected, Closes, Fits, closes}
+use Rattle.sat_checker.specs.matching.Expected.{Expected, Closes, FitsExpected, closes}
 use Rattle.sat_checker.specs.matching.ProofChecking.{checker_rules}
 use Rattle.sat_solver.specs.variables.NamingSteps.{IsLiteralsStep}
 use Rattle.sat_solver.specs.session.AllowedSteps.{EachIsAllowed}
@@ -39,7 +39,7 @@ keeps_going s (ChangeHashBits bits) q m g = settled_unsat (effect (ChangeHashBit
 keeps_going s (SolverVarName v n) q m g = absurd (m.2.1)
 keeps_going s step q m g = absurd (cc)
 
-close_keeps : (s : List Step) (x : Expected) (step : Step) → Fits (checker_rules.knows s) s x step → x ≡ Closes → checker_rules.unsat s ≡ false → checker_rules.unsat (step ∷ s) ≡ false
+close_keeps : (s : List Step) (x : Expected) (step : Step) → FitsExpected (checker_rules.knows s) s x step → x ≡ Closes → checker_rules.unsat s ≡ false → checker_rules.unsat (step ∷ s) ≡ false
 close_keeps s Closes step closes e g = settled_unsat (effect (Assumptions []) (ready_after s)) ∙ g
 close_keeps s x step f e g = absurd (cc)
 

@@ -2,12 +2,12 @@
 use Rattle.std.proofs.Common.{ℕ, ◌+◌, ◌*◌, ◌/◌, ◌%◌, ◌≡◌, ◌∙◌, ◌<◌, Bool, true, false, cond, eqb, Option, List, [], ◌∷◌, map, refl, sym, ap, subst, arith, inl, inr}
 use Rattle.std.proofs.lemmas.Bool.Decides.{nat_tests}
 use Rattle.std.specs.List.{AllByRecursion}
-use Rattle.sat_base.specs.values.Clauses.{Valuation, EachTrue, EachHolds, literal_true}
-use Rattle.sat_base.specs.script.Script.{Literal, Among, InOrder, sort_key}
+use Rattle.sat_base.specs.values.Clauses.{Valuation, AllLitsTrue, AllClausesTrue, literal_true}
+use Rattle.sat_base.specs.script.Script.{Literal, Among, AreSortedLiterals, sort_key}
 use Rattle.sat_base.specs.script.ScriptState.{ScriptState, IsRightCore, identity_lit}
 use Rattle.sat_checker.specs.LiteralSets.{canonical}
 use Rattle.sat_checker.specs.SortedSets.{IsIncreasing}
-use Rattle.sat_checker.specs.matching.Expected.{SameSet, Spells}
+use Rattle.sat_checker.specs.matching.Expected.{IsSameLiteralSet, IsLiteralOf}
 use Rattle.sat_checker.proofs.lemmas.sets.Canonical.{canonical_among, canonical_increasing}
 use Rattle.sat_base.proofs.lemmas.script.LiteralValues.{all_at, all_from, all_map, true_mapped, mapped_true}
 use Rattle.certify.specs.answers.AnswerForms.{named_literal, named_literals}
@@ -42,14 +42,14 @@ place_of x = go (eqb (x % 2) 0) refl
     go true e = let z : x % 2 ≡ 0 = grind (arith, nat_tests) in omega arith
     go false e = let z : 0 < x % 2 = grind (arith, nat_tests) in omega arith
 
-in_order : (xs : List ℕ) → IsIncreasing xs → InOrder (named_literals xs)
+in_order : (xs : List ℕ) → IsIncreasing xs → AreSortedLiterals (named_literals xs)
 in_order [] h = tt
 in_order (x ∷ []) h = tt
 in_order (x ∷ y ∷ ys) h = ((let a = place_of x in let b = place_of y in let lt = h.0 in omega arith), in_order (y ∷ ys) h.1)
 
 -- a core in any order is correct once its literals are sorted
 pub right_in_order : (j : ScriptState) (ask : List Literal) (core : List ℕ) → AllByRecursion (λ l. Among l ask) (named_literals core)
-    → ((a : Valuation) → EachTrue a (map (identity_lit j) (named_literals core)) → EachHolds a j.clauses → ⊥) → IsRightCore j ask (named_literals (canonical core))
+    → ((a : Valuation) → AllLitsTrue a (map (identity_lit j) (named_literals core)) → AllClausesTrue a j.clauses → ⊥) → IsRightCore j ask (named_literals (canonical core))
 right_in_order j ask core among none = record {
   order = in_order (canonical core) (canonical_increasing core);
   among = all_from (λ l. Among l ask) (named_literals (canonical core)) (λ l m. all_at (λ l. Among l ask) l (named_literals core) among (canonical_named core l m));
@@ -58,8 +58,8 @@ right_in_order j ask core among none = record {
       (all_from (λ l. literal_true a (identity_lit j l) ≡ true) (named_literals core) (λ l m. all_at (λ l. literal_true a (identity_lit j l) ≡ true) l (named_literals (canonical core)) (mapped_true a (identity_lit j) (named_literals (canonical core)) h) (named_canonical core l m)))) k;
 }
 
-pub spelt_in_order : (names : ℕ → Option ℕ) (core codes : List ℕ) → SameSet names (named_literals core) codes → SameSet names (named_literals (canonical core)) codes
+pub spelt_in_order : (names : ℕ → Option ℕ) (core codes : List ℕ) → IsSameLiteralSet names (named_literals core) codes → IsSameLiteralSet names (named_literals (canonical core)) codes
 spelt_in_order names core codes h = (
-  all_from (λ l. (code : ℕ) × Spells names l code × Among code codes) (named_literals (canonical core)) (λ l m. all_at (λ l. (code : ℕ) × Spells names l code × Among code codes) l (named_literals core) h.0 (canonical_named core l m)),
-  all_map (λ code. (l : Literal) × Spells names l code × Among l (named_literals core)) (λ code. (l : Literal) × Spells names l code × Among l (named_literals (canonical core))) codes (λ code x. (x.0, x.1, named_canonical core x.0 x.2)) h.1,
+  all_from (λ l. (code : ℕ) × IsLiteralOf names l code × Among code codes) (named_literals (canonical core)) (λ l m. all_at (λ l. (code : ℕ) × IsLiteralOf names l code × Among code codes) l (named_literals core) h.0 (canonical_named core l m)),
+  all_map (λ code. (l : Literal) × IsLiteralOf names l code × Among l (named_literals core)) (λ code. (l : Literal) × IsLiteralOf names l code × Among l (named_literals (canonical core))) codes (λ code x. (x.0, x.1, named_canonical core x.0 x.2)) h.1,
 )

@@ -9,18 +9,18 @@ use Rattle.sat_base.specs.script.ScriptState.{ScriptState, NameMode, Sampled, Wi
 use Rattle.sat_base.specs.steps.Steps.{Step, SolverVarName, UserVarName, DeleteVar, ChangeSamplingMode, AddClause, AtClause, UnitClauses, DeleteClause, ChangeHashBits, Model, Assumptions, FailedAssumptions, End}
 use Rattle.sat_checker.specs.matching.Checking.{CheckerRules, is_ordered}
 use Rattle.sat_checker.specs.matching.Expected as expecting
-use Rattle.sat_checker.specs.matching.Expected.{Outcome, Sat, Unsat, Unknown, Expected, NewName, NoName, Adds, Opens, Shows, Fails, Closes, Finish, Fits, introducing, hiding, setting}
+use Rattle.sat_checker.specs.matching.Expected.{Outcome, Sat, Unsat, Unknown, Expected, NewName, NoName, Adds, Opens, Shows, Fails, Closes, Finish, FitsExpected, steps_introducing, steps_hiding, steps_setting_mode}
 use Rattle.sat_checker.specs.matching.ProofChecking.{checker_rules}
 use Rattle.sat_checker.specs.matching.Traces.{HasTrace, no_step, silent, visible}
 use Rattle.sat_solver.specs.declared.proof.hash_bits.Counting.{Counting}
-use Rattle.sat_solver.specs.proof.Counting.{TruncatesHashes, none_made, ask_begun, one_made, counted}
+use Rattle.sat_solver.specs.proof.Counting.{TruncatesHashes, none_made, ask_begun, one_made, counting_after}
 use Rattle.sat_solver.specs.proof.Widths.{narrowed}
 use Rattle.sat_solver.specs.variables.NamingSteps.{IsLiteralsStep}
 use Rattle.sat_solver.specs.schedule.Solving as made
 use Rattle.sat_solver.specs.session.AllowedSteps.{EachIsAllowed}
-use Rattle.certify.specs.run.Advancing.{CountsEmpoweringFor, AreUnordered}
-use Rattle.certify.specs.run.Learning.{assumed_times, LearnsIn, EachLearns}
-use Rattle.certify.specs.run.Stretches.{IsNoAsk, Stretch, AskStretches, LearnsEachRound, ServesCommands, ServesFirst, due_for, made_none, made_one, made_ask, showing_if}
+use Rattle.certify.specs.run.Empowering.{CountsEmpoweringFor, AreUnordered}
+use Rattle.certify.specs.run.Learning.{assumption_count, AskLearns, EachAskLearns}
+use Rattle.certify.specs.run.Stretches.{IsNoAsk, MakesExpectedSteps, MakesAskSteps, LearnsEachRound, ServesCommands, ServesFirst, due_for_command, made_none, made_one, made_ask, showing_if}
 use Rattle.certify.proofs.lemmas.run.Between.{IsAside, index_aside, width_aside, AreAside, Head, Split, Timed, append_unordered, asides_never, asides_still, asides_unordered, asides_unsat, after_asides, cut_unsat, head_cut, split, timed}
 
 -- STEPS AFTER STEPS
@@ -30,7 +30,7 @@ Ext from to = (steps : List Step) × (to ≡ steps ++ from)
 onward : {a b c : List Step} → Ext a b → Ext b c → Ext a c
 onward {a} {b} {c} x y = (y.0 ++ x.0, y.1 ∙ ap (λ (s : List Step). y.0 ++ s) x.1 ∙ sym (append_assoc y.0 x.0 a))
 
-ext_of : {IsAllowedStep : List Step → Step → Type 0} {from to : List Step} {es : List Expected} → Stretch IsAllowedStep from to es → Ext from to
+ext_of : {IsAllowedStep : List Step → Step → Type 0} {from to : List Step} {es : List Expected} → MakesExpectedSteps IsAllowedStep from to es → Ext from to
 ext_of s = (s.comes.steps, s.comes.following)
 
 extends : {j : ScriptState} {s t : List Step} {cs : List Command} {os : List Outcome} {ns : List ℕ} → ServesCommands j s t cs os ns → Ext s t
@@ -66,7 +66,7 @@ record LastDue (k : CheckerRules) (s t : List Step) (fs : List Expected) (e : Ex
   step : Step
   following : List Step
   whole : t ≡ following ++ (step ∷ (front ++ s))
-  fits : Fits (k.knows (front ++ s)) (front ++ s) e step
+  fits : FitsExpected (k.knows (front ++ s)) (front ++ s) e step
   unordered : AreUnordered following
   alone : fs ≡ [] → AreUnordered front
 
@@ -80,7 +80,7 @@ last_due {k} (silent {s = s} {step = step} n m) fs e h =
       step = d.step;
       following = d.following;
       whole = d.whole ∙ ap (λ (v : List Step). d.following ++ (d.step ∷ v)) place;
-      fits = subst (λ (v : List Step). Fits (k.knows v) v e d.step) place d.fits;
+      fits = subst (λ (v : List Step). FitsExpected (k.knows v) v e d.step) place d.fits;
       unordered = d.unordered;
       alone = λ z. append_unordered d.front (step ∷ []) (d.alone z) (n, tt);
     }
@@ -91,7 +91,7 @@ last_due {k} (visible {s = s} {step = step} {e = x} {es = xs} f m) [] e h =
       step = step;
       following = q.0;
       whole = q.1;
-      fits = subst (λ (y : Expected). Fits (k.knows s) s y step) (first_is x e xs [] h) f;
+      fits = subst (λ (y : Expected). FitsExpected (k.knows s) s y step) (first_is x e xs [] h) f;
       unordered = q.2;
       alone = λ z. tt;
     }
@@ -103,15 +103,15 @@ last_due {k} (visible {s = s} {step = step} {e = x} {es = xs} f m) (y ∷ fs) e 
       step = d.step;
       following = d.following;
       whole = d.whole ∙ ap (λ (v : List Step). d.following ++ (d.step ∷ v)) place;
-      fits = subst (λ (v : List Step). Fits (k.knows v) v e d.step) place d.fits;
+      fits = subst (λ (v : List Step). FitsExpected (k.knows v) v e d.step) place d.fits;
       unordered = d.unordered;
       alone = λ z. absurd (not_none y fs z);
     }
 
-opening : {knows : ℕ → Bool} {earlier : List Step} {ls : List Literal} {o : Outcome} {step : Step} → Fits knows earlier (Opens ls o) step → (c : List ℕ) × (step ≡ Assumptions c)
+opening : {knows : ℕ → Bool} {earlier : List Step} {ls : List Literal} {o : Outcome} {step : Step} → FitsExpected knows earlier (Opens ls o) step → (c : List ℕ) × (step ≡ Assumptions c)
 opening (expecting.opens {c = c} h) = (c, refl)
 
-closing : {knows : ℕ → Bool} {earlier : List Step} {step : Step} → Fits knows earlier Closes step → step ≡ Assumptions []
+closing : {knows : ℕ → Bool} {earlier : List Step} {step : Step} → FitsExpected knows earlier Closes step → step ≡ Assumptions []
 closing expecting.closes = refl
 
 -- OTHER STEPS AT BOTH ENDS OF AN ASK
@@ -143,7 +143,7 @@ aside_each names [] h u = tt
 aside_each names (x ∷ xs) h u = (aside_one names h.0.0 x h.0.1 u.0, aside_each names xs h.1 u.1)
 
 -- the steps before and after the last expected step
-module _ (names : List ℕ) (from to : List Step) (es : List Expected) (st : Stretch (IsLiteralsStep names) from to es) (fs : List Expected) (e : Expected) (d : LastDue checker_rules from to fs e) where
+module _ (names : List ℕ) (from to : List Step) (es : List Expected) (st : MakesExpectedSteps (IsLiteralsStep names) from to es) (fs : List Expected) (e : Expected) (d : LastDue checker_rules from to fs e) where
   steps_are : st.comes.steps ≡ d.following ++ (d.step ∷ d.front)
   steps_are = append_cancel_right st.comes.steps (d.following ++ (d.step ∷ d.front)) from (sym st.comes.following ∙ d.whole ∙ sym (append_assoc d.following (d.step ∷ d.front) from))
 
@@ -172,11 +172,11 @@ due_times (Opens ls o ∷ es) = due_times es + 1
 due_times (Closes ∷ es) = due_times es + 1
 due_times (e ∷ es) = due_times es
 
-unordered_times : (step : Step) (earlier : List Step) → is_ordered step ≡ false → assumed_times (step ∷ earlier) ≡ assumed_times earlier
+unordered_times : (step : Step) (earlier : List Step) → is_ordered step ≡ false → assumption_count (step ∷ earlier) ≡ assumption_count earlier
 unordered_times (Assumptions ls) s e = absurd (let d : true ≡ false = e in cc)
 unordered_times step s e = refl
 
-fits_times : {knows : ℕ → Bool} {earlier : List Step} {e : Expected} {step : Step} (es : List Expected) → Fits knows earlier e step → assumed_times (step ∷ earlier) + due_times es ≡ assumed_times earlier + due_times (e ∷ es)
+fits_times : {knows : ℕ → Bool} {earlier : List Step} {e : Expected} {step : Step} (es : List Expected) → FitsExpected knows earlier e step → assumption_count (step ∷ earlier) + due_times es ≡ assumption_count earlier + due_times (e ∷ es)
 fits_times es (expecting.new_name i k) = refl
 fits_times es (expecting.no_name v) = refl
 fits_times es (expecting.adds c) = refl
@@ -186,7 +186,7 @@ fits_times es (expecting.fails c) = refl
 fits_times es expecting.closes = omega arith
 fits_times es expecting.finish = refl
 
-makes_times : {k : CheckerRules} {s t : List Step} {es : List Expected} → HasTrace k s t es → assumed_times t ≡ assumed_times s + due_times es
+makes_times : {k : CheckerRules} {s t : List Step} {es : List Expected} → HasTrace k s t es → assumption_count t ≡ assumption_count s + due_times es
 makes_times no_step = omega arith
 makes_times (silent {s = s} {step = step} {es = es} n m) = makes_times m ∙ ap (λ (k : ℕ). k + due_times es) (unordered_times step s n)
 makes_times (visible {es = es} f m) = makes_times m ∙ fits_times es f
@@ -210,24 +210,24 @@ new_times : (names : List ℕ) → due_times (map NewName names) ≡ 0
 new_times [] = refl
 new_times (name ∷ names) = new_times names
 
-bringing_times : (names : List ℕ) (j : ScriptState) → due_times (introducing names j) ≡ 0
+bringing_times : (names : List ℕ) (j : ScriptState) → due_times (steps_introducing names j) ≡ 0
 bringing_times [] j = refl
-bringing_times (name ∷ names) j = after_none (map NewName (new_names name j)) (introducing names (introduce name j)) (new_times (new_names name j)) ∙ bringing_times names (introduce name j)
+bringing_times (name ∷ names) j = after_none (map NewName (new_names name j)) (steps_introducing names (introduce name j)) (new_times (new_names name j)) ∙ bringing_times names (introduce name j)
 
-hiding_times : (names : List ℕ) (j : ScriptState) → due_times (hiding names j) ≡ 0
+hiding_times : (names : List ℕ) (j : ScriptState) → due_times (steps_hiding names j) ≡ 0
 hiding_times [] j = refl
 hiding_times (name ∷ names) j =
-    after_none (map NewName (new_names name j)) (NoName name ∷ hiding names (without_name name (introduce name j))) (new_times (new_names name j)) ∙ hiding_times names (without_name name (introduce name j))
+    after_none (map NewName (new_names name j)) (NoName name ∷ steps_hiding names (without_name name (introduce name j))) (new_times (new_names name j)) ∙ hiding_times names (without_name name (introduce name j))
 
-setting_times : (mode : NameMode) (names : List ℕ) (j : ScriptState) → due_times (setting mode names j) ≡ 0
+setting_times : (mode : NameMode) (names : List ℕ) (j : ScriptState) → due_times (steps_setting_mode mode names j) ≡ 0
 setting_times mode [] j = refl
 setting_times mode (name ∷ names) j =
-    after_none (map NewName (new_names name j)) (setting mode names (with_mode mode name (introduce name j))) (new_times (new_names name j)) ∙ setting_times mode names (with_mode mode name (introduce name j))
+    after_none (map NewName (new_names name j)) (steps_setting_mode mode names (with_mode mode name (introduce name j))) (new_times (new_names name j)) ∙ setting_times mode names (with_mode mode name (introduce name j))
 
 -- a command that is no ask sets no assumptions
-due_none : (unsat : Bool) (c : Command) (j : ScriptState) → IsNoAsk c → due_times (due_for unsat c j) ≡ 0
-due_none true (Clause ls) j h = after_none (introducing (names_of ls) j) [] (bringing_times (names_of ls) j)
-due_none false (Clause ls) j h = after_none (introducing (names_of ls) j) (Adds ls ∷ []) (bringing_times (names_of ls) j)
+due_none : (unsat : Bool) (c : Command) (j : ScriptState) → IsNoAsk c → due_times (due_for_command unsat c j) ≡ 0
+due_none true (Clause ls) j h = after_none (steps_introducing (names_of ls) j) [] (bringing_times (names_of ls) j)
+due_none false (Clause ls) j h = after_none (steps_introducing (names_of ls) j) (Adds ls ∷ []) (bringing_times (names_of ls) j)
 due_none unsat (Ask ls) j h = absurd h
 due_none unsat (Hide names) j h = hiding_times names j
 due_none unsat (Witness names) j h = setting_times Witnessed names j
@@ -240,24 +240,24 @@ shown_none false j ls (Unsat core) = refl
 shown_none false j ls Unknown = refl
 
 -- changes of the width set no assumptions
-change_times : (same : Bool) (now : ℕ) (w : List Step) → assumed_times ((if same then [] else ChangeHashBits now ∷ []) ++ w) ≡ assumed_times w
+change_times : (same : Bool) (now : ℕ) (w : List Step) → assumption_count ((if same then [] else ChangeHashBits now ∷ []) ++ w) ≡ assumption_count w
 change_times true now w = refl
 change_times false now w = refl
 
-narrowed_times : (bits : ℕ) (step : Step) (made written : List Step) → assumed_times written ≡ assumed_times made → assumed_times (narrowed bits step ∷ written) ≡ assumed_times (step ∷ made)
+narrowed_times : (bits : ℕ) (step : Step) (made written : List Step) → assumption_count written ≡ assumption_count made → assumption_count (narrowed bits step ∷ written) ≡ assumption_count (step ∷ made)
 narrowed_times bits (Assumptions ls) m w e = ap (λ (k : ℕ). k + 1) e
 narrowed_times bits step m w e = e
 
 -- the written steps set assumptions as often as the steps that were made
-cut_times : {c d : Counting} {m w : List Step} → TruncatesHashes c m w d → assumed_times w ≡ assumed_times m
+cut_times : {c d : Counting} {m w : List Step} → TruncatesHashes c m w d → assumption_count w ≡ assumption_count m
 cut_times none_made = refl
 cut_times (ask_begun p) = cut_times p
 cut_times (one_made {d = d} {made = m} {written = w} step k p) =
-    let now = (counted step d).bits in
+    let now = (counting_after step d).bits in
     narrowed_times now step m ((if nat_eq d.bits now then [] else ChangeHashBits now ∷ []) ++ w) (change_times (nat_eq d.bits now) now w ∙ cut_times p)
 
 -- the assumptions of two lists of steps add up
-both_assumed : (xs ys : List Step) → assumed_times (xs ++ ys) ≡ assumed_times xs + assumed_times ys
+both_assumed : (xs ys : List Step) → assumption_count (xs ++ ys) ≡ assumption_count xs + assumption_count ys
 both_assumed [] ys = omega arith
 both_assumed (SolverVarName v name ∷ xs) ys = both_assumed xs ys
 both_assumed (UserVarName v name ∷ xs) ys = both_assumed xs ys
@@ -273,11 +273,11 @@ both_assumed (Assumptions ls ∷ xs) ys = let h = both_assumed xs ys in omega (a
 both_assumed (FailedAssumptions core hs ∷ xs) ys = both_assumed xs ys
 both_assumed (End ∷ xs) ys = both_assumed xs ys
 
-aside_times : {step : Step} (earlier : List Step) → IsAside step → assumed_times (step ∷ earlier) ≡ assumed_times earlier
+aside_times : {step : Step} (earlier : List Step) → IsAside step → assumption_count (step ∷ earlier) ≡ assumption_count earlier
 aside_times earlier index_aside = refl
 aside_times earlier width_aside = refl
 
-asides_times : (xs earlier : List Step) → AreAside xs → assumed_times (xs ++ earlier) ≡ assumed_times earlier
+asides_times : (xs earlier : List Step) → AreAside xs → assumption_count (xs ++ earlier) ≡ assumption_count earlier
 asides_times [] earlier h = refl
 asides_times (x ∷ xs) earlier h = aside_times (xs ++ earlier) h.0 ∙ asides_times xs earlier h.1
 
@@ -290,16 +290,16 @@ record MadeAsk (from to : List Step) (o : Outcome) (rounds : ℕ) : Type 0 where
   middle : List Step
   following : List Step
   whole : to ≡ following ++ (Assumptions [] ∷ (middle ++ (Assumptions ask ∷ before)))
-  opened_at : assumed_times before ≡ assumed_times from
-  closed_at : assumed_times to ≡ assumed_times (middle ++ (Assumptions ask ∷ before)) + 1
+  opened_at : assumption_count before ≡ assumption_count from
+  closed_at : assumption_count to ≡ assumption_count (middle ++ (Assumptions ask ∷ before)) + 1
   learned : ℕ
   times : made.CountsEmpowering (Assumptions ask ∷ before) middle learned
   counts : LearnsEachRound (checker_rules.unsat (Assumptions ask ∷ before)) o rounds learned
   unordered : o ≡ Unknown → AreUnordered middle
 
-module _ (j : ScriptState) (ls : List Literal) (o : Outcome) (n : ℕ) (from to : List Step) (a : AskStretches j ls o n from to) where
-  first : LastDue checker_rules from a.opened (introducing (names_of ls) j) (Opens ls o)
-  first = last_due a.opens.due (introducing (names_of ls) j) (Opens ls o) refl
+module _ (j : ScriptState) (ls : List Literal) (o : Outcome) (n : ℕ) (from to : List Step) (a : MakesAskSteps j ls o n from to) where
+  first : LastDue checker_rules from a.opened (steps_introducing (names_of ls) j) (Opens ls o)
+  first = last_due a.opens.due (steps_introducing (names_of ls) j) (Opens ls o) refl
 
   last : LastDue checker_rules a.shown to [] Closes
   last = last_due a.closes.due [] Closes refl
@@ -314,7 +314,7 @@ module _ (j : ScriptState) (ls : List Literal) (o : Outcome) (n : ℕ) (from to 
   opened_is = first.whole ∙ ap (λ (s : Step). first.following ++ (s ∷ (first.front ++ from))) (opening first.fits).1
 
   first_aside : AreAside first.following
-  first_aside = after_aside (names_of ls) from a.opened (introducing (names_of ls) j ++ (Opens ls o ∷ [])) a.opens (introducing (names_of ls) j) (Opens ls o) first
+  first_aside = after_aside (names_of ls) from a.opened (steps_introducing (names_of ls) j ++ (Opens ls o ∷ [])) a.opens (steps_introducing (names_of ls) j) (Opens ls o) first
 
   last_following : AreAside last.following
   last_following = after_aside [] a.shown to (Closes ∷ []) a.closes [] Closes last
@@ -333,15 +333,15 @@ module _ (j : ScriptState) (ls : List Literal) (o : Outcome) (n : ℕ) (from to 
   to_is : to ≡ last.following ++ (Assumptions [] ∷ ((last.front ++ (found ++ first.following)) ++ start))
   to_is = last.whole ∙ ap (λ (s : Step). last.following ++ (s ∷ (last.front ++ a.shown))) (closing last.fits) ∙ ap (λ (v : List Step). last.following ++ (Assumptions [] ∷ v)) shown_is
 
-  opened_times : assumed_times (first.front ++ from) ≡ assumed_times from
+  opened_times : assumption_count (first.front ++ from) ≡ assumption_count from
   opened_times =
-      let h : assumed_times a.opened ≡ assumed_times from + 1 = makes_times a.opens.due ∙ ap (λ (k : ℕ). assumed_times from + k) (after_none (introducing (names_of ls) j) (Opens ls o ∷ []) (bringing_times (names_of ls) j)) in
-      let e = ap assumed_times opened_is in
-      let f : assumed_times (first.following ++ start) ≡ assumed_times (first.front ++ from) + 1 = asides_times first.following start first_aside in
+      let h : assumption_count a.opened ≡ assumption_count from + 1 = makes_times a.opens.due ∙ ap (λ (k : ℕ). assumption_count from + k) (after_none (steps_introducing (names_of ls) j) (Opens ls o ∷ []) (bringing_times (names_of ls) j)) in
+      let e = ap assumption_count opened_is in
+      let f : assumption_count (first.following ++ start) ≡ assumption_count (first.front ++ from) + 1 = asides_times first.following start first_aside in
       omega (arith, h, e, f)
 
-  closed_times : assumed_times to ≡ assumed_times ((last.front ++ (found ++ first.following)) ++ start) + 1
-  closed_times = ap assumed_times to_is ∙ asides_times last.following (Assumptions [] ∷ ((last.front ++ (found ++ first.following)) ++ start)) last_following
+  closed_times : assumption_count to ≡ assumption_count ((last.front ++ (found ++ first.following)) ++ start) + 1
+  closed_times = ap assumption_count to_is ∙ asides_times last.following (Assumptions [] ∷ ((last.front ++ (found ++ first.following)) ++ start)) last_following
 
   found_unordered : o ≡ Unknown → AreUnordered found
   found_unordered e =
@@ -367,17 +367,17 @@ module _ (j : ScriptState) (ls : List Literal) (o : Outcome) (n : ℕ) (from to 
         (append_unordered found first.following (found_unordered e) (asides_unordered first.following first_aside));
   }
 
-  ask_closed : assumed_times to ≡ assumed_times from + 2
+  ask_closed : assumption_count to ≡ assumption_count from + 2
   ask_closed =
-      let opened : assumed_times a.opened ≡ assumed_times from + 1 = makes_times a.opens.due ∙ ap (λ (k : ℕ). assumed_times from + k) (after_none (introducing (names_of ls) j) (Opens ls o ∷ []) (bringing_times (names_of ls) j)) in
+      let opened : assumption_count a.opened ≡ assumption_count from + 1 = makes_times a.opens.due ∙ ap (λ (k : ℕ). assumption_count from + k) (after_none (steps_introducing (names_of ls) j) (Opens ls o ∷ []) (bringing_times (names_of ls) j)) in
       let shown = makes_times a.searches.due in
       let none = shown_none (checker_rules.unsat a.shown) (state_after_accepted (Ask ls) j) ls o in
-      let closed : assumed_times to ≡ assumed_times a.shown + 1 = makes_times a.closes.due in
+      let closed : assumption_count to ≡ assumption_count a.shown + 1 = makes_times a.closes.due in
       omega (arith, opened, shown, none, closed)
 
 -- the steps of an ask, as they were written
 module _ {c d : Counting} {whole steps : List Step} (p : TruncatesHashes c whole steps d) (asks n : ℕ) (o : Outcome) (from to : List Step) (m : MadeAsk from to o n)
-    (ext : Ext to whole) (at : assumed_times from ≡ 2 * asks) (shut : assumed_times to ≡ assumed_times from + 2) where
+    (ext : Ext to whole) (at : assumption_count from ≡ 2 * asks) (shut : assumption_count to ≡ assumption_count from + 2) where
   abbrev opened : List Step
   opened = Assumptions m.ask ∷ m.before
 
@@ -411,21 +411,21 @@ module _ {c d : Counting} {whole steps : List Step} (p : TruncatesHashes c whole
       ap (λ (v : List Step). closed_head.widths ++ v) (between.whole ∙ ap (λ (v : List Step). between.middle ++ v) opened_head.whole) ∙ sym (append_assoc closed_head.widths between.middle (Assumptions m.ask ∷ before_is)) in
       cut.whole ∙ ap (λ (v : List Step). cut.front ++ v) (closed_head.whole ∙ ap (λ (v : List Step). Assumptions [] ∷ v) inner)
 
-  opened_same : assumed_times between.before ≡ assumed_times from + 1
-  opened_same = let e : assumed_times between.before ≡ assumed_times m.before + 1 = cut_times between.cuts in let f = m.opened_at in omega (arith, e, f)
+  opened_same : assumption_count between.before ≡ assumption_count from + 1
+  opened_same = let e : assumption_count between.before ≡ assumption_count m.before + 1 = cut_times between.cuts in let f = m.opened_at in omega (arith, e, f)
 
-  place_is : assumed_times before_is ≡ 2 * asks
-  place_is = let e : assumed_times between.before ≡ assumed_times before_is + 1 = ap assumed_times opened_head.whole in let f = opened_same in omega (arith, e, f, at)
+  place_is : assumption_count before_is ≡ 2 * asks
+  place_is = let e : assumption_count between.before ≡ assumption_count before_is + 1 = ap assumption_count opened_head.whole in let f = opened_same in omega (arith, e, f, at)
 
-  only_is : assumed_times middle_is ≡ 0
+  only_is : assumption_count middle_is ≡ 0
   only_is =
       let all = cut_times closed_head.cuts in
-      let parts = ap assumed_times between.whole ∙ both_assumed between.middle between.before in
+      let parts = ap assumption_count between.whole ∙ both_assumed between.middle between.before in
       let head_times = asides_times closed_head.widths between.middle closed_head.aside in
       let f = opened_same in let closed = m.closed_at in
       omega (arith, all, parts, head_times, f, closed, shut)
 
-  learns_in : LearnsIn steps asks o n
+  learns_in : AskLearns steps asks o n
   learns_in = record {
     before = before_is;
     ask = m.ask;
@@ -442,7 +442,7 @@ module _ {c d : Counting} {whole steps : List Step} (p : TruncatesHashes c whole
   }
 
 each_learns : (c d : Counting) {j : ScriptState} {s t : List Step} {cs : List Command} {os : List Outcome} {ns : List ℕ} (asks : ℕ) (whole steps : List Step)
-    → ServesCommands j s t cs os ns → assumed_times s ≡ 2 * asks → Ext t whole → TruncatesHashes c whole steps d → EachLearns steps asks os ns
+    → ServesCommands j s t cs os ns → assumption_count s ≡ 2 * asks → Ext t whole → TruncatesHashes c whole steps d → EachAskLearns steps asks os ns
 each_learns c d asks whole steps made_none before ext p = tt
 each_learns c d {j = j} {s = s} asks whole steps (made_one {c = command} mid i st rest) before ext p =
     let here = makes_times st.due in
@@ -454,12 +454,12 @@ each_learns c d {j = j} {s = s} asks whole steps (made_ask {ls = ls} {o = o} {n 
       each_learns c d (asks + 1) whole steps rest (omega (arith, closed, before)) ext p,
     )
 
--- `EachLearns` holds for the asks of a run
+-- `EachAskLearns` holds for the asks of a run
 pub asks_learn : {j : ScriptState} {made steps : List Step} {commands : List Command} {outcomes : List Outcome} {counts : List ℕ} (c d : Counting)
-    → ServesCommands j [] made commands outcomes counts → TruncatesHashes c (End ∷ made) steps d → EachLearns steps 0 outcomes counts
+    → ServesCommands j [] made commands outcomes counts → TruncatesHashes c (End ∷ made) steps d → EachAskLearns steps 0 outcomes counts
 asks_learn {made = made} {steps = steps} c d m p = each_learns c d 0 (End ∷ made) steps m refl (End ∷ [], refl) p
 
--- `EachLearns` holds for the asks that were served, whatever steps were made after them
+-- `EachAskLearns` holds for the asks that were served, whatever steps were made after them
 pub first_learn : {j : ScriptState} {made steps : List Step} {commands : List Command} {outcomes : List Outcome} {counts : List ℕ} (c d : Counting)
-    → ServesFirst j commands [] made outcomes counts → TruncatesHashes c made steps d → EachLearns steps 0 outcomes counts
+    → ServesFirst j commands [] made outcomes counts → TruncatesHashes c made steps d → EachAskLearns steps 0 outcomes counts
 first_learn {made = made} {steps = steps} c d f p = each_learns c d 0 made steps f.serves refl (f.later, f.steps) p

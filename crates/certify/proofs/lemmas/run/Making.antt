@@ -8,11 +8,11 @@ use Rattle.sat_base.specs.steps.Steps.{Step}
 use Rattle.sat_checker.specs.Accepts.{effect, ready_after}
 use Rattle.sat_checker.proofs.lemmas.invariants.Stored.{unsat_stays}
 use Rattle.sat_checker.specs.matching.Checking.{is_ordered}
-use Rattle.sat_checker.specs.matching.Expected.{Outcome, Unsat, Expected, NewName, NoName, Adds, Opens, Closes, introducing, hiding, setting}
+use Rattle.sat_checker.specs.matching.Expected.{Outcome, Unsat, Expected, NewName, NoName, Adds, Opens, Closes, steps_introducing, steps_hiding, steps_setting_mode}
 use Rattle.sat_checker.specs.matching.ProofChecking.{checker_rules}
-use Rattle.certify.specs.run.Certifies.{Certifies, IsKnown, IsRecorded, MayOccur, MayBeLeftOut, left_out, other, ordered, asked, answered}
+use Rattle.certify.specs.run.Certifies.{Certifies, IsKnownUnsat, HasRecordedUnsat, CanHaveStep, CanBeOmittedOnceUnsat, left_out, other, ordered, asked, answered}
 use Rattle.sat_checker.specs.matching.Traces.{HasTrace, no_step, silent, visible}
-use Rattle.certify.specs.run.Stretches.{due_for}
+use Rattle.certify.specs.run.Stretches.{due_for_command}
 use Rattle.certify.proofs.lemmas.confirm.Settled.{settled_unsat}
 
 -- `Leads from to es` holds if whenever further steps are certified after `to`, `es` and the further steps are certified
@@ -23,7 +23,7 @@ Leads from to es = (all : List Step) (current : Option Outcome) (e : Expected) (
 
 -- `IsFree e` holds if the expected step may be written whether or not unsat is recorded.
 abbrev pub IsFree : Expected → Type 0
-IsFree e = (unsat : Bool) → MayOccur unsat e
+IsFree e = (unsat : Bool) → CanHaveStep unsat e
 
 -- an unordered step may come before any expected step
 other_before : (es : List Expected) {all : List Step} {current : Option Outcome} {earlier : List Step} {step : Step} (e : Expected) (fs : List Expected) {counts : List ℕ}
@@ -49,7 +49,7 @@ leads_both {s} {t} {u} es gs f g = λ all current e fs counts c.
         at (x ∷ xs) c = f all current x (xs ++ (e ∷ fs)) counts c
 
 -- an expected step that may be left out
-pub leads_lacking : (s : List Step) (e : Expected) → MayBeLeftOut e → IsRecorded checker_rules s → Leads s s (e ∷ [])
+pub leads_lacking : (s : List Step) (e : Expected) → CanBeOmittedOnceUnsat e → HasRecordedUnsat checker_rules s → Leads s s (e ∷ [])
 leads_lacking s x h r = λ all current e fs counts c. left_out h r c
 
 -- once recorded, unsat stays recorded
@@ -70,7 +70,7 @@ going_by {s} {t} m g = at (checker_rules.unsat s) refl
     at true e = absurd (both_ways (checker_rules.unsat t) g (unsat_made m e))
 
 -- an ask is opened
-pub opens_ask : {s t : List Step} {ls : List Literal} {o : Outcome} (n : ℕ) → HasTrace checker_rules s t (Opens ls o ∷ []) → (checker_rules.unsat t ≡ true → IsKnown o n)
+pub opens_ask : {s t : List Step} {ls : List Literal} {o : Outcome} (n : ℕ) → HasTrace checker_rules s t (Opens ls o ∷ []) → (checker_rules.unsat t ≡ true → IsKnownUnsat o n)
     → (all : List Step) (e : Expected) (fs : List Expected) (counts : List ℕ) → Certifies checker_rules all (Some o) t (e ∷ fs) counts → Certifies checker_rules all None s (Opens ls o ∷ e ∷ fs) (n ∷ counts)
 opens_ask n (silent q m) known all e fs counts c = other q (opens_ask n m known all e fs counts c)
 opens_ask n (visible {s = s} {step = step} f m) known all e fs counts c =
@@ -85,14 +85,14 @@ closes_ask (visible {s = s} {step = step} f m) known all e fs counts c =
 
 -- `IsGoing e` holds if the expected step may be written if unsat is not recorded.
 abbrev pub IsGoing : Expected → Type 0
-IsGoing e = MayOccur false e
+IsGoing e = CanHaveStep false e
 
 -- the expected steps of a call that does not record unsat
 pub leads_going : {s t : List Step} {es : List Expected} → HasTrace checker_rules s t es → checker_rules.unsat t ≡ false → AllByRecursion IsGoing es → Leads s t es
 leads_going no_step g h = λ all current e fs counts c. c
 leads_going (silent {es = es} q m) g h = λ all current e fs counts c. other_before es e fs q (leads_going m g h all current e fs counts c)
 leads_going {t = t} (visible {s = s} {step = step} {e = x} f m) g h = λ all current e fs counts c.
-    ordered (subst (λ b. MayOccur b x) (sym (going_by (visible f m) g)) h.0) f (leads_going m g h.1 all current e fs counts c)
+    ordered (subst (λ b. CanHaveStep b x) (sym (going_by (visible f m) g)) h.0) f (leads_going m g h.1 all current e fs counts c)
 
 -- the steps that introduce and remove names may be written whether or not unsat is recorded
 free_both : (es fs : List Expected) → AllByRecursion IsFree es → AllByRecursion IsFree fs → AllByRecursion IsFree (es ++ fs)
@@ -104,26 +104,26 @@ names_free [] = tt
 names_free (n ∷ ns) = ((λ b. tt), names_free ns)
 
 -- the steps that introduce names may always be written
-pub bringing_free : (names : List ℕ) (j : ScriptState) → AllByRecursion IsFree (introducing names j)
+pub bringing_free : (names : List ℕ) (j : ScriptState) → AllByRecursion IsFree (steps_introducing names j)
 bringing_free [] j = tt
-bringing_free (name ∷ names) j = free_both (map NewName (new_names name j)) (introducing names (introduce name j)) (names_free (new_names name j)) (bringing_free names (introduce name j))
+bringing_free (name ∷ names) j = free_both (map NewName (new_names name j)) (steps_introducing names (introduce name j)) (names_free (new_names name j)) (bringing_free names (introduce name j))
 
-hiding_free : (names : List ℕ) (j : ScriptState) → AllByRecursion IsFree (hiding names j)
+hiding_free : (names : List ℕ) (j : ScriptState) → AllByRecursion IsFree (steps_hiding names j)
 hiding_free [] j = tt
 hiding_free (name ∷ names) j =
     let next = without_name name (introduce name j) in
-    free_both (map NewName (new_names name j)) (NoName name ∷ hiding names next) (names_free (new_names name j)) ((λ b. tt), hiding_free names next)
+    free_both (map NewName (new_names name j)) (NoName name ∷ steps_hiding names next) (names_free (new_names name j)) ((λ b. tt), hiding_free names next)
 
-setting_free : (mode : NameMode) (names : List ℕ) (j : ScriptState) → AllByRecursion IsFree (setting mode names j)
+setting_free : (mode : NameMode) (names : List ℕ) (j : ScriptState) → AllByRecursion IsFree (steps_setting_mode mode names j)
 setting_free mode [] j = tt
 setting_free mode (name ∷ names) j =
     let next = with_mode mode name (introduce name j) in
-    free_both (map NewName (new_names name j)) (setting mode names next) (names_free (new_names name j)) (setting_free mode names next)
+    free_both (map NewName (new_names name j)) (steps_setting_mode mode names next) (names_free (new_names name j)) (setting_free mode names next)
 
 -- the steps due for any command may be written whether or not unsat is recorded
-pub due_free : (unsat : Bool) (c : Command) (j : ScriptState) → AllByRecursion IsFree (due_for unsat c j)
-due_free true (Clause ls) j = free_both (introducing (names_of ls) j) [] (bringing_free (names_of ls) j) tt
-due_free false (Clause ls) j = free_both (introducing (names_of ls) j) (Adds ls ∷ []) (bringing_free (names_of ls) j) ((λ b. tt), tt)
+pub due_free : (unsat : Bool) (c : Command) (j : ScriptState) → AllByRecursion IsFree (due_for_command unsat c j)
+due_free true (Clause ls) j = free_both (steps_introducing (names_of ls) j) [] (bringing_free (names_of ls) j) tt
+due_free false (Clause ls) j = free_both (steps_introducing (names_of ls) j) (Adds ls ∷ []) (bringing_free (names_of ls) j) ((λ b. tt), tt)
 due_free unsat (Ask ls) j = tt
 due_free unsat (Hide names) j = hiding_free names j
 due_free unsat (Witness names) j = setting_free Witnessed names j

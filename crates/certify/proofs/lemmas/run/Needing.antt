@@ -5,7 +5,7 @@ use Rattle.std.proofs.lemmas.List.{length-map}
 use Rattle.std.proofs.lemmas.Bool.{eq-eqb, ne_eqb, cases_eq, cases_lt, ltb-true, ltb-false}
 use Rattle.sat_base.specs.values.Literals.{var_limit, variable}
 use Rattle.sat_base.specs.script.Script.{Command, Clause, Ask, Hide, Witness, Sample, names_of}
-use Rattle.sat_base.specs.script.ScriptState.{ScriptState, NameMode, Sampled, Witnessed, state_after_accepted, after_command, after_script, introduce_all, introduce, hide_all, identity_of, names_from, new_names, refusal_of, set_all, with_mode, with_name, with_names, without_name}
+use Rattle.sat_base.specs.script.ScriptState.{ScriptState, NameMode, Sampled, Witnessed, state_after_accepted, after_command, after_script, introduce_all, introduce, hide_all, identity_of, names_from, new_names, refusal_of, set_mode_all, with_mode, with_name, with_names, without_name}
 use Rattle.sat_base.proofs.lemmas.script.LiteralValues.{placed_found}
 use Rattle.sat_base.specs.steps.Steps.{Step}
 use Rattle.sat_checker.specs.LiteralSets.{is_among}
@@ -23,13 +23,13 @@ use Rattle.sat_solver.specs.facade.States.{IsInState}
 use Rattle.sat_solver.proofs.lemmas.variables.Counts.{count_le, count_longer, count_more, count_part, count_same, count_suc, count_zero}
 use Rattle.sat_solver.proofs.lemmas.variables.RoomLemmas.{is_live, reach_low}
 use Rattle.certify.specs.answers.AnswerForms.{named_literals}
-use Rattle.certify.specs.declared.judge.NameState.{NameState}
-use Rattle.certify.specs.declared.judge.NameState.TheVariants as state
+use Rattle.certify.specs.declared.refusals.NameState.{NameState}
+use Rattle.certify.specs.declared.refusals.NameState.TheVariants as state
 use Rattle.certify.specs.declared.summary.AskReport.{AskReport}
-use Rattle.certify.specs.run.Lacking.{CommandLacks, LacksVariables, introduced_for}
-use Rattle.certify.specs.run.SolverCalls.{AssumptionsAccepted, LacksFor, RefusedForRoom, Searched}
-use Rattle.certify.specs.run.Obeying.{Obeyed, command_to}
-use Rattle.certify.specs.run.Quiet.{Solver}
+use Rattle.certify.specs.run.LackingVariables.{CommandLacksVariables, LacksVariables, introduced_for}
+use Rattle.certify.specs.run.SolverCalls.{AssumptionsAccepted, LacksVariablesFor, RefusedForRoom, Searched}
+use Rattle.certify.specs.run.NonAskCommands.{NonAskCarriedOut, command_for_state}
+use Rattle.certify.specs.run.RunSolver.{Solver}
 use Rattle.certify.proofs.lemmas.run.NamesIn.{names_same}
 use Rattle.certify.proofs.lemmas.run.Obeys.{accepted_both}
 use Rattle.certify.proofs.lemmas.run.RunStateCalls.{agree_still}
@@ -155,7 +155,7 @@ hidden_grow : (names : List ℕ) (j : ScriptState) → j.identity_count ≤ (hid
 hidden_grow [] j = omega arith
 hidden_grow (n ∷ ns) j = let r = hidden_grow ns (without_name n (introduce n j)) in let q = grows (new_names n j) j in omega arith
 
-set_grow : (mode : NameMode) (names : List ℕ) (j : ScriptState) → j.identity_count ≤ (set_all mode names j).identity_count
+set_grow : (mode : NameMode) (names : List ℕ) (j : ScriptState) → j.identity_count ≤ (set_mode_all mode names j).identity_count
 set_grow mode [] j = omega arith
 set_grow mode (n ∷ ns) j = let r = set_grow mode ns (with_mode mode n (introduce n j)) in let q = grows (new_names n j) j in omega arith
 
@@ -291,40 +291,40 @@ module _ (s t : Solver) where
       → (var_limit < (introduce_all (names_of (named_literals ls)) j).identity_count) × LacksVariables t.steps (introduced_for (names_of (named_literals ls)) j)
   literals_need ls h j live agree = subst (λ names. (var_limit < (introduce_all names j).identity_count) × LacksVariables t.steps (introduced_for names j)) (names_of_users ls) (both_need (user_vars_in ls) h j live agree)
 
-  pub clause_needs : (ls : List ℕ) → RefusedForRoom s t (user_vars_in ls) → LacksFor s t (Clause (named_literals ls))
+  pub clause_needs : (ls : List ℕ) → RefusedForRoom s t (user_vars_in ls) → LacksVariablesFor s t (Clause (named_literals ls))
   clause_needs ls h j live agree = literals_need ls h j live agree
 
-  pub ask_needs : (ls : List ℕ) → RefusedForRoom s t (user_vars_in ls) → LacksFor s t (Ask (named_literals ls))
+  pub ask_needs : (ls : List ℕ) → RefusedForRoom s t (user_vars_in ls) → LacksVariablesFor s t (Ask (named_literals ls))
   ask_needs ls h j live agree = literals_need ls h j live agree
 
 -- a command about one name creates the identities that introducing the name creates
-one_needs : (st : NameState) (name : ℕ) (j : ScriptState) → var_limit < (introduce_all (name ∷ []) j).identity_count → var_limit < (state_after_accepted (command_to st (name ∷ [])) j).identity_count
+one_needs : (st : NameState) (name : ℕ) (j : ScriptState) → var_limit < (introduce_all (name ∷ []) j).identity_count → var_limit < (state_after_accepted (command_for_state st (name ∷ [])) j).identity_count
 one_needs state.Hidden name j h = h
 one_needs state.Sampled name j h = h
 one_needs state.Witnessed name j h = h
 
 next_lacks : (st : NameState) (names : List ℕ) (j : ScriptState) (steps : List Step) (first : List ℕ) (name : ℕ) (following : List ℕ) → names ≡ first ++ (name ∷ following)
-    → LacksVariables steps (introduced_for (name ∷ []) (state_after_accepted (command_to st first) j)) → CommandLacks j (command_to st names) steps
+    → LacksVariables steps (introduced_for (name ∷ []) (state_after_accepted (command_for_state st first) j)) → CommandLacksVariables j (command_for_state st names) steps
 next_lacks state.Hidden names j steps first name following e h = record { first = first; name = name; following = following; whole = e; lacks = h }
 next_lacks state.Sampled names j steps first name following e h = record { first = first; name = name; following = following; whole = e; lacks = h }
 next_lacks state.Witnessed names j steps first name following e h = record { first = first; name = name; following = following; whole = e; lacks = h }
 
 -- a command lacks variables if one of its names does, after the names before it
-pub names_need_more : (st : NameState) (xs zs : List ℕ) (user : ℕ) (a b c : Solver) → Obeyed (command_to st xs) a b → RefusedForRoom b c (user ∷ [])
-    → LacksFor a c (command_to st (xs ++ ((user + 1) ∷ zs)))
+pub names_need_more : (st : NameState) (xs zs : List ℕ) (user : ℕ) (a b c : Solver) → NonAskCarriedOut (command_for_state st xs) a b → RefusedForRoom b c (user ∷ [])
+    → LacksVariablesFor a c (command_for_state st (xs ++ ((user + 1) ∷ zs)))
 names_need_more st xs zs user a b c done refused j live agree =
     let k = done.keeps j live agree in
-    let mid = state_after_accepted (command_to st xs) j in
+    let mid = state_after_accepted (command_for_state st xs) j in
     let both = both_need b c (user ∷ []) refused mid k.0 k.1 in
     let h = one_needs st (user + 1) mid both.0 in
-    let g = command_grows (command_to st zs) (state_after_accepted (command_to st ((user + 1) ∷ [])) mid) in (
+    let g = command_grows (command_for_state st zs) (state_after_accepted (command_for_state st ((user + 1) ∷ [])) mid) in (
       subst (λ i. var_limit < i.identity_count) (sym (accepted_both st xs ((user + 1) ∷ zs) j ∙ accepted_both st ((user + 1) ∷ []) zs mid)) (omega arith),
       next_lacks st (xs ++ ((user + 1) ∷ zs)) j c.steps xs (user + 1) zs refl both.1,
     )
 
 -- if variables are missing when the assumptions of an ask are removed, the ask lacks variables
 pub none_needs : (a b c d : Solver) (user : List ℕ) (budget : ℕ) (report : AskReport) → AssumptionsAccepted a b user → Searched budget report b c → RefusedForRoom c d []
-    → LacksFor a d (Ask (named_literals user))
+    → LacksVariablesFor a d (Ask (named_literals user))
 none_needs a b c d user budget report opened s refused j live agree =
     let n = agree_still a b c user budget report opened s j live agree in
     let both = both_need c d [] refused (introduce_all (names_in user) j) n.0 n.1 in

@@ -9,13 +9,13 @@ use Rattle.sat_solver.specs.facade.Calls.{MakesSteps}
 use Rattle.sat_solver.proofs.lemmas.facade.Steps.{makes_none}
 use Rattle.certify.specs.declared.run.session.RunState.{RunState}
 use Rattle.certify.specs.answers.Answers.{refused_line}
-use Rattle.certify.specs.judge.Names.{NamesHaveState}
+use Rattle.certify.specs.refusals.Names.{NamesHaveState}
 use Rattle.certify.specs.run.SolverCalls.{IsReadySolver}
 use Rattle.certify.specs.run.Serving.{RunPlace, Serves}
-use Rattle.certify.specs.run.BetweenCommands.{NamesAllow, CarriedOut, RunGoesOn, HasStateBetweenCommands, AgreesWithState, Refused, ServedNext, place_in}
+use Rattle.certify.specs.run.BetweenCommands.{NamesAcceptCommand, CommandCarriedOut, RunInvariant, HasStateBetweenCommands, AgreesWithState, CommandRefused, CommandServed, run_place}
 use Rattle.sat_base.proofs.lemmas.script.ScriptStates.{accepted_kept, start_kept}
 use Rattle.certify.proofs.lemmas.run.ServedOnce.{serves_refused}
-use Rattle.certify.specs.run.Quiet.{Solver}
+use Rattle.certify.specs.run.RunSolver.{Solver}
 
 -- the run, with one more command counted
 abbrev pub counted : {C : Type 0} → RunState C → RunState C
@@ -37,15 +37,15 @@ after_accepted j c e = rw e refl
 after_refused : (j : ScriptState) (c : Command) (r : Refusal) → refusal_of j c ≡ Some r → after_command c j ≡ j
 after_refused j c r e = rw e refl
 
-module _ {C : Type 0} (old new : RunState C) (c : Command) (before after : Writer) (on : RunGoesOn old) where
+module _ {C : Type 0} (old new : RunState C) (c : Command) (before after : Writer) (on : RunInvariant old) where
   -- the command was accepted
-  module _ (carried : CarriedOut (counted old) new c before after) (allowed : NamesAllow old.names c) (valid : (j : ScriptState) → NamesHaveState old.names j → NamesHaveState new.names (state_after_accepted c j)) where
-    taken_at : (j : ScriptState) → HasStateBetweenCommands old j → HasStateBetweenCommands new (state_after_accepted c j) × Serves old.budget (place_in old j) (place_in new (state_after_accepted c j)) (c ∷ []) carried.text carried.reports 0
+  module _ (carried : CommandCarriedOut (counted old) new c before after) (allowed : NamesAcceptCommand old.names c) (valid : (j : ScriptState) → NamesHaveState old.names j → NamesHaveState new.names (state_after_accepted c j)) where
+    taken_at : (j : ScriptState) → HasStateBetweenCommands old j → HasStateBetweenCommands new (state_after_accepted c j) × Serves old.budget (run_place old j) (run_place new (state_after_accepted c j)) (c ∷ []) carried.text carried.reports 0
     taken_at j at =
         let s = carried.serves j at.live at.means (allowed j at.names) in
         (record { live = s.0; means = record { agree = s.1; kept = accepted_kept c j (allowed j at.names) at.means.kept }; names = valid j at.names }, s.2)
 
-    pub taken_next : ServedNext old new c before after
+    pub taken_next : CommandServed old new c before after
     taken_next = record {
       goes_on = record {
         ready = carried.ready;
@@ -64,28 +64,28 @@ module _ {C : Type 0} (old new : RunState C) (c : Command) (before after : Write
       refused = 0;
       refusals = let a = carried.refused in omega arith;
       serves = λ j at.
-          subst (λ k. HasStateBetweenCommands new k × Serves old.budget (place_in old j) (place_in new k) (c ∷ []) carried.text carried.reports 0) (sym (after_accepted j c (allowed j at.names))) (taken_at j at);
+          subst (λ k. HasStateBetweenCommands new k × Serves old.budget (run_place old j) (run_place new k) (c ∷ []) carried.text carried.reports 0) (sym (after_accepted j c (allowed j at.names))) (taken_at j at);
     }
 
   -- the command was refused
-  module _ (why : Refusal) (refused : Refused (counted old) new why before after) (denied : (j : ScriptState) → NamesHaveState old.names j → refusal_of j c ≡ Some why) where
-    place_same : (j : ScriptState) → record (place_in old j) { number = old.commands + 1 + 1 } ≡ place_in new j
+  module _ (why : Refusal) (refused : CommandRefused (counted old) new why before after) (denied : (j : ScriptState) → NamesHaveState old.names j → refusal_of j c ≡ Some why) where
+    place_same : (j : ScriptState) → record (run_place old j) { number = old.commands + 1 + 1 } ≡ run_place new j
     place_same j = ap (λ (k : ℕ). at k old.solver) (sym (ap (λ (k : ℕ). k + 1) refused.commands)) ∙ ap (at (new.commands + 1)) (sym refused.solver)
       where
         at : ℕ → Solver → RunPlace
         at k s = record { judge = j; number = k; steps = s.steps; rounds = s.clock.rounds }
 
-    refused_at : (j : ScriptState) → HasStateBetweenCommands old j → HasStateBetweenCommands new j × Serves old.budget (place_in old j) (place_in new j) (c ∷ []) (refused_line (old.commands + 1) why) [] 1
+    refused_at : (j : ScriptState) → HasStateBetweenCommands old j → HasStateBetweenCommands new j × Serves old.budget (run_place old j) (run_place new j) (c ∷ []) (refused_line (old.commands + 1) why) [] 1
     refused_at j at = (
       record {
         live = at.live;
         means = subst (λ s. AgreesWithState s j at.live) (sym refused.solver) at.means;
         names = subst (λ n. NamesHaveState n j) (sym refused.names) at.names;
       },
-      subst (λ p. Serves old.budget (place_in old j) p (c ∷ []) (refused_line (old.commands + 1) why) [] 1) (place_same j) (serves_refused old.budget (place_in old j) c why (denied j at.names)),
+      subst (λ p. Serves old.budget (run_place old j) p (c ∷ []) (refused_line (old.commands + 1) why) [] 1) (place_same j) (serves_refused old.budget (run_place old j) c why (denied j at.names)),
     )
 
-    pub refused_next : ServedNext old new c before after
+    pub refused_next : CommandServed old new c before after
     refused_next = record {
       goes_on = record {
         ready = subst IsReadySolver (sym refused.solver) on.ready;
@@ -104,5 +104,5 @@ module _ {C : Type 0} (old new : RunState C) (c : Command) (before after : Write
       refused = 1;
       refusals = refused.refused;
       serves = λ j at.
-          subst (λ k. HasStateBetweenCommands new k × Serves old.budget (place_in old j) (place_in new k) (c ∷ []) (refused_line (old.commands + 1) why) [] 1) (sym (after_refused j c why (denied j at.names))) (refused_at j at);
+          subst (λ k. HasStateBetweenCommands new k × Serves old.budget (run_place old j) (run_place new k) (c ∷ []) (refused_line (old.commands + 1) why) [] 1) (sym (after_refused j c why (denied j at.names))) (refused_at j at);
     }

@@ -3,11 +3,11 @@ use Rattle.std.proofs.Common.{◌≡◌, ◌∙◌, false, List, ap}
 use Rattle.sat_base.specs.steps.Steps.{Step}
 use Rattle.sat_solver.specs.facade.Calls.{MakesSteps}
 use Rattle.sat_solver.specs.facade.Recording.{RecordsAnswer}
-use Rattle.sat_solver.specs.proof.ProofView.{Target, Closed, Open, Broken, TargetTakes, is_drat}
+use Rattle.sat_solver.specs.proof.ProofView.{Target, Closed, Open, Broken, TargetReceives, is_drat}
 use Rattle.certify.specs.run.SolverCalls.{IsReadySolver}
-use Rattle.certify.specs.run.Quiet.{Solver}
+use Rattle.certify.specs.run.RunSolver.{Solver}
 
-carried : (t : Target) (steps : List Step) (u : Target) → TargetTakes t steps u → is_drat u ≡ is_drat t
+carried : (t : Target) (steps : List Step) (u : Target) → TargetReceives t steps u → is_drat u ≡ is_drat t
 carried (Closed c) steps u e = ap is_drat e.1
 carried (Open f c s) steps u h = ap is_drat h.2
 carried (Broken w) steps u e = ap is_drat e

@@ -8,10 +8,10 @@ use Rattle.sat_base.specs.steps.Steps.{Step, End}
 use Rattle.sat_solver.specs.declared.error.SolverError.{SolverError}
 use Rattle.sat_solver.specs.declared.proof.format.ProofFormat.TheVariants.{Varisat}
 use Rattle.sat_solver.specs.proof.Checked.{has_begun}
-use Rattle.sat_solver.specs.proof.Prefixes.{PrefixText, TargetTakesPrefix}
+use Rattle.sat_solver.specs.proof.Prefixes.{PrefixText, TargetReceivesPrefix}
 use Rattle.sat_solver.specs.proof.OutputView.{text_in}
-use Rattle.sat_solver.specs.proof.ProofTexts.{TookAcceptedSteps, TookText}
-use Rattle.sat_solver.specs.proof.ProofView.{Open, Target, TargetFails, TargetTakes, TakesAll, GivesWriter}
+use Rattle.sat_solver.specs.proof.ProofTexts.{ReceivedAcceptedSteps, ReceivedText}
+use Rattle.sat_solver.specs.proof.ProofView.{Open, Target, TargetFails, TargetReceives, TargetReceivesAll, ReturnsWriter}
 use Rattle.sat_solver.specs.proof.Counting.{nothing_counted as uncounted}
 use Rattle.sat_solver.specs.session.Session.{AreAllowedSteps}
 use Rattle.sat_solver.specs.facade.Proving.{ClosesText, IsCertificate, ReturnsAcceptedPrefix}
@@ -20,8 +20,8 @@ use Rattle.sat_solver.proofs.lemmas.session.StepLemmas.{sessions_are_accepted}
 use Rattle.sat_solver.proofs.lemmas.facade.LawLemmas.{calls_go_on}
 use Rattle.sat_solver.proofs.lemmas.facade.Steps.{reaches_more}
 use Rattle.certify.specs.run.Unfinished.{StepsPrefix}
-use Rattle.certify.specs.run.Ending.{GivesPrefix}
-use Rattle.certify.specs.run.Quiet.{Solver}
+use Rattle.certify.specs.run.Ending.{ReturnedWithPrefix}
+use Rattle.certify.specs.run.RunSolver.{Solver}
 
 -- PREFIXES
 
@@ -39,7 +39,7 @@ front_of from given made h = record {
 }
 
 -- the writer received the complete text
-whole_of : (from given : Writer) (now : List Step) → TookAcceptedSteps Varisat from given [] now → StepsPrefix from given
+whole_of : (from given : Writer) (now : List Step) → ReceivedAcceptedSteps Varisat from given [] now → StepsPrefix from given
 whole_of from given now h = record {
   made = h.since.steps;
   steps = h.since.took.written;
@@ -53,10 +53,10 @@ whole_of from given now h = record {
 }
 
 -- the writer received a prefix of the text of allowed steps
-pub carried_front : (from given : Writer) (steps : List Step) (now : Target) → AreAllowedSteps steps → TargetTakes (Open Varisat uncounted (empty_sink from)) steps now → GivesWriter now (Some given)
+pub carried_front : (from given : Writer) (steps : List Step) (now : Target) → AreAllowedSteps steps → TargetReceives (Open Varisat uncounted (empty_sink from)) steps now → ReturnsWriter now (Some given)
     → (k : StepsPrefix from given) × (k.made ≡ steps)
 carried_front from given steps now may h g =
-    let q : Some given ≡ Some h.1.writer = subst (λ (z : Target). GivesWriter z (Some given)) h.2 g in
+    let q : Some given ≡ Some h.1.writer = subst (λ (z : Target). ReturnsWriter z (Some given)) h.2 g in
     let same : h.1.writer ≡ given = cc in
     let sent = h.3.wrote.sent in (
       record {
@@ -77,10 +77,10 @@ carried_front from given steps now may h g =
     )
 
 -- a call of the writer failed while it received the text of allowed steps
-pub broken_front : (from given : Writer) (steps : List Step) (now : Target) → AreAllowedSteps steps → TargetFails (Open Varisat uncounted (empty_sink from)) steps now → GivesWriter now (Some given)
+pub broken_front : (from given : Writer) (steps : List Step) (now : Target) → AreAllowedSteps steps → TargetFails (Open Varisat uncounted (empty_sink from)) steps now → ReturnsWriter now (Some given)
     → (k : StepsPrefix from given) × (k.made ≡ steps)
 broken_front from given steps now may h g =
-    let q : Some given ≡ Some h.0 = subst (λ (z : Target). GivesWriter z (Some given)) h.1 g in
+    let q : Some given ≡ Some h.0 = subst (λ (z : Target). ReturnsWriter z (Some given)) h.1 g in
     let same : h.0 ≡ given = cc in
     let b = h.2.breaks in (
       record {
@@ -101,7 +101,7 @@ broken_front from given steps now may h g =
     )
 
 -- the writer received the complete text of allowed steps
-pub closed_front : (from given : Writer) (steps : List Step) → AreAllowedSteps steps → TookText Varisat from given steps → (k : StepsPrefix from given) × (k.made ≡ steps)
+pub closed_front : (from given : Writer) (steps : List Step) → AreAllowedSteps steps → ReceivedText Varisat from given steps → (k : StepsPrefix from given) × (k.made ≡ steps)
 closed_front from given steps may t = (
   record {
     made = steps;
@@ -120,26 +120,26 @@ closed_front from given steps may t = (
 -- THE RETURNED WRITER
 
 -- the writer is returned without any further call
-pub returned_prefix : (s : Solver) (returned : Option Writer) (given : Writer) → returned ≡ Some given → ReturnsAcceptedPrefix returned s → GivesPrefix s given
+pub returned_prefix : (s : Solver) (returned : Option Writer) (given : Writer) → returned ≡ Some given → ReturnsAcceptedPrefix returned s → ReturnedWithPrefix s given
 returned_prefix s returned given is h = record {
   front = λ opened from open_then none went.
       ∥∥₁_elim (h opened Varisat from given is open_then (ap has_begun none) went) ∥∥₁_prop (λ k. ∣ front_of from given k.steps k.front ∣₁);
 }
 
 -- the writer is returned after closing the proof failed
-pub front_after : (s new : Solver) (given : Writer) (e : SolverError) → ClosesText (Err e) s new → GivesPrefix new given → GivesPrefix s given
+pub front_after : (s new : Solver) (given : Writer) (e : SolverError) → ClosesText (Err e) s new → ReturnedWithPrefix new given → ReturnedWithPrefix s given
 front_after s new given e h g = record {
   front = λ opened from open_then none went.
       g.front opened from open_then none (reaches_more opened s new went ((calls_go_on s new).closing_fails e h));
 }
 
 -- the writer is returned after the proof was closed
-pub front_closed : (s new : Solver) (given : Writer) → TakesAll s.target (End ∷ []) given → IsCertificate given s new → GivesPrefix s given
+pub front_closed : (s new : Solver) (given : Writer) → TargetReceivesAll s.target (End ∷ []) given → IsCertificate given s new → ReturnedWithPrefix s given
 front_closed s new given takes certificate = record {
   front = λ opened from open_then none went.
-      let follows = subst (λ (t : Target). TargetTakesPrefix t went.steps s.target) open_then went.target in
+      let follows = subst (λ (t : Target). TargetReceivesPrefix t went.steps s.target) open_then went.target in
       elim follows [
         | inl k ↦ ∣ whole_of from given new.steps (certificate Varisat from [] refl (record { steps = went.steps; following = went.history ∙ ap (λ (xs : List Step). went.steps ++ xs) none; target = k })) ∣₁
-        | inr k ↦ absurd (subst (λ (t : Target). TakesAll t (End ∷ []) given) k.3.1 takes)
+        | inr k ↦ absurd (subst (λ (t : Target). TargetReceivesAll t (End ∷ []) given) k.3.1 takes)
       ];
 }

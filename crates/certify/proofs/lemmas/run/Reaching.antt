@@ -6,7 +6,7 @@ use Rattle.sat_checker.specs.matching.Expected.{Expected}
 use Rattle.sat_solver.specs.variables.Calls.{NamesAgree}
 use Rattle.sat_solver.specs.facade.Calls.{Effect, MakesOrdered}
 use Rattle.sat_solver.specs.facade.States.{IsInState, MatchesState}
-use Rattle.certify.specs.run.Quiet.{Solver}
+use Rattle.certify.specs.run.RunSolver.{Solver}
 
 -- a call that changed the script state by `judge`
 pub reaches : (a b : Solver) (judge : ScriptState → ScriptState) → Effect a b judge → MatchesState b → (j : ScriptState) (live : LiveVariables) → IsInState a j live → (then : LiveVariables) × IsInState b (judge j) then

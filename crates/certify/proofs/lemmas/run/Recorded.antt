@@ -9,10 +9,10 @@ use Rattle.sat_solver.specs.declared.state.SatState.{SatState}
 use Rattle.sat_solver.specs.declared.state.SatState.TheVariants as states
 use Rattle.sat_solver.specs.facade.Recording.{RecordsAnswer}
 use Rattle.sat_solver.proofs.lemmas.session.StepLemmas.{sessions_are_accepted}
-use Rattle.certify.specs.run.Certifies.{IsRecorded}
-use Rattle.certify.specs.run.Quiet.{Solver}
+use Rattle.certify.specs.run.Certifies.{HasRecordedUnsat}
+use Rattle.certify.specs.run.RunSolver.{Solver}
 
-pub recorded_at : (steps : List Step) → AreAllowedSteps steps → checker_rules.unsat steps ≡ true → IsRecorded checker_rules steps
+pub recorded_at : (steps : List Step) → AreAllowedSteps steps → checker_rules.unsat steps ≡ true → HasRecordedUnsat checker_rules steps
 recorded_at steps may u = record { recorded = u; none = λ a h. unsat_means_none steps a (sessions_are_accepted steps may).0 u h }
 
 -- the answer is `Unsat` if unsat is recorded

@@ -2,31 +2,31 @@
 use Rattle.std.proofs.Common.{ℕ, ◌+◌, ◌≤◌, ◌≡◌, ◌∙◌, true, false, Option, Some, None, List, [], ◌∷◌, ◌++◌, map, length, Result, Ok, Err, OnErr, OnOk, IfOk, inl, inr, refl, sym, ap, subst, arith, append-nil, append_assoc}
 use Rattle.std.specs.Prelude.{IsErrOf}
 use Rattle.std.proofs.Math.Logic.{∥∥₁_elim, ∥∥₁_prop}
-use Rattle.sat_base.specs.device.Device.{Reader, Writer, GaveEnough, WriterAccepts, lent_writer, most_reads}
+use Rattle.sat_base.specs.device.Device.{Reader, Writer, GaveEnough, WriterAccepts, lent_writer, max_reads}
 use Rattle.sat_base.specs.device.Reading.{Source, new_source}
 use Rattle.sat_base.specs.device.Sink.{empty_sink}
 use Rattle.sat_base.specs.script.Script.{Command}
 use Rattle.sat_base.specs.script.ScriptState.{accepted_commands, initial_state}
 use Rattle.sat_base.specs.steps.Steps.{Step, End}
 use Rattle.sat_base.proofs.lemmas.device.Writes as writes
-use Rattle.sat_checker.specs.matching.Expected.{Finish, Outcome, expected, finish}
+use Rattle.sat_checker.specs.matching.Expected.{Finish, Outcome, expected_steps, finish}
 use Rattle.sat_checker.specs.matching.ProofChecking.{checker_rules}
 use Rattle.sat_solver.specs.declared.proof.format.ProofFormat.TheVariants.{Varisat}
 use Rattle.sat_solver.specs.proof.Counting.{nothing_counted as uncounted}
 use Rattle.sat_solver.specs.declared.proof.hash_bits.Counting.{Counting}
 use Rattle.sat_solver.specs.proof.OutputView.{text_in}
-use Rattle.sat_solver.specs.proof.ProofTexts.{TookText}
-use Rattle.sat_solver.specs.proof.ProofView.{Closed, Open, Broken, TargetTakes, TargetFails, GivesWriter, TakesAll, is_open}
+use Rattle.sat_solver.specs.proof.ProofTexts.{ReceivedText}
+use Rattle.sat_solver.specs.proof.ProofView.{Closed, Open, Broken, TargetReceives, TargetFails, ReturnsWriter, TargetReceivesAll, is_open}
 use Rattle.sat_solver.specs.session.Session.{AreAllowedSteps}
 use Rattle.sat_solver.specs.facade.Calls.{HasFullStore, MakesSteps, ReachesBySteps}
-use Rattle.sat_solver.specs.facade.Recording.{BreaksWriting}
+use Rattle.sat_solver.specs.facade.Recording.{FailsWhileWriting}
 use Rattle.sat_solver.proofs.lemmas.facade.Steps.{breaks_later, makes_more, reaches_broken, reaches_made}
 use Rattle.sat_solver.proofs.lemmas.session.CutsLemmas.{cuts_are_free}
 use Rattle.sat_solver.proofs.lemmas.session.ProofLemmas.{closed_is_text}
 use Rattle.sat_solver.proofs.lemmas.session.StepLemmas.{sessions_are_accepted}
-use Rattle.certify.specs.Devices.{NoneFailed, OneFailed}
+use Rattle.certify.specs.Devices.{NoWriterCallFailed, OneWriterCallFailed}
 use Rattle.certify.specs.answers.Answers.{answers_from, answers_text}
-use Rattle.certify.specs.confirm.Streams.{Covers, rest_in}
+use Rattle.certify.specs.confirm.Streams.{CanBeTotal, rest_in}
 use Rattle.certify.specs.declared.fault.RunFault.{RunFault}
 use Rattle.certify.specs.declared.fault.RunFault.TheVariants as fault
 use Rattle.certify.specs.declared.run.session.RunState.{RunState}
@@ -35,18 +35,18 @@ use Rattle.certify.specs.declared.summary.Summary.{Summary}
 use Rattle.certify.specs.declared.script.ahead.LastPiece.{LastPiece}
 use Rattle.certify.specs.script.LastPiece.{source_in, waiting_bytes}
 use Rattle.sat_base.specs.script.Language.{Reading, reading, plain_reading}
-use Rattle.certify.specs.run.FinishedRun.{WritesAnswers, AnswersRightly, CertificateGuarantee, ReportsRightly, TookCertificate, rounds_of_asks, identities_given, malformed_at, AreWithinBudget}
-use Rattle.certify.specs.run.Running.{ReadsFew, FinishesOrFaults, WritesRun}
+use Rattle.certify.specs.run.FinishedRun.{WritesAnswers, AnswersRightly, CertificateGuarantee, ReportsRightly, ReceivedCertificate, rounds_of_asks, identities_given, malformed_at, AreWithinBudget}
+use Rattle.certify.specs.run.Running.{ScriptReadsAreFew, FinishesOrFaults, WritesRun}
 use Rattle.certify.specs.run.Stopping.{StopsServing}
-use Rattle.certify.specs.run.Unfinished.{CounterEnds, Exceeds, ExceedsWritten, StepsPrefix, Stopped, StoppedRun, TookSteps}
-use Rattle.certify.specs.run.SolverCalls.{IsCaused, FaultSays, IsReadySolver}
-use Rattle.certify.specs.run.Lacking.{OneLacks}
+use Rattle.certify.specs.run.Unfinished.{CounterEnds, ExceedsLimit, ExceedsLimitInPrefix, StepsPrefix, Stopped, StoppedRun, ReceivedStepsPrefix}
+use Rattle.certify.specs.run.SolverCalls.{IsCaused, ByWriteFault, IsReadySolver}
+use Rattle.certify.specs.run.LackingVariables.{SomeCommandLacks}
 use Rattle.certify.specs.run.Certifies.{Certifies, complete, ordered}
-use Rattle.certify.specs.run.Ending.{ClosedBy, EndsRun, GivenBack, GivesPrefix, HasTarget, HasOpenTarget, SumsUp}
-use Rattle.certify.specs.run.BetweenCommands.{place_in}
+use Rattle.certify.specs.run.Ending.{ReturnedWithEnd, EndsRun, ReturnedAfter, ReturnedWithPrefix, HasTarget, HasOpenTarget, SummaryAgrees}
+use Rattle.certify.specs.run.BetweenCommands.{run_place}
 use Rattle.certify.specs.run.Serving.{RunPlace}
 use Rattle.certify.specs.run.Stretches.{ServesCommands, ServesFirst}
-use Rattle.certify.specs.run.ServedScript.{ServesScript, FailsWhole, ServesWhole}
+use Rattle.certify.specs.run.ServedScript.{ServesScript, RunFails, ServesWholeScript}
 use Rattle.certify.proofs.lemmas.run.Unhidden.{none_deletes}
 use Rattle.certify.proofs.lemmas.run.Learned.{asks_learn, first_learn}
 use Rattle.certify.proofs.lemmas.confirm.Streams.{faulted_front, gave_enough, passed_front, read_fails}
@@ -56,7 +56,7 @@ use Rattle.certify.proofs.lemmas.run.MadeCertifies.{made_certifies}
 use Rattle.certify.proofs.lemmas.run.ProofPrefixes.{broken_front, carried_front, closed_front}
 use Rattle.certify.proofs.lemmas.run.Stopping.{stops_whole}
 use Rattle.certify.proofs.lemmas.run.Written.{written_certifies}
-use Rattle.certify.specs.run.Quiet.{Solver}
+use Rattle.certify.specs.run.RunSolver.{Solver}
 
 -- `IsNew budget certificate s` holds if the run is before its first command, and its certificate is written to this
 -- writer.
@@ -83,10 +83,10 @@ some_same a b e = cc
 
 module _ (w : Writer) (p q : Solver) (opened_at : p.target ≡ Open Varisat uncounted (empty_sink w)) where
   -- the target received the steps that were made since
-  carried : (t : MakesSteps p q) → TargetTakes (Open Varisat uncounted (empty_sink w)) t.steps q.target
-  carried t = subst (λ x. TargetTakes x t.steps q.target) opened_at t.target
+  carried : (t : MakesSteps p q) → TargetReceives (Open Varisat uncounted (empty_sink w)) t.steps q.target
+  carried t = subst (λ x. TargetReceives x t.steps q.target) opened_at t.target
 
-  stopped : (t : BreaksWriting p q) → TargetFails (Open Varisat uncounted (empty_sink w)) t.steps q.target
+  stopped : (t : FailsWhileWriting p q) → TargetFails (Open Varisat uncounted (empty_sink w)) t.steps q.target
   stopped t = subst (λ x. TargetFails x t.steps q.target) opened_at t.target
 
   pub took_open_target : MakesSteps p q → is_open q.target ≡ true
@@ -95,37 +95,37 @@ module _ (w : Writer) (p q : Solver) (opened_at : p.target ≡ Open Varisat unco
   pub took_target : MakesSteps p q → (c : Counting) → q.target ≡ Closed c → ⊥
   took_target t c e = let x : is_open q.target ≡ true = took_open_target t in let y : is_open (Closed c) ≡ true = subst (λ z. is_open z ≡ true) e x in absurd (cc)
 
-  pub broke_target : BreaksWriting p q → (c : Counting) → q.target ≡ Closed c → ⊥
+  pub broke_target : FailsWhileWriting p q → (c : Counting) → q.target ≡ Closed c → ⊥
   broke_target t c e = let x : Broken (stopped t).0 ≡ Closed c = sym (stopped t).1 ∙ e in absurd (cc)
 
   -- if all steps were written, no call of the returned writer failed
-  pub given_none : (given : Writer) → MakesSteps p q → GivesWriter q.target (Some given) → NoneFailed w given
+  pub given_none : (given : Writer) → MakesSteps p q → ReturnsWriter q.target (Some given) → NoWriterCallFailed w given
   given_none given t g =
       let c = carried t in
-      let e : given ≡ c.1.writer = some_same given c.1.writer (subst (λ x. GivesWriter x (Some given)) c.2 g) in
+      let e : given ≡ c.1.writer = some_same given c.1.writer (subst (λ x. ReturnsWriter x (Some given)) c.2 g) in
       let k = c.3.wrote.sent.takes in
       (ap (λ x. x.failures) e ∙ k.failures, ap (λ x. x.loans) e ∙ k.loans)
 
   -- if writing a step failed, exactly one call of the returned writer failed
-  pub given_one : (given : Writer) → BreaksWriting p q → GivesWriter q.target (Some given) → OneFailed w given
+  pub given_one : (given : Writer) → FailsWhileWriting p q → ReturnsWriter q.target (Some given) → OneWriterCallFailed w given
   given_one given t g =
       let c = stopped t in
-      let e : given ≡ c.0 = some_same given c.0 (subst (λ x. GivesWriter x (Some given)) c.1 g) in
+      let e : given ≡ c.0 = some_same given c.0 (subst (λ x. ReturnsWriter x (Some given)) c.1 g) in
       let k = c.2.breaks in
       (ap (λ x. x.failures) e ∙ k.failures, ap (λ x. x.failed) e ∙ k.failed, ap (λ x. x.loans) e ∙ k.loans)
 
   -- if the proof was closed, the returned writer received the complete text
-  pub closed_text : (given : Writer) (t : MakesSteps p q) → TakesAll q.target (End ∷ []) given → TookText Varisat w given (End ∷ t.steps)
+  pub closed_text : (given : Writer) (t : MakesSteps p q) → TargetReceivesAll q.target (End ∷ []) given → ReceivedText Varisat w given (End ∷ t.steps)
   closed_text given t g = closed_is_text Varisat w given t.steps End q.target (carried t) g
 
 -- A RUN THAT WAS FINISHED
 
 module _ {C : Type 0} (budget : ℕ) (w : Writer) (s t : RunState C) (fresh : IsNew budget w s) (text : List ℕ) (at : Option ℕ) (summary : Summary) (given u v z : Writer)
-    (serves : ServesWhole initial_state (reading text) (length (plain_reading text).0) at s t u v) (closed : ClosedBy t.solver given) (took : WriterAccepts v z []) (sums : SumsUp at t summary) where
+    (serves : ServesWholeScript initial_state (reading text) (length (plain_reading text).0) at s t u v) (closed : ReturnedWithEnd t.solver given) (took : WriterAccepts v z []) (sums : SummaryAgrees at t summary) where
   made_all : t.solver.steps ≡ serves.took.steps
   made_all = serves.took.history ∙ ap (λ xs. serves.took.steps ++ xs) fresh.steps ∙ append-nil serves.took.steps
 
-  text_of : TookText Varisat w given (End ∷ serves.took.steps)
+  text_of : ReceivedText Varisat w given (End ∷ serves.took.steps)
   text_of = closed_text w s.solver t.solver fresh.target given serves.took closed.takes
 
   may : AreAllowedSteps (End ∷ serves.took.steps)
@@ -155,7 +155,7 @@ module _ {C : Type 0} (budget : ℕ) (w : Writer) (s t : RunState C) (fresh : Is
   followed : ServesCommands initial_state [] t.solver.steps (accepted_commands initial_state (reading text).0) serves.serves.outcomes (rounds_of_asks serves.reports)
   followed = subst (λ (xs : List Step). ServesCommands initial_state xs t.solver.steps (accepted_commands initial_state (reading text).0) serves.serves.outcomes (rounds_of_asks serves.reports)) fresh.steps serves.serves.follows
 
-  certified_made : Certifies checker_rules (End ∷ serves.took.steps) None [] (expected initial_state (accepted_commands initial_state (reading text).0) serves.serves.outcomes) (rounds_of_asks serves.reports)
+  certified_made : Certifies checker_rules (End ∷ serves.took.steps) None [] (expected_steps initial_state (accepted_commands initial_state (reading text).0) serves.serves.outcomes) (rounds_of_asks serves.reports)
   certified_made =
       let all = End ∷ serves.took.steps in
       let last : Certifies checker_rules all None t.solver.steps (Finish ∷ []) [] = subst (λ (xs : List Step). Certifies checker_rules all None xs (Finish ∷ []) []) (sym made_all) (ordered tt finish complete) in
@@ -171,8 +171,8 @@ module _ {C : Type 0} (budget : ℕ) (w : Writer) (s t : RunState C) (fresh : Is
     steps = text_of.written;
     certificate = text_of.spells refl;
     accepted = (sessions_are_accepted text_of.written (cuts_are_free (End ∷ serves.took.steps) text_of.written text_of.counting text_of.cuts may).may).0;
-    certifies = subst (λ rs. Certifies checker_rules text_of.written None [] (expected initial_state (accepted_commands initial_state (reading text).0) serves.serves.outcomes) (rounds_of_asks rs)) (sym asks_are)
-        (written_certifies (End ∷ serves.took.steps) text_of.written text_of.counting (expected initial_state (accepted_commands initial_state (reading text).0) serves.serves.outcomes) (rounds_of_asks serves.reports) text_of.cuts may certified_made);
+    certifies = subst (λ rs. Certifies checker_rules text_of.written None [] (expected_steps initial_state (accepted_commands initial_state (reading text).0) serves.serves.outcomes) (rounds_of_asks rs)) (sym asks_are)
+        (written_certifies (End ∷ serves.took.steps) text_of.written text_of.counting (expected_steps initial_state (accepted_commands initial_state (reading text).0) serves.serves.outcomes) (rounds_of_asks serves.reports) text_of.cuts may certified_made);
     made = serves.took.steps;
     follows = follows;
     counting = text_of.counting;
@@ -193,20 +193,20 @@ module _ {C : Type 0} (budget : ℕ) (w : Writer) (s t : RunState C) (fresh : Is
   pub flushed_text : given.flushed ≡ true
   flushed_text = text_of.flushed
 
-  pub none_certified : NoneFailed w given
+  pub none_certified : NoWriterCallFailed w given
   none_certified = (text_of.takes.failures, text_of.takes.loans)
 
 -- HOW A RUN ENDS
 
-none_both : (u v w : Writer) → NoneFailed u v → NoneFailed v w → NoneFailed u w
+none_both : (u v w : Writer) → NoWriterCallFailed u v → NoWriterCallFailed v w → NoWriterCallFailed u w
 none_both u v w n m = (m.0 ∙ n.0, m.1 ∙ n.1)
 
-one_both : (u v w : Writer) → NoneFailed u v → OneFailed v w → OneFailed u w
+one_both : (u v w : Writer) → NoWriterCallFailed u v → OneWriterCallFailed v w → OneWriterCallFailed u w
 one_both u v w n m = (let a = n.0 in let b = m.0 in omega arith, m.1, m.2 ∙ n.1)
 
-module _ {C : Type 0} (budget : ℕ) (w : Writer) (s t : RunState C) (fresh : IsNew budget w s) (x : Reader) (b : Source) (bounded : b.reads ≤ most_reads) (given u v z : Writer) where
+module _ {C : Type 0} (budget : ℕ) (w : Writer) (s t : RunState C) (fresh : IsNew budget w s) (x : Reader) (b : Source) (bounded : b.reads ≤ max_reads) (given u v z : Writer) where
   -- the script was served, but the run could not be ended
-  ended_fault : (e : RunFault) (at : Option ℕ) → ServesScript initial_state reading plain_reading (Ok at) (new_source x) b s t u v → FaultSays e (OneFailed v z × ClosedBy t.solver given) (NoneFailed v z × GivenBack BreaksWriting t.solver given) (NoneFailed v z × GivenBack MakesSteps t.solver given)
+  ended_fault : (e : RunFault) (at : Option ℕ) → ServesScript initial_state reading plain_reading (Ok at) (new_source x) b s t u v → ByWriteFault e (OneWriterCallFailed v z × ReturnedWithEnd t.solver given) (NoWriterCallFailed v z × ReturnedAfter FailsWhileWriting t.solver given) (NoWriterCallFailed v z × ReturnedAfter MakesSteps t.solver given)
       → FinishesOrFaults (Err e) budget (x, b.reader) (u, z) (w, given)
   ended_fault fault.ScriptRead at h f = absurd f
   ended_fault fault.AnswersWrite at h f =
@@ -227,11 +227,11 @@ module _ {C : Type 0} (budget : ℕ) (w : Writer) (s t : RunState C) (fresh : Is
       ((took_kept false (new_source x) b h.0).0, none_both u v z (k.written.failures, k.written.loans) f.0, given_none w s.solver f.1.last fresh.target given (makes_more s.solver t.solver f.1.last k.took f.1.goes) f.1.gives)
 
   -- the script was not served to its end
-  served_fault : (e : RunFault) → FailsWhole e (new_source x) b s.solver t.solver u v → z ≡ v → GivesWriter t.solver.target (Some given) → FinishesOrFaults (Err e) budget (x, b.reader) (u, z) (w, given)
-  served_fault fault.ScriptRead h same g = (read_fails x b h.0.0 bounded h.0.1, subst (NoneFailed u) (sym same) h.1, given_none w s.solver t.solver fresh.target given h.2 g)
-  served_fault fault.AnswersWrite h same g = (h.0.1.failures, subst (OneFailed u) (sym same) h.1, given_none w s.solver t.solver fresh.target given h.2 g)
-  served_fault fault.CertificateWrite h same g = (h.0.1.failures, subst (NoneFailed u) (sym same) h.1, given_one w s.solver t.solver fresh.target given h.2 g)
-  served_fault e h same g = (h.0.1.failures, subst (NoneFailed u) (sym same) h.1, given_none w s.solver t.solver fresh.target given h.2 g)
+  served_fault : (e : RunFault) → RunFails e (new_source x) b s.solver t.solver u v → z ≡ v → ReturnsWriter t.solver.target (Some given) → FinishesOrFaults (Err e) budget (x, b.reader) (u, z) (w, given)
+  served_fault fault.ScriptRead h same g = (read_fails x b h.0.0 bounded h.0.1, subst (NoWriterCallFailed u) (sym same) h.1, given_none w s.solver t.solver fresh.target given h.2 g)
+  served_fault fault.AnswersWrite h same g = (h.0.1.failures, subst (OneWriterCallFailed u) (sym same) h.1, given_none w s.solver t.solver fresh.target given h.2 g)
+  served_fault fault.CertificateWrite h same g = (h.0.1.failures, subst (NoWriterCallFailed u) (sym same) h.1, given_one w s.solver t.solver fresh.target given h.2 g)
+  served_fault e h same g = (h.0.1.failures, subst (NoWriterCallFailed u) (sym same) h.1, given_none w s.solver t.solver fresh.target given h.2 g)
 
   -- a run that served its script and ended is finished, or failed
   pub runs_so : (served : Result (Option ℕ) RunFault) (r : Result Summary RunFault) → ServesScript initial_state reading plain_reading served (new_source x) b s t u v → EndsRun served r t given v z → FinishesOrFaults r budget (x, b.reader) (u, z) (w, given)
@@ -255,13 +255,13 @@ module _ {C : Type 0} (budget : ℕ) (w : Writer) (s t : RunState C) (fresh : Is
   abbrev start : RunPlace
   start = record { judge = initial_state; number = 1; steps = []; rounds = 0 }
 
-  starts : place_in s initial_state ≡ start
+  starts : run_place s initial_state ≡ start
   starts = ap (λ (k : ℕ). at k s.solver.steps s.solver.clock.rounds) fresh.commands ∙ ap (λ (xs : List Step). at 0 xs s.solver.clock.rounds) fresh.steps ∙ ap (at 0 []) fresh.rounds
     where
       at : ℕ → List Step → ℕ → RunPlace
       at k xs n = record { judge = initial_state; number = k + 1; steps = xs; rounds = n }
 
-  from_start : (script : Reading) (to : List Step) (v : Writer) → StopsServing s.budget (place_in s initial_state) script to u v → StopsServing budget start script to u v
+  from_start : (script : Reading) (to : List Step) (v : Writer) → StopsServing s.budget (run_place s initial_state) script to u v → StopsServing budget start script to u v
   from_start script to v k = subst (λ (n : ℕ). StopsServing n start script to u v) fresh.budget_is (subst (λ (p : RunPlace). StopsServing s.budget p script to u v) starts k)
 
   -- `Shown to` holds if the certificate's writer received a prefix of the text of these steps and possibly later ones.
@@ -292,7 +292,7 @@ module _ {C : Type 0} (budget : ℕ) (w : Writer) (s t : RunState C) (fresh : Is
   made_since q xs e = e ∙ ap (λ ys. xs ++ ys) fresh.steps ∙ append-nil xs
 
   -- the certificate's writer received a prefix of the text of the steps that were made
-  made_by : (q : Solver) → ∥ AreAllowedSteps q.steps ∥₁ → MakesSteps s.solver q → GivesWriter q.target (Some given) → ∥ ((k : StepsPrefix w given) × (k.made ≡ q.steps)) ∥₁
+  made_by : (q : Solver) → ∥ AreAllowedSteps q.steps ∥₁ → MakesSteps s.solver q → ReturnsWriter q.target (Some given) → ∥ ((k : StepsPrefix w given) × (k.made ≡ q.steps)) ∥₁
   made_by q allowed took gives =
       let all = made_since q took.steps took.history in
       ∥∥₁_elim allowed ∥∥₁_prop (λ may.
@@ -300,7 +300,7 @@ module _ {C : Type 0} (budget : ℕ) (w : Writer) (s t : RunState C) (fresh : Is
       ∣ (front.0, front.1 ∙ sym all) ∣₁)
 
   -- what the writer received, if a call of it failed
-  broken_by : (q : Solver) → ∥ AreAllowedSteps q.steps ∥₁ → BreaksWriting s.solver q → GivesWriter q.target (Some given) → ∥ ((k : StepsPrefix w given) × (k.made ≡ q.steps)) ∥₁
+  broken_by : (q : Solver) → ∥ AreAllowedSteps q.steps ∥₁ → FailsWhileWriting s.solver q → ReturnsWriter q.target (Some given) → ∥ ((k : StepsPrefix w given) × (k.made ≡ q.steps)) ∥₁
   broken_by q allowed broke gives =
       let all = made_since q broke.steps broke.history in
       ∥∥₁_elim allowed ∥∥₁_prop (λ may.
@@ -311,12 +311,12 @@ module _ {C : Type 0} (budget : ℕ) (w : Writer) (s t : RunState C) (fresh : Is
   shown_so q to later e h = ∥∥₁_elim h ∥∥₁_prop (λ k. ∣ (k.0, later, k.1 ∙ e) ∣₁)
 
   -- the script was not served to its end
-  served_shown : (e : RunFault) → FailsWhole e (new_source x) b s.solver t.solver u v → GivesWriter t.solver.target (Some given) → ∥ AreAllowedSteps t.solver.steps ∥₁ → Shown t.solver.steps
+  served_shown : (e : RunFault) → RunFails e (new_source x) b s.solver t.solver u v → ReturnsWriter t.solver.target (Some given) → ∥ AreAllowedSteps t.solver.steps ∥₁ → Shown t.solver.steps
   served_shown fault.CertificateWrite h g allowed = shown_so t.solver t.solver.steps [] refl (broken_by t.solver allowed h.2 g)
   served_shown e h g allowed = shown_so t.solver t.solver.steps [] refl (made_by t.solver allowed h.2 g)
 
   -- the script was served, but the run could not be ended
-  ended_shown : (e : RunFault) → MakesSteps s.solver t.solver → FaultSays e (OneFailed v z × ClosedBy t.solver given) (NoneFailed v z × GivenBack BreaksWriting t.solver given) (NoneFailed v z × GivenBack MakesSteps t.solver given) → Shown t.solver.steps
+  ended_shown : (e : RunFault) → MakesSteps s.solver t.solver → ByWriteFault e (OneWriterCallFailed v z × ReturnedWithEnd t.solver given) (NoWriterCallFailed v z × ReturnedAfter FailsWhileWriting t.solver given) (NoWriterCallFailed v z × ReturnedAfter MakesSteps t.solver given) → Shown t.solver.steps
   ended_shown fault.ScriptRead took f = absurd f
   ended_shown fault.AnswersWrite took f =
       let all = made_since t.solver took.steps took.history in
@@ -329,7 +329,7 @@ module _ {C : Type 0} (budget : ℕ) (w : Writer) (s t : RunState C) (fresh : Is
       let g = f.1 in
       shown_so g.last t.solver.steps g.goes.steps g.goes.history (made_by g.last g.may (makes_more s.solver t.solver g.last took g.goes) g.gives)
 
-  served_front : (e : RunFault) → FailsWhole e (new_source x) b s.solver t.solver u v → ((total : List ℕ) → Covers b total → StoppedRun budget (rest_in total (new_source x)) (u, z) (w, given)) → Stopped budget (x, b.reader) (u, z) (w, given)
+  served_front : (e : RunFault) → RunFails e (new_source x) b s.solver t.solver u v → ((total : List ℕ) → CanBeTotal b total → StoppedRun budget (rest_in total (new_source x)) (u, z) (w, given)) → Stopped budget (x, b.reader) (u, z) (w, given)
   served_front fault.ScriptRead h f = faulted_front x b h.0.0 (λ text. StoppedRun budget text (u, z) (w, given)) h.0.1 f
   served_front e h f = passed_front 1 x b h.0.0 (λ text. StoppedRun budget text (u, z) (w, given)) h.0.1 f
 
@@ -343,24 +343,24 @@ module _ {C : Type 0} (budget : ℕ) (w : Writer) (s t : RunState C) (fresh : Is
       let all = h.2 total k in
       let text = rest_in total (new_source x) in
       stopped_run text t.solver.steps
-      (from_start (reading text) t.solver.steps z (stops_whole s.budget (place_in s initial_state) (reading text) t.solver.steps all.text all.reports all.refused u v z all.serves all.written f.1)) shown)
+      (from_start (reading text) t.solver.steps z (stops_whole s.budget (run_place s initial_state) (reading text) t.solver.steps all.text all.reports all.refused u v z all.serves all.written f.1)) shown)
   stopped_so (Err e) r h f =
       let shown = served_shown e h.0 f.2 f.3 in
       subst (λ (q : Result Summary RunFault). OnErr q (Stopped budget (x, b.reader) (u, z) (w, given))) (sym f.0)
       (served_front e h.0 (λ total k.
       let text = rest_in total (new_source x) in
-      stopped_run text t.solver.steps (from_start (reading text) t.solver.steps z (subst (StopsServing s.budget (place_in s initial_state) (reading text) t.solver.steps u) (sym f.1) (h.1 total k))) shown))
+      stopped_run text t.solver.steps (from_start (reading text) t.solver.steps z (subst (StopsServing s.budget (run_place s initial_state) (reading text) t.solver.steps u) (sym f.1) (h.1 total k))) shown))
 
   -- the reason if a counter has ended
-  served_end : (e : RunFault) → e ≡ fault.CounterEnd → FailsWhole e (new_source x) b s.solver t.solver u v → GivesWriter t.solver.target (Some given) → ∥ AreAllowedSteps t.solver.steps ∥₁
-      → IsCaused e (HasFullStore t.solver) ((total : List ℕ) → Covers b total → Exceeds s.commands initial_state (reading (rest_in total (new_source x))) t.solver.steps) → CounterEnds (x, b.reader) (w, given)
+  served_end : (e : RunFault) → e ≡ fault.CounterEnd → RunFails e (new_source x) b s.solver t.solver u v → ReturnsWriter t.solver.target (Some given) → ∥ AreAllowedSteps t.solver.steps ∥₁
+      → IsCaused e (HasFullStore t.solver) ((total : List ℕ) → CanBeTotal b total → ExceedsLimit s.commands initial_state (reading (rest_in total (new_source x))) t.solver.steps) → CounterEnds (x, b.reader) (w, given)
   served_end fault.CounterEnd q h gives allowed k =
       let front = made_by t.solver allowed h.2 gives in
-      passed_front 1 x b h.0.0 (λ text. ExceedsWritten (reading text) (w, given)) h.0.1
+      passed_front 1 x b h.0.0 (λ text. ExceedsLimitInPrefix (reading text) (w, given)) h.0.1
       (λ total y.
-      elim (subst (λ n. Exceeds n initial_state (reading (rest_in total (new_source x))) t.solver.steps) fresh.commands (k total y)) [
+      elim (subst (λ n. ExceedsLimit n initial_state (reading (rest_in total (new_source x))) t.solver.steps) fresh.commands (k total y)) [
         | inl many ↦ inl (omega arith)
-        | inr (needs, one) ↦ inr (∥∥₁_elim front ∥∥₁_prop (λ f. ∣ (f.0, needs, subst (OneLacks initial_state (reading (rest_in total (new_source x))).0) (sym f.1) one) ∣₁))
+        | inr (needs, one) ↦ inr (∥∥₁_elim front ∥∥₁_prop (λ f. ∣ (f.0, needs, subst (SomeCommandLacks initial_state (reading (rest_in total (new_source x))).0) (sym f.1) one) ∣₁))
       ])
   served_end e q h gives allowed k = absurd (cc)
 
@@ -371,28 +371,28 @@ module _ {C : Type 0} (budget : ℕ) (w : Writer) (s t : RunState C) (fresh : Is
   counter_so (Err e) r h f q = let k : ◌≡◌ {A = Result Summary RunFault} (Err e) (Err fault.CounterEnd) = sym f.0 ∙ q in served_end e (cc) h.0 f.2 f.3 h.2
 
   -- a run that failed reached the solver's state by steps
-  fails_went : (e : RunFault) → FailsWhole e (new_source x) b s.solver t.solver u v → ReachesBySteps s.solver t.solver
+  fails_went : (e : RunFault) → RunFails e (new_source x) b s.solver t.solver u v → ReachesBySteps s.solver t.solver
   fails_went fault.CertificateWrite h = reaches_broken s.solver t.solver h.2
   fails_went e h = reaches_made s.solver t.solver h.2
 
   -- whatever happens, the certificate's writer received a prefix of steps
-  pub steps_so : (served : Result (Option ℕ) RunFault) → ServesScript initial_state reading plain_reading served (new_source x) b s t u v → GivesPrefix t.solver given → TookSteps (w, given)
+  pub steps_so : (served : Result (Option ℕ) RunFault) → ServesScript initial_state reading plain_reading served (new_source x) b s t u v → ReturnedWithPrefix t.solver given → ReceivedStepsPrefix (w, given)
   steps_so (Ok at) h g = g.front s.solver w fresh.target fresh.steps (reaches_made s.solver t.solver (h.2 b.reader.given (covers_given b)).took)
   steps_so (Err e) h g = g.front s.solver w fresh.target fresh.steps (fails_went e h.0)
 
-  few_by : b.reader.calls + 0 ≡ x.calls + b.reads → ReadsFew (x, b.reader)
+  few_by : b.reader.calls + 0 ≡ x.calls + b.reads → ScriptReadsAreFew (x, b.reader)
   few_by e = omega arith
 
-  few_faults : (e : RunFault) → FailsWhole e (new_source x) b s.solver t.solver u v → ReadsFew (x, b.reader)
+  few_faults : (e : RunFault) → RunFails e (new_source x) b s.solver t.solver u v → ScriptReadsAreFew (x, b.reader)
   few_faults fault.ScriptRead h = few_by h.0.1.calls
   few_faults e h = few_by h.0.1.calls
 
-  pub reads_few : (served : Result (Option ℕ) RunFault) → ServesScript initial_state reading plain_reading served (new_source x) b s t u v → ReadsFew (x, b.reader)
+  pub reads_few : (served : Result (Option ℕ) RunFault) → ServesScript initial_state reading plain_reading served (new_source x) b s t u v → ScriptReadsAreFew (x, b.reader)
   reads_few (Ok at) h = few_by (took_kept false (new_source x) b h.0).1
   reads_few (Err e) h = few_faults e h.0
 
   -- the target isn't closed yet
-  fails_some : (e : RunFault) → FailsWhole e (new_source x) b s.solver t.solver u v → HasTarget t.solver
+  fails_some : (e : RunFault) → RunFails e (new_source x) b s.solver t.solver u v → HasTarget t.solver
   fails_some fault.CertificateWrite h = broke_target w s.solver t.solver fresh.target h.2
   fails_some e h = took_target w s.solver t.solver fresh.target h.2
 
@@ -420,10 +420,10 @@ unlent_takes : (a b : Writer) (given back : ℕ) (text : List ℕ) → WriterAcc
 unlent_takes a b given back text p = record { taken = p.taken; known_bytes = p.known_bytes; failures = p.failures; calls = p.calls; few = p.few; loans = unlent_loans a b given back p.loans }
 
 module _ (budget : ℕ) (x y : Reader) (u z a b : Writer) (given back : ℕ) where
-  unlent_none : NoneFailed (lent_writer given a) (lent_writer back b) → NoneFailed a b
+  unlent_none : NoWriterCallFailed (lent_writer given a) (lent_writer back b) → NoWriterCallFailed a b
   unlent_none p = (p.0, unlent_loans a b given back p.1)
 
-  unlent_one : OneFailed (lent_writer given a) (lent_writer back b) → OneFailed a b
+  unlent_one : OneWriterCallFailed (lent_writer given a) (lent_writer back b) → OneWriterCallFailed a b
   unlent_one p = (p.0, p.1, unlent_loans a b given back p.2)
 
   loans_fault : (e : RunFault) → FinishesOrFaults (Err e) budget (x, y) (u, z) (lent_writer given a, lent_writer back b) → (lent_writer back b).loans ≡ (lent_writer given a).loans
@@ -478,17 +478,17 @@ unlent_front a b given back k = record {
   took = record { taken = k.took.taken; known_bytes = k.took.known_bytes };
 }
 
-unlent_steps : (a b : Writer) (given back : ℕ) → TookSteps (lent_writer given a, lent_writer back b) → TookSteps (a, b)
+unlent_steps : (a b : Writer) (given back : ℕ) → ReceivedStepsPrefix (lent_writer given a, lent_writer back b) → ReceivedStepsPrefix (a, b)
 unlent_steps a b given back h = ∥∥₁_elim h ∥∥₁_prop (λ (k : StepsPrefix (lent_writer given a) (lent_writer back b)). ∣ unlent_front a b given back k ∣₁)
 
 -- once a lent writer is returned, the steps that it received are those that its owner received
 pub steps_lent : {C : Type 0} (seen : C → Writer) (budget : ℕ) (x y : Reader) (u z : Writer) (a c v : C) (given back : ℕ) → (given ≡ back → c ≡ v) → (r : Result Summary RunFault)
-    → FinishesOrFaults r budget (x, y) (u, z) (lent_writer given (seen a), lent_writer back (seen v)) → TookSteps (lent_writer given (seen a), lent_writer back (seen v)) → TookSteps (seen a, seen c)
+    → FinishesOrFaults r budget (x, y) (u, z) (lent_writer given (seen a), lent_writer back (seen v)) → ReceivedStepsPrefix (lent_writer given (seen a), lent_writer back (seen v)) → ReceivedStepsPrefix (seen a, seen c)
 steps_lent seen budget x y u z a c v given back same r h k =
     let is_back : c ≡ v = same (unlent_names (seen a) (seen v) given back (loans_kept budget x y u z (seen a) (seen v) given back r h)) in
-    subst (λ (q : _). TookSteps (seen a, seen q)) (sym is_back) (unlent_steps (seen a) (seen v) given back k)
+    subst (λ (q : _). ReceivedStepsPrefix (seen a, seen q)) (sym is_back) (unlent_steps (seen a) (seen v) given back k)
 
-unlent_exceeds : (script : Reading) (a b : Writer) (given back : ℕ) → ExceedsWritten script (lent_writer given a, lent_writer back b) → ExceedsWritten script (a, b)
+unlent_exceeds : (script : Reading) (a b : Writer) (given back : ℕ) → ExceedsLimitInPrefix script (lent_writer given a, lent_writer back b) → ExceedsLimitInPrefix script (a, b)
 unfolding unlent_front
 unlent_exceeds script a b given back (inl many) = inl many
 unlent_exceeds script a b given back (inr h) = inr (∥∥₁_elim h ∥∥₁_prop (λ k. ∣ (unlent_front a b given back k.0, k.1, k.2) ∣₁))
@@ -501,7 +501,7 @@ counter_lent seen budget x y u z a c v given back same r h k =
     record {
       text = k.text;
       front = k.front;
-      holds = λ rest f. subst (λ (q : _). ExceedsWritten (reading (k.text ++ rest)) (seen a, seen q)) (sym is_back) (unlent_exceeds (reading (k.text ++ rest)) (seen a) (seen v) given back (k.holds rest f));
+      holds = λ rest f. subst (λ (q : _). ExceedsLimitInPrefix (reading (k.text ++ rest)) (seen a, seen q)) (sym is_back) (unlent_exceeds (reading (k.text ++ rest)) (seen a) (seen v) given back (k.holds rest f));
     }
 
 unlent_run : (budget : ℕ) (text : List ℕ) (u z a b : Writer) (given back : ℕ) → StoppedRun budget text (u, z) (lent_writer given a, lent_writer back b) → StoppedRun budget text (u, z) (a, b)
@@ -530,6 +530,6 @@ module _ (budget : ℕ) (x y : Reader) (u z a b : Writer) where
   answered_if (Ok s) h = enough_so x y (λ text. WritesRun text budget s (u, z) (a, b)) (λ text. (answered : List ℕ) × WriterAccepts u z answered × ReportsRightly text budget s answered) (λ text k. (k.answered, k.writes_answers, (same_reports text budget s k.answered).1 k.guarantee.is_answered)) h.wrote
   answered_if (Err e) h = tt
 
-  pub guaranteed_if : (r : Result Summary RunFault) → FinishesOrFaults r budget (x, y) (u, z) (a, b) → IfOk r (λ s. TookCertificate budget s (x, y) (u, z) (a, b))
+  pub guaranteed_if : (r : Result Summary RunFault) → FinishesOrFaults r budget (x, y) (u, z) (a, b) → IfOk r (λ s. ReceivedCertificate budget s (x, y) (u, z) (a, b))
   guaranteed_if (Ok s) h = enough_so x y (λ text. WritesRun text budget s (u, z) (a, b)) (λ text. (answered : List ℕ) × (certified : List ℕ) × WriterAccepts u z answered × WriterAccepts a b certified × CertificateGuarantee text budget s answered certified) (λ text k. (k.answered, k.certified, k.writes_answers, k.certifies, k.guarantee)) h.wrote
   guaranteed_if (Err e) h = tt

@@ -5,7 +5,7 @@ use Rattle.sat_base.specs.script.Script.{Command}
 use Rattle.sat_base.specs.script.ScriptState.{accepted_commands}
 use Rattle.sat_checker.specs.matching.Expected.{Outcome}
 use Rattle.certify.specs.answers.Answers.{answers_from}
-use Rattle.certify.specs.answers.RightAnswers.{AreRight}
+use Rattle.certify.specs.answers.RightAnswers.{OutcomesAreRight}
 use Rattle.certify.specs.run.FinishedRun.{refused_count, answer_kind, AreWithinBudget, rounds_of_asks, identities_given}
 use Rattle.certify.specs.run.Serving.{RunPlace, Serves}
 use Rattle.certify.specs.run.Stretches.{ServesCommands}
@@ -27,7 +27,7 @@ pub serves_then : (budget : ℕ) (a b c : RunPlace) (xs ys : List Command) (s t 
 serves_then budget a b c xs ys s t rs qs k l f g = record {
   outcomes = f.outcomes ++ g.outcomes;
   right = λ left rest x.
-      let P : List Command → List Outcome → Type 0 = λ cs os. AreRight a.judge (accepted_commands a.judge cs) os in
+      let P : List Command → List Outcome → Type 0 = λ cs os. OutcomesAreRight a.judge (accepted_commands a.judge cs) os in
       subst (λ cs. P cs ((f.outcomes ++ g.outcomes) ++ rest)) (sym (append_assoc xs ys left))
       (subst (λ os. P (xs ++ (ys ++ left)) os) (sym (append_assoc f.outcomes g.outcomes rest)) (f.right (ys ++ left) (g.outcomes ++ rest) (g.right left rest x)));
   says = λ left ending rest.

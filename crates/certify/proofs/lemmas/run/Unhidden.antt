@@ -10,16 +10,16 @@ use Rattle.sat_checker.specs.Stored.{Variable}
 use Rattle.sat_checker.specs.Stored as stored
 use Rattle.sat_checker.specs.Laws.{has_delete_var}
 use Rattle.sat_checker.specs.matching.Checking.{CheckerRules, is_ordered}
-use Rattle.sat_checker.specs.matching.Expected.{Outcome, Sat, Unsat, Unknown, Expected, NewName, NoName, Adds, Opens, Finish, Fits, new_name, no_name, adds, opens, shows, fails, closes, finish, introducing, hiding, setting}
+use Rattle.sat_checker.specs.matching.Expected.{Outcome, Sat, Unsat, Unknown, Expected, NewName, NoName, Adds, Opens, Finish, FitsExpected, new_name, no_name, adds, opens, shows, fails, closes, finish, steps_introducing, steps_hiding, steps_setting_mode}
 use Rattle.sat_checker.specs.matching.ProofChecking.{checker_rules}
 use Rattle.sat_checker.specs.matching.Traces.{HasTrace, no_step, silent, visible}
-use Rattle.sat_solver.specs.session.Session.{Session, with_fact, session_after, AreAllowedSteps}
+use Rattle.sat_solver.specs.session.Session.{Session, with_unit_added, session_after, AreAllowedSteps}
 use Rattle.sat_solver.proofs.lemmas.session.Changes.{with_facts, with_sorted, with_live_clause, knowing, changed, session_if}
 use Rattle.sat_solver.specs.proof.Widths.{narrowed}
-use Rattle.sat_solver.specs.proof.Counting.{TruncatesHashes, none_made, ask_begun, one_made, width_change, counted}
+use Rattle.sat_solver.specs.proof.Counting.{TruncatesHashes, none_made, ask_begun, one_made, width_change, counting_after}
 use Rattle.sat_solver.specs.declared.proof.hash_bits.Counting.{Counting}
 use Rattle.certify.specs.run.Hiding.{HidesNothing}
-use Rattle.certify.specs.run.Stretches.{due_for, showing_if, ServesCommands, made_none, made_one, made_ask}
+use Rattle.certify.specs.run.Stretches.{due_for_command, showing_if, ServesCommands, made_none, made_one, made_ask}
 
 -- STEPS THAT ARE NO END, AND REMOVE NO NAME UNLESS HIDING IS ALLOWED
 abbrev IsPlain : Bool → Step → Type 0
@@ -68,7 +68,7 @@ module _ (hides : Bool) where
   unordered_plain End e = absurd (let d : true ≡ false = e in cc)
   unordered_plain step e = tt
 
-  fits_plain : {knows : ℕ → Bool} {earlier : List Step} {e : Expected} {step : Step} → Fits knows earlier e step → Spares hides e → IsPlain hides step
+  fits_plain : {knows : ℕ → Bool} {earlier : List Step} {e : Expected} {step : Step} → FitsExpected knows earlier e step → Spares hides e → IsPlain hides step
   fits_plain (new_name i k) s = tt
   fits_plain (no_name v) s = s
   fits_plain (adds c) s = tt
@@ -91,22 +91,22 @@ module _ (hides : Bool) where
   new_spare [] = tt
   new_spare (name ∷ names) = (tt, new_spare names)
 
-  bringing_spares : (names : List ℕ) (j : ScriptState) → AllSpare hides (introducing names j)
+  bringing_spares : (names : List ℕ) (j : ScriptState) → AllSpare hides (steps_introducing names j)
   bringing_spares [] j = tt
-  bringing_spares (name ∷ names) j = both_spare (map NewName (new_names name j)) (introducing names (introduce name j)) (new_spare (new_names name j)) (bringing_spares names (introduce name j))
+  bringing_spares (name ∷ names) j = both_spare (map NewName (new_names name j)) (steps_introducing names (introduce name j)) (new_spare (new_names name j)) (bringing_spares names (introduce name j))
 
-  hiding_spares : hides ≡ true → (names : List ℕ) (j : ScriptState) → AllSpare hides (hiding names j)
+  hiding_spares : hides ≡ true → (names : List ℕ) (j : ScriptState) → AllSpare hides (steps_hiding names j)
   hiding_spares h [] j = tt
   hiding_spares h (name ∷ names) j =
-      both_spare (map NewName (new_names name j)) (NoName name ∷ hiding names (without_name name (introduce name j))) (new_spare (new_names name j)) (h, hiding_spares h names (without_name name (introduce name j)))
+      both_spare (map NewName (new_names name j)) (NoName name ∷ steps_hiding names (without_name name (introduce name j))) (new_spare (new_names name j)) (h, hiding_spares h names (without_name name (introduce name j)))
 
-  setting_spares : (mode : NameMode) (names : List ℕ) (j : ScriptState) → AllSpare hides (setting mode names j)
+  setting_spares : (mode : NameMode) (names : List ℕ) (j : ScriptState) → AllSpare hides (steps_setting_mode mode names j)
   setting_spares mode [] j = tt
-  setting_spares mode (name ∷ names) j = both_spare (map NewName (new_names name j)) (setting mode names (with_mode mode name (introduce name j))) (new_spare (new_names name j)) (setting_spares mode names (with_mode mode name (introduce name j)))
+  setting_spares mode (name ∷ names) j = both_spare (map NewName (new_names name j)) (steps_setting_mode mode names (with_mode mode name (introduce name j))) (new_spare (new_names name j)) (setting_spares mode names (with_mode mode name (introduce name j)))
 
-  due_spares : (unsat : Bool) (c : Command) (j : ScriptState) → Allows hides c → AllSpare hides (due_for unsat c j)
-  due_spares true (Clause ls) j h = both_spare (introducing (names_of ls) j) [] (bringing_spares (names_of ls) j) tt
-  due_spares false (Clause ls) j h = both_spare (introducing (names_of ls) j) (Adds ls ∷ []) (bringing_spares (names_of ls) j) (tt, tt)
+  due_spares : (unsat : Bool) (c : Command) (j : ScriptState) → Allows hides c → AllSpare hides (due_for_command unsat c j)
+  due_spares true (Clause ls) j h = both_spare (steps_introducing (names_of ls) j) [] (bringing_spares (names_of ls) j) tt
+  due_spares false (Clause ls) j h = both_spare (steps_introducing (names_of ls) j) (Adds ls ∷ []) (bringing_spares (names_of ls) j) (tt, tt)
   due_spares unsat (Ask ls) j h = tt
   due_spares unsat (Hide []) j h = tt
   due_spares unsat (Hide (name ∷ names)) j h = hiding_spares h (name ∷ names) j
@@ -123,7 +123,7 @@ module _ (hides : Bool) where
   made_plain made_none h p = p
   made_plain {j} {s} (made_one {c = c} mid n stretch more) h p = made_plain more h.1 (makes_plain stretch.due (due_spares (checker_rules.unsat s) c j h.0) p)
   made_plain {j} {s} (made_ask {ls = ls} {o = o} mid a more) h p =
-      let opened = makes_plain a.opens.due (both_spare (introducing (names_of ls) j) (Opens ls o ∷ []) (bringing_spares (names_of ls) j) (tt, tt)) p in
+      let opened = makes_plain a.opens.due (both_spare (steps_introducing (names_of ls) j) (Opens ls o ∷ []) (bringing_spares (names_of ls) j) (tt, tt)) p in
       let shown = makes_plain a.searches.due (showing_spares (checker_rules.unsat a.shown) (state_after_accepted (Ask ls) j) ls o) opened in
       made_plain more h.1 (makes_plain a.closes.due (tt, tt) shown)
 
@@ -131,7 +131,7 @@ module _ (hides : Bool) where
 abbrev NoneHidden : Session → Type 0
 NoneHidden s = (v : ℕ) → (s.variables v).mode ≢ stored.Hide
 
-fact_variables : (l : ℕ) (s : Session) → (with_fact l s).variables ≡ s.variables
+fact_variables : (l : ℕ) (s : Session) → (with_unit_added l s).variables ≡ s.variables
 fact_variables l s = go (s.units l) (s.units (negated l))
   where
     go : (a b : Bool) → (session_if a s (session_if b (record s { unsat = true }) (record s { units = λ m. eqb l m || s.units m }))).variables ≡ s.variables
@@ -141,7 +141,7 @@ fact_variables l s = go (s.units l) (s.units (negated l))
 
 facts_variables : (ls : List ℕ) (s : Session) → (with_facts ls s).variables ≡ s.variables
 facts_variables [] s = refl
-facts_variables (l ∷ ls) s = facts_variables ls (with_fact l s) ∙ fact_variables l s
+facts_variables (l ∷ ls) s = facts_variables ls (with_unit_added l s) ∙ fact_variables l s
 
 sorted_variables : (r : Bool) (ls : List ℕ) (s : Session) → (with_sorted r ls s).variables ≡ s.variables
 sorted_variables r [] s = refl
@@ -176,7 +176,7 @@ changed_none : (step : Step) (s : Session) → IsPlain false step → NoneHidden
 changed_none (SolverVarName v (Some name)) s p h = knowing_none (v ∷ []) s h
 changed_none (UserVarName v (Some name)) s p h = put_none v (record (s.variables v) { known = true; name = Some name }) s (h v) h
 changed_none (UserVarName v None) s p h = absurd (let d : false ≡ true = p in cc)
-changed_none (DeleteVar v) s p h = put_none v stored.unknown s (λ e. cc) h
+changed_none (DeleteVar v) s p h = put_none v stored.initial_variable s (λ e. cc) h
 changed_none (ChangeSamplingMode v true) s p h = put_none v (record (s.variables v) { mode = stored.Sample }) s (λ e. cc) h
 changed_none (ChangeSamplingMode v false) s p h = put_none v (record (s.variables v) { mode = stored.Witness }) s (λ e. cc) h
 changed_none (AddClause c) s p h = go s.unsat
@@ -233,7 +233,7 @@ cuts_delete : {c d : Counting} {made written : List Step} → TruncatesHashes c 
 cuts_delete none_made = refl
 cuts_delete (ask_begun k) = cuts_delete k
 cuts_delete (one_made {d = d} {made = made} {written = written} step keeps k) =
-    narrowed_delete (counted step d).bits step made (width_change d.bits (counted step d).bits ++ written) (change_delete d.bits (counted step d).bits written ∙ cuts_delete k)
+    narrowed_delete (counting_after step d).bits step made (width_change d.bits (counting_after step d).bits ++ written) (change_delete d.bits (counting_after step d).bits written ∙ cuts_delete k)
 
 -- `GoOn steps` holds if none of the steps is an `End`.
 abbrev GoOn : List Step → Type 0
@@ -258,7 +258,7 @@ cuts_go_on : {c d : Counting} {made written : List Step} → TruncatesHashes c m
 cuts_go_on none_made h = tt
 cuts_go_on (ask_begun k) h = cuts_go_on k h
 cuts_go_on (one_made {d = d} {written = written} step keeps k) h =
-    (narrowed_goes_on (counted step d).bits step h.0, reported_goes_on d.bits (counted step d).bits written (cuts_go_on k h.1))
+    (narrowed_goes_on (counting_after step d).bits step h.0, reported_goes_on d.bits (counting_after step d).bits written (cuts_go_on k h.1))
 
 -- `EndsWith steps` holds if the last step is an `End`, and no other step is.
 pub record EndsWith (steps : List Step) : Type 0 where
@@ -273,9 +273,9 @@ cuts_end (one_made {d = d} {made = earlier} {written = written} step keeps k) ma
     let is : step ≡ End = cc in
     let rest : earlier ≡ made = cc in
     record {
-      before = width_change d.bits (counted step d).bits ++ written;
-      last = ap (λ x. narrowed (counted step d).bits x ∷ (width_change d.bits (counted step d).bits ++ written)) is;
-      goes_on = reported_goes_on d.bits (counted step d).bits written (cuts_go_on k (subst GoOn (sym rest) h));
+      before = width_change d.bits (counting_after step d).bits ++ written;
+      last = ap (λ x. narrowed (counting_after step d).bits x ∷ (width_change d.bits (counting_after step d).bits ++ written)) is;
+      goes_on = reported_goes_on d.bits (counting_after step d).bits written (cuts_go_on k (subst GoOn (sym rest) h));
     }
 
 module _ {j : ScriptState} {all written : List Step} {cs : List Command} {os : List Outcome} {counts : List ℕ} {c d : Counting} (follows : ServesCommands j [] all cs os counts) (cuts : TruncatesHashes c (End ∷ all) written d) where

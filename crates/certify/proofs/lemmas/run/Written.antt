@@ -3,15 +3,15 @@ use Rattle.std.proofs.Common.{ℕ, ◌≡◌, ◌∙◌, Bool, true, false, eqb,
 use Rattle.std.proofs.lemmas.Bool.{eqb-true}
 use mathlib.Core.Path.{fun_ext}
 use Rattle.sat_base.specs.steps.Steps.{Step, SolverVarName, UserVarName, ChangeHashBits}
-use Rattle.sat_checker.specs.matching.Checking.{is_ordered, variable_of}
-use Rattle.sat_checker.specs.matching.Expected.{Outcome, Expected, Opens, Closes, Fits, new_name, no_name, adds, opens, shows, fails, closes, finish, EachSpelt, SameSet}
+use Rattle.sat_checker.specs.matching.Checking.{is_ordered, variable_named}
+use Rattle.sat_checker.specs.matching.Expected.{Outcome, Expected, Opens, Closes, FitsExpected, new_name, no_name, adds, opens, shows, fails, closes, finish, EachHasItsLiteral, IsSameLiteralSet}
 use Rattle.sat_checker.specs.matching.ProofChecking.{checker_rules}
-use Rattle.sat_solver.specs.proof.Counting.{nothing_counted, counted, width_change, written_for, TruncatesHashes, none_made, ask_begun, one_made}
+use Rattle.sat_solver.specs.proof.Counting.{nothing_counted, counting_after, width_change, written_for, TruncatesHashes, none_made, ask_begun, one_made}
 use Rattle.sat_solver.specs.session.Session.{AreAllowedSteps}
-use Rattle.sat_solver.specs.proof.Widths.{IsNarrowedTo, none_yet, width_changes, one_more, KeepsWidth, MayAt, narrowed}
+use Rattle.sat_solver.specs.proof.Widths.{IsNarrowedTo, none_yet, width_changes, one_more, KeepsWidth, IsAllowedAtWidth, narrowed}
 use Rattle.sat_solver.proofs.lemmas.session.Narrowing.{widths_are_free}
 use Rattle.sat_solver.proofs.lemmas.session.StepLemmas.{sessions_are_accepted}
-use Rattle.certify.specs.run.Certifies.{Certifies, complete, left_out, other, ordered, asked, answered, IsRecorded, MayOccur}
+use Rattle.certify.specs.run.Certifies.{Certifies, complete, left_out, other, ordered, asked, answered, HasRecordedUnsat, CanHaveStep}
 use Rattle.certify.proofs.lemmas.run.Recorded.{recorded_at}
 
 -- STEP BY STEP
@@ -38,7 +38,7 @@ one_narrowed {e} {w} {made} {written} before now step k false same n =
 narrows : {c d : _} {e w made written : List Step} → c ≡ nothing_counted → TruncatesHashes c e w d → Narrows e w d.bits made written → Narrows [] [] 64 made written
 narrows {made = made} {written = written} s none_made n = subst (λ x. Narrows [] [] x.bits made written) s n
 narrows s (ask_begun p) n = narrows s p n
-narrows s (one_made {d = d} step k p) n = narrows s p (one_narrowed d.bits (counted step d).bits step k (eqb d.bits (counted step d).bits) refl n)
+narrows s (one_made {d = d} step k p) n = narrows s p (one_narrowed d.bits (counting_after step d).bits step k (eqb d.bits (counting_after step d).bits) refl n)
 
 -- THE NEXT STEP
 
@@ -77,19 +77,19 @@ quiet_narrowed bits (SolverVarName v s) = refl
 quiet_narrowed bits step = refl
 
 -- the variables of names after one more step
-variable_narrowed : (bits : ℕ) (step : Step) (w e : List Step) (name : ℕ) → variable_of w name ≡ variable_of e name → variable_of (narrowed bits step ∷ w) name ≡ variable_of (step ∷ e) name
+variable_narrowed : (bits : ℕ) (step : Step) (w e : List Step) (name : ℕ) → variable_named w name ≡ variable_named e name → variable_named (narrowed bits step ∷ w) name ≡ variable_named (step ∷ e) name
 variable_narrowed bits (UserVarName v (Some i)) w e name h = rw h refl
 variable_narrowed bits (UserVarName v None) w e name h = rw h refl
 variable_narrowed bits step w e name h = h
 
-variable_written : {e w : List Step} {width : ℕ} → IsNarrowedTo e w width → (name : ℕ) → variable_of w name ≡ variable_of e name
+variable_written : {e w : List Step} {width : ℕ} → IsNarrowedTo e w width → (name : ℕ) → variable_named w name ≡ variable_named e name
 variable_written none_yet name = refl
 variable_written (width_changes bits p) name = variable_written p name
 variable_written (one_more {wide = e} {written = w} {width = width} step k p) name = variable_narrowed width step w e name (variable_written p name)
 
 -- a checker sees the same after the written steps
 module _ (e w : List Step) (width : ℕ) (p : IsNarrowedTo e w width) (may : AreAllowedSteps e) where
-  at : MayAt e w width
+  at : IsAllowedAtWidth e w width
   at = widths_are_free e w width p may
 
   pub unsat_same : checker_rules.unsat w ≡ checker_rules.unsat e
@@ -99,29 +99,29 @@ module _ (e w : List Step) (width : ℕ) (p : IsNarrowedTo e w width) (may : Are
   knows_same = fun_ext (λ v.
       ap (λ f. (f v).known) (sessions_are_accepted w at.may).1.variables ∙ ap (λ s. (s.variables v).known) at.session ∙ sym (ap (λ f. (f v).known) (sessions_are_accepted e may).1.variables))
 
-  names_same : variable_of w ≡ variable_of e
+  names_same : variable_named w ≡ variable_named e
   names_same = fun_ext (variable_written p)
 
   -- unsat is recorded after the written steps if it is after the steps that were made
-  pub recorded_same : IsRecorded checker_rules e → IsRecorded checker_rules w
+  pub recorded_same : HasRecordedUnsat checker_rules e → HasRecordedUnsat checker_rules w
   recorded_same r = recorded_at w at.may (unsat_same ∙ r.recorded)
 
-  pub stands_same : (x : Expected) → MayOccur (checker_rules.unsat e) x → MayOccur (checker_rules.unsat w) x
-  stands_same x = subst (λ b. MayOccur b x) (sym unsat_same)
+  pub stands_same : (x : Expected) → CanHaveStep (checker_rules.unsat e) x → CanHaveStep (checker_rules.unsat w) x
+  stands_same x = subst (λ b. CanHaveStep b x) (sym unsat_same)
 
   known_not : (v : ℕ) → checker_rules.knows e v ≡ false → checker_rules.knows w v ≡ false
   known_not v h = ap (λ f. f v) knows_same ∙ h
 
-  set_same : (ls : _) (c : List ℕ) → SameSet (variable_of e) ls c → SameSet (variable_of w) ls c
-  set_same ls c = subst (λ f. SameSet f ls c) (sym names_same)
+  set_same : (ls : _) (c : List ℕ) → IsSameLiteralSet (variable_named e) ls c → IsSameLiteralSet (variable_named w) ls c
+  set_same ls c = subst (λ f. IsSameLiteralSet f ls c) (sym names_same)
 
   -- a step that fits an expected one fits it as written
-  pub fits_same : (bits : ℕ) (x : Expected) (step : Step) → Fits (checker_rules.knows e) e x step → Fits (checker_rules.knows w) w x (narrowed bits step)
+  pub fits_same : (bits : ℕ) (x : Expected) (step : Step) → FitsExpected (checker_rules.knows e) e x step → FitsExpected (checker_rules.knows w) w x (narrowed bits step)
   fits_same bits x step (new_name {v = v} h k) = new_name h (known_not v k)
   fits_same bits x step (no_name {name = name} h) = no_name (ap (λ f. f name) names_same ∙ h)
   fits_same bits x step (adds {ls = ls} {c = c} h) = adds (set_same ls c h)
   fits_same bits x step (opens {ls = ls} {c = c} h) = opens (set_same ls c h)
-  fits_same bits x step (shows {line = line} {c = c} h k m) = shows h (subst (λ f. EachSpelt f line c) (sym names_same) k) m
+  fits_same bits x step (shows {line = line} {c = c} h k m) = shows h (subst (λ f. EachHasItsLiteral f line c) (sym names_same) k) m
   fits_same bits x step (fails {core = core} {c = c} h) = fails (set_same core c h)
   fits_same bits x step closes = closes
   fits_same bits x step finish = finish

@@ -1,9 +1,9 @@
 -- A text has at most two more commands than bytes.
 use Rattle.std.proofs.Common.{ℕ, ◌+◌, ◌≤◌, ◌<◌, ◌≡◌, ◌∙◌, Bool, true, false, not, ◌&&◌, cond, nat_eq, is_some, List, [], ◌∷◌, ◌++◌, length, length-append, refl, sym, subst, arith}
 use Rattle.std.proofs.lemmas.List.{length-map}
-use Rattle.sat_base.specs.text.Text.{Token, is_blank, goes_on, begins_with, header_if, dimacs_header, is_none, lines, prepend_to_first, on_line, words, token, tokens, tokens_of, scan}
+use Rattle.sat_base.specs.text.Text.{Token, is_blank, begins_nonblank, first_nonblank_is, header_if, dimacs_header, has_no_words, lines, prepend_to_first, tokens_on_line, words, token, tokens, tokens_of, scan}
 use Rattle.sat_base.specs.script.Script.{Command, Ask, Clean, Malformed, has_ask, is_clean}
-use Rattle.sat_base.specs.script.Language.{Reading, PartialCommand, Nothing, Within, CommandTokenEffect, GoesOn, Ends, Fails, command_at_end, after_command_token_effect, commands_of, prepend_commands, reading, without_lines, command_token_effect, with_ask, plain_reading}
+use Rattle.sat_base.specs.script.Language.{Reading, PartialCommand, NoCommand, InCommand, CommandTokenEffect, Continues, EndsCommand, Fails, script_ending_here, after_command_token_effect, commands_of, prepend_commands, reading, without_lines, command_token_effect, with_ask, plain_reading}
 use Rattle.certify.specs.confirm.VerdictPromises.{command_count}
 
 -- WORDS AND LINES
@@ -14,7 +14,7 @@ firsts b (w ∷ ws) = omega arith
 
 words_next : (b : ℕ) (bs : List ℕ) → length (words (b ∷ bs)) ≤ length (words bs) + 1
 unfolding words
-words_next b bs = go (is_blank b) (goes_on bs)
+words_next b bs = go (is_blank b) (begins_nonblank bs)
   where
     go : (x y : Bool) → length (cond x (words bs) (cond y (prepend_to_first b (words bs)) ((b ∷ []) ∷ words bs))) ≤ length (words bs) + 1
     go true y = omega arith
@@ -56,29 +56,29 @@ few_bytes (b ∷ bs) = let h = few_bytes bs in let k = lines_next b bs in omega 
 
 -- TOKENS
 
-begins_none : (c : ℕ) → begins_with c [] ≡ false
-unfolding begins_with
+begins_none : (c : ℕ) → first_nonblank_is c [] ≡ false
+unfolding first_nonblank_is
 begins_none c = refl
 
-begins_some : (c : ℕ) (line : List ℕ) → begins_with c line ≡ true → 0 < length line
+begins_some : (c : ℕ) (line : List ℕ) → first_nonblank_is c line ≡ true → 0 < length line
 begins_some c [] e = absurd (let k : false ≡ true = sym (begins_none c) ∙ e in cc)
 begins_some c (b ∷ bs) e = omega arith
 
 joined : (xs ys : List (ℕ × Token)) (a b : ℕ) → length xs ≤ a → length ys ≤ b → length (xs ++ ys) ≤ a + b
 joined xs ys a b h k = let l = length-append xs ys in omega arith
 
-lined : (n : ℕ) (line : List ℕ) → length (on_line n (words line)) ≤ length line
+lined : (n : ℕ) (line : List ℕ) → length (tokens_on_line n (words line)) ≤ length line
 lined n line = subst (λ k. k ≤ length line) (sym (length-map (words line) (λ w. (n, token w)))) (few_words line)
 
 tokens_next : (may : Bool) (n : ℕ) (line : List ℕ) (ls : List (List ℕ)) → ((m : Bool) (k : ℕ) → length (tokens_of m k ls) ≤ total ls) → length (tokens_of may n (line ∷ ls)) ≤ length line + total ls
 unfolding tokens_of
-tokens_next may n line ls ih = go (begins_with 37 line) (begins_with 99 line) (begins_with 112 line) refl
+tokens_next may n line ls ih = go (first_nonblank_is 37 line) (first_nonblank_is 99 line) (first_nonblank_is 112 line) refl
   where
-    go : (x y z : Bool) → begins_with 112 line ≡ z → length (cond x [] (cond y (tokens_of may (n + 1) ls) (cond z ((n + 1, header_if may line) ∷ tokens_of false (n + 1) ls) (on_line (n + 1) (words line) ++ tokens_of (may && is_none (words line)) (n + 1) ls)))) ≤ length line + total ls
+    go : (x y z : Bool) → first_nonblank_is 112 line ≡ z → length (cond x [] (cond y (tokens_of may (n + 1) ls) (cond z ((n + 1, header_if may line) ∷ tokens_of false (n + 1) ls) (tokens_on_line (n + 1) (words line) ++ tokens_of (may && has_no_words (words line)) (n + 1) ls)))) ≤ length line + total ls
     go true y z e = omega arith
     go false true z e = let h = ih may (n + 1) in omega arith
     go false false true e = let h = ih false (n + 1) in let k = begins_some 112 line e in omega arith
-    go false false false e = joined (on_line (n + 1) (words line)) (tokens_of (may && is_none (words line)) (n + 1) ls) (length line) (total ls) (lined (n + 1) line) (ih (may && is_none (words line)) (n + 1))
+    go false false false e = joined (tokens_on_line (n + 1) (words line)) (tokens_of (may && has_no_words (words line)) (n + 1) ls) (length line) (total ls) (lined (n + 1) line) (ih (may && has_no_words (words line)) (n + 1))
 
 no_tokens : (may : Bool) (n : ℕ) → length (tokens_of may n []) ≤ 0
 unfolding tokens_of
@@ -105,7 +105,7 @@ one_more : (c : Command) (r : Reading) → command_count (prepend_commands (c �
 one_more c (cs, Clean) = omega arith
 one_more c (cs, Malformed) = omega arith
 
-commands_none : (hand : PartialCommand) → commands_of hand [] ≡ ([], command_at_end hand)
+commands_none : (hand : PartialCommand) → commands_of hand [] ≡ ([], script_ending_here hand)
 unfolding commands_of
 commands_none hand = refl
 
@@ -113,13 +113,13 @@ commands_next : (hand : PartialCommand) (t : Token) (ts : List Token) → comman
 unfolding commands_of
 commands_next hand t ts = refl
 
-few_none : (hand : PartialCommand) → command_count ([], command_at_end hand) ≤ 1
-few_none Nothing = omega arith
-few_none (Within k ls) = omega arith
+few_none : (hand : PartialCommand) → command_count ([], script_ending_here hand) ≤ 1
+few_none NoCommand = omega arith
+few_none (InCommand k ls) = omega arith
 
 few_turn : (u : CommandTokenEffect) (more : PartialCommand → Reading) (n : ℕ) → ((h : PartialCommand) → command_count (more h) ≤ n + 1) → command_count (after_command_token_effect u more) ≤ n + 1 + 1
-few_turn (GoesOn hand) more n f = let h = f hand in omega arith
-few_turn (Ends c) more n f = let h = f Nothing in let e = one_more c (more Nothing) in omega arith
+few_turn (Continues hand) more n f = let h = f hand in omega arith
+few_turn (EndsCommand c) more n f = let h = f NoCommand in let e = one_more c (more NoCommand) in omega arith
 few_turn Fails more n f = omega arith
 
 few_commands : (hand : PartialCommand) (ts : List Token) → command_count (commands_of hand ts) ≤ length ts + 1
@@ -143,7 +143,7 @@ few_spoken text = subst (λ k. k ≤ length text) (sym (length-map (tokens text)
 
 few_written : (text : List ℕ) → command_count (plain_reading text) ≤ length text + 1
 unfolding plain_reading
-few_written text = one_past (command_count (plain_reading text)) (length (without_lines (tokens text))) (length text) (few_commands Nothing (without_lines (tokens text))) (few_spoken text)
+few_written text = one_past (command_count (plain_reading text)) (length (without_lines (tokens text))) (length text) (few_commands NoCommand (without_lines (tokens text))) (few_spoken text)
 
 two_past : (a b c : ℕ) → a ≤ b + 1 → b ≤ c + 1 → a ≤ c + 2
 two_past a b c h k = omega arith

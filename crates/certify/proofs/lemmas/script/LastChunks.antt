@@ -1,24 +1,25 @@
 -- No chunk of a script is read after the line that ends the text.
-use Rattle.std.proofs.Common.{◌≡◌, ℕ, ◌+◌, ◌-◌, ◌≤◌, List, [], ◌∷◌, ◌++◌, length, take, drop, Option, Some, None, Ok, Err, refl, sym, ap, subst, ◌∙◌, append_assoc, arith}
-use Rattle.std.proofs.lemmas.List.{append-nil, append_cancel_left}
+use Rattle.std.proofs.Common.{◌≡◌, ℕ, zero, suc, ◌+◌, ◌-◌, ◌≤◌, ◌<◌, List, [], ◌∷◌, ◌++◌, length, take, drop, Option, Some, None, Result, Ok, Err, refl, sym, ap, subst, ◌∙◌, append_assoc, arith}
+use Rattle.std.proofs.lemmas.List.{append-nil, append_cancel_left, length-take}
 use Rattle.std.specs.Io.KnownBytes.{Consumes, prepend_known}
 use Rattle.sat_base.specs.declared.device.whole.ReadError.{ReadError}
 use Rattle.sat_base.specs.declared.device.whole.ReadError.TheVariants as errors
 use Rattle.sat_base.specs.declared.text.Token.{Token as CodeToken}
 use Rattle.sat_base.specs.declared.text.Tokenizer.{Tokenizer}
-use Rattle.sat_base.specs.device.Device.{Reader, GavePrefix}
+use Rattle.sat_base.specs.device.Device.{Reader, GavePrefix, max_read_size}
 use Rattle.sat_base.specs.device.Reading.{Source, to_come}
-use Rattle.sat_base.specs.dimacs.Parsing.{EndsInLastPiece, StopsReading}
+use Rattle.sat_base.specs.dimacs.Parsing.{EndsInLastPiece, LastReadGaveBytes, MakesNoReadAfterEnd}
 use Rattle.sat_base.specs.text.Chunks.{IgnoresRest}
 use Rattle.sat_base.specs.text.Position.{prepend_tokens}
 use Rattle.sat_base.specs.text.Text.{Token, Scan, HasEnded, scan}
-use Rattle.sat_base.specs.text.Tokenizing.{IsPositionedBefore, ReceivesPrefix}
+use Rattle.sat_base.specs.text.Tokenizing.{capped, HasRemainingScan, ReceivesPrefix}
 use Rattle.sat_base.proofs.lemmas.device.Known.{consumes_more, consumes_none}
-use Rattle.sat_base.proofs.lemmas.dimacs.ReadToEnd.{stops_after, stops_none}
+use Rattle.sat_base.proofs.lemmas.dimacs.ReadToEnd.{none_has_ended, stops_after, stops_none}
 use Rattle.certify.specs.script.Commands.{RestMatters}
-use Rattle.certify.specs.script.LastChunk.{HasConsumed, ConsumesText, ReadsOn, KeepsReadingOn, ReadsOnUpTo}
+use Rattle.certify.specs.script.LastChunk.{HasConsumed, ConsumesText, AccountsForBytes, EndsAtLine, KeepsAccount}
 use Rattle.certify.specs.script.LastPiece.{RefillsAhead, source_in, waiting_bytes}
-use Rattle.certify.specs.script.Streaming.{TakesWaiting}
+use Rattle.certify.specs.script.Streaming.{ConsumesWaiting}
+use Rattle.certify.specs.declared.script.ahead.LastPiece.{LastPiece}
 use Rattle.certify.specs.declared.script.Reached.{Reached}
 use Rattle.certify.specs.declared.script.commands.Commands.{Commands}
 use Rattle.certify.specs.declared.script.reader.ScriptReader.{ScriptReader}
@@ -29,7 +30,7 @@ use Rattle.certify.proofs.lemmas.script.Bytes.{front_and, reader}
 -- CONSUMED TEXTS
 
 -- nothing was consumed at the start of a script
-pub consumed_first : (tokenizer : Tokenizer) (commands : Commands) → IsPositionedBefore tokenizer scan → HasConsumed (reader tokenizer commands) []
+pub consumed_first : (tokenizer : Tokenizer) (commands : Commands) → HasRemainingScan tokenizer scan → HasConsumed (reader tokenizer commands) []
 consumed_first tokenizer commands s = record { before = []; left_of = scan; valid = s; scans = λ rest. refl }
 
 -- a tokenizer received bytes
@@ -99,12 +100,12 @@ gave_on start a b text fresh none all gave loans known g =
     }
 
 -- a reader that reads on has given no chunk too many
-pub stops_on : (start : Reader) (s : Source) (r : ScriptReader) → ReadsOn start s r → StopsReading start s.reader
-stops_on start s r h = (h.text ++ s.waiting, h.front, h.last)
+pub stops_on : (start : Reader) (s : Source) (r : ScriptReader) → AccountsForBytes start s r → MakesNoReadAfterEnd start s.reader
+stops_on start s r h = (h.text ++ s.waiting, h.front, h.last, h.gave)
 
 -- bytes that were waiting are consumed
 pub reads_waiting : (start r : Reader) (n m : ℕ) (ws vs text : List ℕ) (old new : ScriptReader) → ws ≡ text ++ vs → ConsumesText old text new
-    → ReadsOn start (record { reader = r; waiting = ws; reads = n; names = [] }) old → ReadsOn start (record { reader = r; waiting = vs; reads = m; names = [] }) new
+    → AccountsForBytes start (record { reader = r; waiting = ws; reads = n; names = [] }) old → AccountsForBytes start (record { reader = r; waiting = vs; reads = m; names = [] }) new
 reads_waiting start r n m ws vs text old new e f h =
     let whole : h.text ++ ws ≡ (h.text ++ text) ++ vs = ap (λ (z : List ℕ). h.text ++ z) e ∙ sym (append_assoc h.text text vs) in
     record {
@@ -112,11 +113,18 @@ reads_waiting start r n m ws vs text old new e f h =
       consumed = f h.text h.consumed;
       front = subst (GavePrefix start r) whole h.front;
       last = subst EndsInLastPiece whole h.last;
+      gave = subst (λ (z : List ℕ). HasEnded z → LastReadGaveBytes start r) whole h.gave;
     }
 
+-- the last read gave bytes if the text has ended in them
+chunk_last : (start : Reader) (n : ℕ) (a b : Source) (text : List ℕ) → b.reads ≡ a.reads + 1 → RefillsAhead (Ok n) a b → (0 < n → LastReadGaveBytes a.reader b.reader) → (HasEnded text → ⊥) → HasEnded (text ++ b.waiting) → LastReadGaveBytes start b.reader
+chunk_last start zero a b text once f last going ended = absurd (going (subst HasEnded (ap (λ (z : List ℕ). text ++ z) (f.1 refl).waiting ∙ append-nil text) ended))
+chunk_last start (suc n) a b text once f last going ended = λ called. let k = f.0.calls in last (omega arith) (omega arith)
+
 -- another chunk is read
-pub reads_chunk : (start : Reader) (n : ℕ) (a b : Source) (r : ScriptReader) → a.waiting ≡ [] → b.reads ≡ a.reads + 1 → RestMatters r → RefillsAhead (Ok n) a b → ReadsOn start a r → ReadsOn start b r
-reads_chunk start n a b r none once matters f h =
+pub reads_chunk : (start : Reader) (n : ℕ) (a b : Source) (r : ScriptReader) → a.waiting ≡ [] → b.reads ≡ a.reads + 1 → RestMatters r → (0 < n → LastReadGaveBytes a.reader b.reader) → RefillsAhead (Ok n) a b → AccountsForBytes start a r
+    → AccountsForBytes start b r
+reads_chunk start n a b r none once matters last f h =
     let k = f.0 in
     let all : k.fresh ≡ b.waiting = ap (λ (z : List ℕ). z ++ k.fresh) (sym none) ∙ k.flows in
     let long : length k.fresh ≡ length b.waiting = ap length all in
@@ -126,32 +134,74 @@ reads_chunk start n a b r none once matters f h =
       consumed = h.consumed;
       front = gave_on start a b h.text k.fresh none all k.gave k.loans k.bytes h.front;
       last = stops_after h.text b.waiting (consumed_open r h.text h.consumed matters) (omega arith);
+      gave = chunk_last start n a b h.text once f last (consumed_open r h.text h.consumed matters);
     }
 
 -- a read that failed gave nothing
-pub reads_none : (start : Reader) (e : ReadError) (a b : Source) (r : ScriptReader) → a.waiting ≡ [] → RefillsAhead (Err e) a b → ReadsOn start a r → StopsReading start b.reader
-reads_none start errors.Failed a b r none f h =
+pub reads_none : (start : Reader) (e : ReadError) (a b : Source) (r : ScriptReader) → a.waiting ≡ [] → RestMatters r → RefillsAhead (Err e) a b → AccountsForBytes start a r → MakesNoReadAfterEnd start b.reader
+reads_none start errors.Failed a b r none matters f h =
     let all : f.fresh ≡ b.waiting = ap (λ (z : List ℕ). z ++ f.fresh) (sym none) ∙ f.flows ∙ sym f.none in
-    let same : h.text ++ a.waiting ≡ h.text ++ b.waiting = ap (λ (z : List ℕ). h.text ++ z) (none ∙ sym f.none) in
-    (h.text ++ b.waiting, gave_on start a b h.text f.fresh none all f.gave f.loans f.bytes h.front, subst EndsInLastPiece same h.last)
-reads_none start errors.OutOfMemory a b r none f h = absurd f
+    let same : h.text ++ a.waiting ≡ h.text ++ b.waiting = ap (λ (z : List ℕ). h.text ++ z) (none ∙ sym f.none) in (
+      h.text ++ b.waiting,
+      gave_on start a b h.text f.fresh none all f.gave f.loans f.bytes h.front,
+      subst EndsInLastPiece same h.last,
+      λ ended. absurd (consumed_open r h.text h.consumed matters (subst HasEnded (ap (λ (z : List ℕ). h.text ++ z) f.none ∙ append-nil h.text) ended)),
+    )
+reads_none start errors.OutOfMemory a b r none matters f h = absurd f
+
+-- RESULTS
+
+-- whatever is returned, all bytes are accounted for
+pub keeps_any : {T E : Type 0} (r : Result T E) (a b : Source) (old new : ScriptReader) → ((start : Reader) → AccountsForBytes start a old → AccountsForBytes start b new) → KeepsAccount r a b old new
+keeps_any (Ok x) a b old new f = f
+keeps_any (Err e) a b old new f = λ start h. stops_on start b new (f start h)
+
+-- whatever is returned, no read was made after the end
+pub keeps_stops : {T E : Type 0} (r : Result T E) (a b : Source) (old new : ScriptReader) (start : Reader) → KeepsAccount r a b old new → AccountsForBytes start a old → MakesNoReadAfterEnd start b.reader
+keeps_stops (Ok x) a b old new start f h = stops_on start b new (f start h)
+keeps_stops (Err e) a b old new start f h = f start h
+
+-- at the end of the text, the tokenizer is left as it is
+pub finishes_account : (start : Reader) (s : Source) (old new : ScriptReader) → new.tokenizer ≡ old.tokenizer → AccountsForBytes start s old → AccountsForBytes start s new
+finishes_account start s old new same h = record {
+  text = h.text;
+  consumed = record { before = h.consumed.before; left_of = h.consumed.left_of; valid = subst (λ (t : Tokenizer). HasRemainingScan t h.consumed.left_of) (sym same) h.consumed.valid; scans = h.consumed.scans };
+  front = h.front;
+  last = h.last;
+  gave = h.gave;
+}
 
 -- ONE AFTER ANOTHER
 
-module _ (a b c : Source) (old mid new : ScriptReader) (f : (start : Reader) → ReadsOn start a old → ReadsOn start b mid) where
-  pub reads_then_err : {E : Type 0} (e : E) → KeepsReadingOn {E = E} (Err e) b c mid new → ReadsOnUpTo {E = E} (Err e) a c old new
+module _ (a b c : Source) (old mid new : ScriptReader) (f : (start : Reader) → AccountsForBytes start a old → AccountsForBytes start b mid) where
+  pub reads_then_err : {E : Type 0} (e : E) → KeepsAccount {T = Option Next} {E = E} (Err e) b c mid new → KeepsAccount {T = Next} {E = E} (Err e) a c old new
   reads_then_err e g start h = g start (f start h)
 
-  pub reads_then_next : (E : Type 0) (n : Next) → KeepsReadingOn {E = E} (Ok (Some n)) b c mid new → ReadsOnUpTo {E = E} (Ok n) a c old new
+  pub reads_then_next : (E : Type 0) (n : Next) → KeepsAccount {T = Option Next} {E = E} (Ok (Some n)) b c mid new → KeepsAccount {T = Next} {E = E} (Ok n) a c old new
   reads_then_next E n g start h = g start (f start h)
 
-  pub reads_then_on : (E : Type 0) → KeepsReadingOn {E = E} (Ok None) b c mid new → (start : Reader) → ReadsOn start a old → ReadsOn start c new
+  pub reads_then_on : (E : Type 0) → KeepsAccount {T = Option Next} {E = E} (Ok None) b c mid new → (start : Reader) → AccountsForBytes start a old → AccountsForBytes start c new
   reads_then_on E g start h = g start (f start h)
+
+-- THE LINE OF THE LAST BYTE
+
+-- the number of lines counted is that of the text consumed
+pub line_number : (r : ScriptReader) (line : ℕ) → ((before : List ℕ → Scan) → HasRemainingScan r.tokenizer before → line ≡ capped (before []).last) → (text : List ℕ) → HasConsumed r text → line ≡ capped (scan text).last
+line_number r line f text h =
+    let all : scan text ≡ prepend_tokens h.before (h.left_of []) = sym (ap scan (append-nil text)) ∙ h.scans [] in
+    f h.left_of h.valid ∙ ap (λ (k : Scan). capped k.last) (sym all)
+
+-- at most one chunk waits
+pub waiting_few : (a : LastPiece) → a.end ≤ 4096 → length (waiting_bytes a) ≤ max_read_size
+waiting_few a h = let l = length-take (a.end - a.at) (drop a.at a.piece) in omega arith
+
+pub ends_at_line : (start : Reader) (s : Source) (r : ScriptReader) (line : ℕ) → length s.waiting ≤ max_read_size → ((text : List ℕ) → HasConsumed r text → line ≡ capped (scan text).last) → AccountsForBytes start s r → EndsAtLine start s.reader line
+ends_at_line start s r line few number h = record { text = h.text; rest = s.waiting; front = h.front; few = few; number = number h.text h.consumed }
 
 -- THE START
 
 -- nothing was read yet
-pub reads_first : (start : Reader) (s : Source) (r : ScriptReader) → s.reader ≡ start → s.waiting ≡ [] → HasConsumed r [] → ReadsOn start s r
+pub reads_first : (start : Reader) (s : Source) (r : ScriptReader) → s.reader ≡ start → s.waiting ≡ [] → HasConsumed r [] → AccountsForBytes start s r
 reads_first start s r same none h = record {
   text = [];
   consumed = h;
@@ -161,15 +211,12 @@ reads_first start s r same none h = record {
     loans = ap (λ (x : Reader). x.loans) same;
   };
   last = subst EndsInLastPiece (sym none) stops_none;
+  gave = λ ended. absurd (none_has_ended (subst HasEnded none ended));
 }
 
 -- THE STREAM OF COMMANDS
 
 module _ {R : Type 0} (seen : R → Reader) (r : R) (old new : CommandStream) where
   -- bytes that were waiting are consumed
-  pub keeps_taken : (q : Reached) → TakesWaiting {E = ReadError} (Ok q) old new → (start : Reader) → ReadsOn start (source_in seen r old.ahead) old.reader → ReadsOn start (source_in seen r new.ahead) new.reader
+  pub keeps_taken : (q : Reached) → ConsumesWaiting {E = ReadError} (Ok q) old new → (start : Reader) → AccountsForBytes start (source_in seen r old.ahead) old.reader → AccountsForBytes start (source_in seen r new.ahead) new.reader
   keeps_taken q t start h = reads_waiting start (seen r) old.ahead.reads new.ahead.reads (waiting_bytes old.ahead) (waiting_bytes new.ahead) t.0 old.reader new.reader t.1 t.5 h
-
-  -- nothing more is read
-  pub keeps_still : (start : Reader) → ReadsOn start (source_in seen r old.ahead) old.reader → StopsReading start (source_in seen r new.ahead).reader
-  keeps_still start h = stops_on start (source_in seen r old.ahead) old.reader h

@@ -3,7 +3,7 @@ use Rattle.std.proofs.Common.{◌≡◌, ℕ, ◌+◌, ◌-◌, ◌<◌, ◌≤�
 use Rattle.std.proofs.lemmas.List.{append-nil, drop-drop, drop-take, length-take}
 use Rattle.std.specs.Io.KnownBytes.{Consumes, prepend_known}
 use Rattle.sat_base.specs.device.Device.{Reader, ReadsOnce}
-use Rattle.sat_base.specs.device.Reading.{Source, ConsumesWithReads, ConsumesBytes, AllTaken, none_given}
+use Rattle.sat_base.specs.device.Reading.{Source, ConsumesWithReads, ConsumesBytes, IsFullyConsumed, one_if_none_given}
 use Rattle.sat_base.proofs.lemmas.device.ReadLemmas.{refilled}
 use Rattle.certify.specs.script.LastPiece.{RefillsAhead}
 
@@ -24,7 +24,7 @@ refills_so count a b ws room n r within size e =
     let shape : drop 0 (take count room) ≡ take (count - 0) (drop 0 room) = rw all refl in
     let some : 0 < length room = omega arith in
     let most : length room ≤ 4096 = omega arith in
-    subst (λ (vs : List ℕ). ConsumesWithReads (none_given count) old (new vs) [] × (count ≡ 0 → AllTaken (new vs))) shape (refilled count a b ws room [] n r within some most e)
+    subst (λ (vs : List ℕ). ConsumesWithReads (one_if_none_given count) old (new vs) [] × (count ≡ 0 → IsFullyConsumed (new vs))) shape (refilled count a b ws room [] n r within some most e)
 
 consumes_front : (k : Option (List ℕ)) (ws vs text : List ℕ) → ws ≡ text ++ vs → Consumes (prepend_known ws k) (prepend_known vs k) text
 consumes_front None ws vs text e = tt

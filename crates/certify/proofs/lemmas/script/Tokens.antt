@@ -6,9 +6,9 @@ use Rattle.sat_base.specs.declared.text.Token.TheVariants as code
 use Rattle.sat_base.specs.text.Text.{Token, Number, Letter, Header, Wrong}
 use Rattle.sat_base.specs.text.Tokenizing.{capped, capped_token}
 use Rattle.sat_base.specs.script.Script.{Literal, Command, Ask, ScriptEnding, Clean, Malformed, has_ask, is_clean}
-use Rattle.sat_base.specs.script.Language.{Reading, prepend_commands, Kind, OfClause, command_of, PartialCommand, Nothing, Within, CommandTokenEffect, GoesOn, Ends, Fails, command_in, allows_sign, literal_effect, kind_of_letter, beginning, with_letter, command_token_effect, command_at_end, after_command_token_effect, commands_of, with_ask}
+use Rattle.sat_base.specs.script.Language.{Reading, prepend_commands, Kind, OfClause, command_of, PartialCommand, NoCommand, InCommand, CommandTokenEffect, Continues, EndsCommand, Fails, command_in, allows_sign, literal_effect, kind_of_letter, kind_effect, letter_effect, command_token_effect, script_ending_here, after_command_token_effect, commands_of, with_ask}
 use Rattle.sat_base.proofs.lemmas.script.ScriptSpellings.{commands_of_nil, commands_of_cons}
-use Rattle.certify.specs.script.Commands.{kind_of, is_ask_kind, IsWholeCommand, HoldsPartialCommand, opened, is_header, any_header, remaining_reading, TakesToken, end_if}
+use Rattle.certify.specs.script.Commands.{kind_of, is_ask_kind, IsWholeCommand, HoldsPartialCommand, or_empty_clause, is_header, has_header, remaining_reading, ReceivesToken, end_reading_if}
 use Rattle.certify.specs.declared.script.Reached.TheVariants as reached
 use Rattle.certify.specs.declared.script.ScriptEnd.TheVariants as ends
 use Rattle.certify.specs.declared.script.draft.Draft.{Draft}
@@ -68,37 +68,37 @@ is_asked e ls = refl
 
 -- TOKENS
 following : (asks : Bool) (old : Commands) (hand : PartialCommand) (t : Token) (k : CommandTokenEffect) (ts : List Token) → command_token_effect hand t ≡ k
-    → remaining_reading asks old hand (t ∷ ts) ≡ with_ask (asks && ((old.headed || (is_header t || any_header ts)) && not old.asked)) (after_command_token_effect k (λ d. commands_of d ts))
+    → remaining_reading asks old hand (t ∷ ts) ≡ with_ask (asks && ((old.headed || (is_header t || has_header ts)) && not old.asked)) (after_command_token_effect k (λ d. commands_of d ts))
 following asks old hand t k ts e =
-    ap (with_ask (asks && ((old.headed || (is_header t || any_header ts)) && not old.asked))) (commands_of_cons hand t ts ∙ ap (λ (j : CommandTokenEffect). after_command_token_effect j (λ d. commands_of d ts)) e)
+    ap (with_ask (asks && ((old.headed || (is_header t || has_header ts)) && not old.asked))) (commands_of_cons hand t ts ∙ ap (λ (j : CommandTokenEffect). after_command_token_effect j (λ d. commands_of d ts)) e)
 
 -- a token that is no header and leaves the command unfinished
-pub goes_on : (old new : Commands) (hand next : PartialCommand) (t : Token) → is_header t ≡ false → new.headed ≡ old.headed → new.asked ≡ old.asked → command_token_effect hand t ≡ GoesOn next
+pub goes_on : (old new : Commands) (hand next : PartialCommand) (t : Token) → is_header t ≡ false → new.headed ≡ old.headed → new.asked ≡ old.asked → command_token_effect hand t ≡ Continues next
     → (asks : Bool) (ts : List Token) → remaining_reading asks old hand (t ∷ ts) ≡ remaining_reading asks new next ts
-goes_on old new hand next t w h a e asks ts = following asks old hand t (GoesOn next) ts e ∙ rw (w, h, a) refl
+goes_on old new hand next t w h a e asks ts = following asks old hand t (Continues next) ts e ∙ rw (w, h, a) refl
 
 pub fails : (old : Commands) (hand : PartialCommand) (t : Token) → command_token_effect hand t ≡ Fails → (asks : Bool) (ts : List Token) → remaining_reading asks old hand (t ∷ ts) ≡ ([], Malformed)
-fails old hand t e asks ts = following asks old hand t Fails ts e ∙ malformed_if (asks && ((old.headed || (is_header t || any_header ts)) && not old.asked))
+fails old hand t e asks ts = following asks old hand t Fails ts e ∙ malformed_if (asks && ((old.headed || (is_header t || has_header ts)) && not old.asked))
 
 -- a header
-pub header_taken : (old new : Commands) (v c : ℕ) → new ≡ record old { headed = true } → TakesToken reached.More old (Header v c) new
+pub header_taken : (old new : Commands) (v c : ℕ) → new ≡ record old { headed = true } → ReceivesToken reached.More old (Header v c) new
 header_taken old new v c e hand h =
-    let whole = λ (asks : Bool) (ts : List Token). following asks old hand (Header v c) (GoesOn hand) ts refl ∙ ap (λ (b : Bool). with_ask (asks && (b && not old.asked)) (commands_of hand ts)) (or_true old.headed) in
+    let whole = λ (asks : Bool) (ts : List Token). following asks old hand (Header v c) (Continues hand) ts refl ∙ ap (λ (b : Bool). with_ask (asks && (b && not old.asked)) (commands_of hand ts)) (or_true old.headed) in
     rw e (hand, h, whole)
 
 -- a zero
-pub zero_taken : (old new : Commands) (negative : Bool) → new.headed ≡ old.headed → new.asked ≡ (old.asked || is_ask_kind (kind_of new.draft.kind)) → HoldsPartialCommand new.draft Nothing
-    → ((hand : PartialCommand) → HoldsPartialCommand old.draft hand → IsWholeCommand new.draft (command_in hand)) → TakesToken reached.Command old (Number negative 0) new
+pub zero_taken : (old new : Commands) (negative : Bool) → new.headed ≡ old.headed → new.asked ≡ (old.asked || is_ask_kind (kind_of new.draft.kind)) → HoldsPartialCommand new.draft NoCommand
+    → ((hand : PartialCommand) → HoldsPartialCommand old.draft hand → IsWholeCommand new.draft (command_in hand)) → ReceivesToken reached.Command old (Number negative 0) new
 zero_taken old new negative h a none whole hand holds =
     let c = command_in hand in
     let w = whole hand holds in
     let k : is_ask c ≡ is_ask_kind (kind_of new.draft.kind) = ap is_ask w.2 ∙ is_asked (kind_of new.draft.kind) w.0 in
     let asked : new.asked ≡ (old.asked || is_ask c) = a ∙ ap (λ (b : Bool). old.asked || b) (sym k) in
     let read = λ (asks : Bool) (ts : List Token).
-    following asks old hand (Number negative 0) (Ends c) ts refl
-    ∙ ask_onto_if asks (old.headed || any_header ts) old.asked c (commands_of Nothing ts)
-    ∙ ap (λ (b : Bool). prepend_commands (c ∷ []) (with_ask (asks && ((old.headed || any_header ts) && not b)) (commands_of Nothing ts))) (sym asked)
-    ∙ ap (λ (b : Bool). prepend_commands (c ∷ []) (with_ask (asks && ((b || any_header ts) && not new.asked)) (commands_of Nothing ts))) (sym h) in
+    following asks old hand (Number negative 0) (EndsCommand c) ts refl
+    ∙ ask_onto_if asks (old.headed || has_header ts) old.asked c (commands_of NoCommand ts)
+    ∙ ap (λ (b : Bool). prepend_commands (c ∷ []) (with_ask (asks && ((old.headed || has_header ts) && not b)) (commands_of NoCommand ts))) (sym asked)
+    ∙ ap (λ (b : Bool). prepend_commands (c ∷ []) (with_ask (asks && ((b || has_header ts) && not new.asked)) (commands_of NoCommand ts))) (sym h) in
     (c, w, none, read)
 
 -- a literal
@@ -106,29 +106,29 @@ pub turn_number : (hand : PartialCommand) (negative : Bool) (value : ℕ) → 0 
 turn_number hand negative value some = let e : nat_eq value 0 ≡ false = grind (arith, nat_tests) in rw e refl
 
 -- a literal that the command may contain
-pub valid : (d : Draft) (hand : PartialCommand) (l : Literal) → HoldsPartialCommand d (opened hand) → allows_sign (kind_of d.kind) l.positive ≡ true
-    → (kind : Kind) × (ls : List Literal) × HoldsPartialCommand d (Within kind ls) × (literal_effect hand l ≡ GoesOn (Within kind (ls ++ l ∷ [])))
-valid d Nothing l h m = (OfClause, [], h, refl)
-valid d (Within kind ls) l h m = (kind, ls, h, let e : allows_sign kind l.positive ≡ true = ap (λ (k : Kind). allows_sign k l.positive) h.1 ∙ m in rw e refl)
+pub valid : (d : Draft) (hand : PartialCommand) (l : Literal) → HoldsPartialCommand d (or_empty_clause hand) → allows_sign (kind_of d.kind) l.positive ≡ true
+    → (kind : Kind) × (ls : List Literal) × HoldsPartialCommand d (InCommand kind ls) × (literal_effect hand l ≡ Continues (InCommand kind (ls ++ l ∷ [])))
+valid d NoCommand l h m = (OfClause, [], h, refl)
+valid d (InCommand kind ls) l h m = (kind, ls, h, let e : allows_sign kind l.positive ≡ true = ap (λ (k : Kind). allows_sign k l.positive) h.1 ∙ m in rw e refl)
 
 -- a literal with a sign that the command cannot have makes the text malformed
-pub misplaced : (d : Draft) (hand : PartialCommand) (l : Literal) → HoldsPartialCommand d (opened hand) → allows_sign (kind_of d.kind) l.positive ≡ false → literal_effect hand l ≡ Fails
-misplaced d Nothing l h m = absurd (let e : allows_sign OfClause l.positive ≡ allows_sign (kind_of d.kind) l.positive = ap (λ (k : Kind). allows_sign k l.positive) h.1 in cc)
-misplaced d (Within kind ls) l h m = let e : allows_sign kind l.positive ≡ false = ap (λ (k : Kind). allows_sign k l.positive) h.1 ∙ m in rw e refl
+pub misplaced : (d : Draft) (hand : PartialCommand) (l : Literal) → HoldsPartialCommand d (or_empty_clause hand) → allows_sign (kind_of d.kind) l.positive ≡ false → literal_effect hand l ≡ Fails
+misplaced d NoCommand l h m = absurd (let e : allows_sign OfClause l.positive ≡ allows_sign (kind_of d.kind) l.positive = ap (λ (k : Kind). allows_sign k l.positive) h.1 in cc)
+misplaced d (InCommand kind ls) l h m = let e : allows_sign kind l.positive ≡ false = ap (λ (k : Kind). allows_sign k l.positive) h.1 ∙ m in rw e refl
 
 -- a letter within a command is an error
-pub letter_inside : (d : Draft) (hand : PartialCommand) (b : ℕ) → d.is_open ≡ true → HoldsPartialCommand d hand → with_letter hand b ≡ Fails
-letter_inside d Nothing b o h = absurd (cc)
-letter_inside d (Within kind ls) b o h = refl
+pub letter_inside : (d : Draft) (hand : PartialCommand) (b : ℕ) → d.is_open ≡ true → HoldsPartialCommand d hand → letter_effect hand b ≡ Fails
+letter_inside d NoCommand b o h = absurd (cc)
+letter_inside d (InCommand kind ls) b o h = refl
 
 -- a letter that begins no command is an error
-pub letter_unknown : (hand : PartialCommand) (b : ℕ) → kind_of_letter b ≡ None → with_letter hand b ≡ Fails
-letter_unknown Nothing b e = ap beginning e
-letter_unknown (Within kind ls) b e = refl
+pub letter_unknown : (hand : PartialCommand) (b : ℕ) → kind_of_letter b ≡ None → letter_effect hand b ≡ Fails
+letter_unknown NoCommand b e = ap kind_effect e
+letter_unknown (InCommand kind ls) b e = refl
 
-pub letter_begins : (d : Draft) (hand : PartialCommand) (b : ℕ) (k : Kind) → d.is_open ≡ false → HoldsPartialCommand d hand → kind_of_letter b ≡ Some k → with_letter hand b ≡ GoesOn (Within k [])
-letter_begins d Nothing b k o h e = ap beginning e
-letter_begins d (Within kind ls) b k o h e = absurd (cc (h.0))
+pub letter_begins : (d : Draft) (hand : PartialCommand) (b : ℕ) (k : Kind) → d.is_open ≡ false → HoldsPartialCommand d hand → kind_of_letter b ≡ Some k → letter_effect hand b ≡ Continues (InCommand k [])
+letter_begins d NoCommand b k o h e = ap kind_effect e
+letter_begins d (InCommand kind ls) b k o h e = absurd (cc (h.0))
 
 -- THE CODE'S TOKENS
 pub number_is : (t : Token) (negative : Bool) (value : ℕ) → code.Number negative value ≡ capped_token t → (v : ℕ) × (t ≡ Number negative v) × (value ≡ capped v)
@@ -154,59 +154,59 @@ pub held_some : (v name : ℕ) → name ≡ capped v → 0 < name → 0 < v
 held_some v name e h = omega arith
 
 -- THE END
-ends_at : (asks : Bool) (commands : Commands) (hand : PartialCommand) → remaining_reading asks commands hand [] ≡ with_ask (asks && (commands.headed && not commands.asked)) ([], command_at_end hand)
+ends_at : (asks : Bool) (commands : Commands) (hand : PartialCommand) → remaining_reading asks commands hand [] ≡ with_ask (asks && (commands.headed && not commands.asked)) ([], script_ending_here hand)
 ends_at asks commands hand = ap (λ (b : Bool). with_ask (asks && (b && not commands.asked)) (commands_of hand [])) (or_false commands.headed) ∙ ap (with_ask (asks && (commands.headed && not commands.asked))) (commands_of_nil hand)
 
 -- a malformed text has the same end with and without the ask of a header
-pub end_malformed : (asks : Bool) → end_if asks ends.Malformed ≡ ([], Malformed)
+pub end_malformed : (asks : Bool) → end_reading_if asks ends.Malformed ≡ ([], Malformed)
 end_malformed true = refl
 end_malformed false = refl
 
 -- a text that ends within a command is malformed
-pub ends_inside : (asks : Bool) (commands : Commands) (hand : PartialCommand) → commands.draft.is_open ≡ true → HoldsPartialCommand commands.draft hand → end_if asks ends.Malformed ≡ remaining_reading asks commands hand []
-ends_inside asks commands Nothing o h = absurd (cc)
-ends_inside asks commands (Within kind ls) o h = end_malformed asks ∙ sym (ends_at asks commands (Within kind ls) ∙ malformed_if (asks && (commands.headed && not commands.asked)))
+pub ends_inside : (asks : Bool) (commands : Commands) (hand : PartialCommand) → commands.draft.is_open ≡ true → HoldsPartialCommand commands.draft hand → end_reading_if asks ends.Malformed ≡ remaining_reading asks commands hand []
+ends_inside asks commands NoCommand o h = absurd (cc)
+ends_inside asks commands (InCommand kind ls) o h = end_malformed asks ∙ sym (ends_at asks commands (InCommand kind ls) ∙ malformed_if (asks && (commands.headed && not commands.asked)))
 
 -- a text that ends after a header without an ask ends with one
-pub ends_due : (asks : Bool) (commands : Commands) (hand : PartialCommand) → commands.draft.is_open ≡ false → HoldsPartialCommand commands.draft hand → (commands.headed && not commands.asked) ≡ true → end_if asks ends.Asked ≡ remaining_reading asks commands hand []
-ends_due true commands Nothing o h e = sym (ends_at true commands Nothing ∙ rw e refl)
-ends_due false commands Nothing o h e = sym (ends_at false commands Nothing)
-ends_due asks commands (Within kind ls) o h e = absurd (cc (h.0))
+pub ends_due : (asks : Bool) (commands : Commands) (hand : PartialCommand) → commands.draft.is_open ≡ false → HoldsPartialCommand commands.draft hand → (commands.headed && not commands.asked) ≡ true → end_reading_if asks ends.Asked ≡ remaining_reading asks commands hand []
+ends_due true commands NoCommand o h e = sym (ends_at true commands NoCommand ∙ rw e refl)
+ends_due false commands NoCommand o h e = sym (ends_at false commands NoCommand)
+ends_due asks commands (InCommand kind ls) o h e = absurd (cc (h.0))
 
-pub ends_clean : (asks : Bool) (commands : Commands) (hand : PartialCommand) → commands.draft.is_open ≡ false → HoldsPartialCommand commands.draft hand → (commands.headed && not commands.asked) ≡ false → end_if asks ends.Clean ≡ remaining_reading asks commands hand []
-ends_clean true commands Nothing o h e = sym (ends_at true commands Nothing ∙ rw e refl)
-ends_clean false commands Nothing o h e = sym (ends_at false commands Nothing)
-ends_clean asks commands (Within kind ls) o h e = absurd (cc (h.0))
+pub ends_clean : (asks : Bool) (commands : Commands) (hand : PartialCommand) → commands.draft.is_open ≡ false → HoldsPartialCommand commands.draft hand → (commands.headed && not commands.asked) ≡ false → end_reading_if asks ends.Clean ≡ remaining_reading asks commands hand []
+ends_clean true commands NoCommand o h e = sym (ends_at true commands NoCommand ∙ rw e refl)
+ends_clean false commands NoCommand o h e = sym (ends_at false commands NoCommand)
+ends_clean asks commands (InCommand kind ls) o h e = absurd (cc (h.0))
 
 -- the text is malformed if its last token leaves a command unfinished
-pub ends_with : (asks : Bool) (commands : Commands) (hand : PartialCommand) (t : Token) → ((kind : Kind) × (ls : List Literal) × (command_token_effect hand t ≡ GoesOn (Within kind ls))) → end_if asks ends.Malformed ≡ remaining_reading asks commands hand (t ∷ [])
+pub ends_with : (asks : Bool) (commands : Commands) (hand : PartialCommand) (t : Token) → ((kind : Kind) × (ls : List Literal) × (command_token_effect hand t ≡ Continues (InCommand kind ls))) → end_reading_if asks ends.Malformed ≡ remaining_reading asks commands hand (t ∷ [])
 ends_with asks commands hand t x =
-    end_malformed asks ∙ sym (following asks commands hand t (GoesOn (Within x.0 x.1)) [] x.2 ∙ ap (with_ask (asks && ((commands.headed || (is_header t || false)) && not commands.asked))) (commands_of_nil (Within x.0 x.1)) ∙ malformed_if (asks && ((commands.headed || (is_header t || false)) && not commands.asked)))
+    end_malformed asks ∙ sym (following asks commands hand t (Continues (InCommand x.0 x.1)) [] x.2 ∙ ap (with_ask (asks && ((commands.headed || (is_header t || false)) && not commands.asked))) (commands_of_nil (InCommand x.0 x.1)) ∙ malformed_if (asks && ((commands.headed || (is_header t || false)) && not commands.asked)))
 
-pub ends_wrong : (asks : Bool) (commands : Commands) (hand : PartialCommand) (t : Token) → command_token_effect hand t ≡ Fails → end_if asks ends.Malformed ≡ remaining_reading asks commands hand (t ∷ [])
+pub ends_wrong : (asks : Bool) (commands : Commands) (hand : PartialCommand) (t : Token) → command_token_effect hand t ≡ Fails → end_reading_if asks ends.Malformed ≡ remaining_reading asks commands hand (t ∷ [])
 ends_wrong asks commands hand t e = end_malformed asks ∙ sym (fails commands hand t e asks [])
 
-number_at : (asks : Bool) (commands : Commands) (kind : Kind) (ls : List Literal) (l : Literal) (t : Token) (hand : PartialCommand) (b : Bool) → allows_sign kind l.positive ≡ b → command_token_effect hand t ≡ cond b (GoesOn (Within kind (ls ++ l ∷ []))) Fails → end_if asks ends.Malformed ≡ remaining_reading asks commands hand (t ∷ [])
+number_at : (asks : Bool) (commands : Commands) (kind : Kind) (ls : List Literal) (l : Literal) (t : Token) (hand : PartialCommand) (b : Bool) → allows_sign kind l.positive ≡ b → command_token_effect hand t ≡ cond b (Continues (InCommand kind (ls ++ l ∷ []))) Fails → end_reading_if asks ends.Malformed ≡ remaining_reading asks commands hand (t ∷ [])
 number_at asks commands kind ls l t hand true m e = ends_with asks commands hand t (kind, ls ++ l ∷ [], e)
 number_at asks commands kind ls l t hand false m e = ends_wrong asks commands hand t e
 
-pub number_ends : (asks : Bool) (commands : Commands) (hand : PartialCommand) (negative : Bool) (value : ℕ) → 0 < value → end_if asks ends.Malformed ≡ remaining_reading asks commands hand (Number negative value ∷ [])
-number_ends asks commands Nothing negative value some =
-    ends_with asks commands Nothing (Number negative value) (OfClause, record { name = value; positive = not negative } ∷ [], turn_number Nothing negative value some)
-number_ends asks commands (Within kind ls) negative value some =
+pub number_ends : (asks : Bool) (commands : Commands) (hand : PartialCommand) (negative : Bool) (value : ℕ) → 0 < value → end_reading_if asks ends.Malformed ≡ remaining_reading asks commands hand (Number negative value ∷ [])
+number_ends asks commands NoCommand negative value some =
+    ends_with asks commands NoCommand (Number negative value) (OfClause, record { name = value; positive = not negative } ∷ [], turn_number NoCommand negative value some)
+number_ends asks commands (InCommand kind ls) negative value some =
     let l : Literal = record { name = value; positive = not negative } in
-    number_at asks commands kind ls l (Number negative value) (Within kind ls) (allows_sign kind l.positive) refl (turn_number (Within kind ls) negative value some)
+    number_at asks commands kind ls l (Number negative value) (InCommand kind ls) (allows_sign kind l.positive) refl (turn_number (InCommand kind ls) negative value some)
 
-letter_at : (asks : Bool) (commands : Commands) (b : ℕ) (o : Option Kind) → with_letter Nothing b ≡ beginning o → end_if asks ends.Malformed ≡ remaining_reading asks commands Nothing (Letter b ∷ [])
-letter_at asks commands b None e = ends_wrong asks commands Nothing (Letter b) e
-letter_at asks commands b (Some kind) e = ends_with asks commands Nothing (Letter b) (kind, [], e)
+letter_at : (asks : Bool) (commands : Commands) (b : ℕ) (o : Option Kind) → letter_effect NoCommand b ≡ kind_effect o → end_reading_if asks ends.Malformed ≡ remaining_reading asks commands NoCommand (Letter b ∷ [])
+letter_at asks commands b None e = ends_wrong asks commands NoCommand (Letter b) e
+letter_at asks commands b (Some kind) e = ends_with asks commands NoCommand (Letter b) (kind, [], e)
 
-pub letter_ends : (asks : Bool) (commands : Commands) (hand : PartialCommand) (b : ℕ) → end_if asks ends.Malformed ≡ remaining_reading asks commands hand (Letter b ∷ [])
-letter_ends asks commands Nothing b = letter_at asks commands b (kind_of_letter b) refl
-letter_ends asks commands (Within kind ls) b = ends_wrong asks commands (Within kind ls) (Letter b) refl
+pub letter_ends : (asks : Bool) (commands : Commands) (hand : PartialCommand) (b : ℕ) → end_reading_if asks ends.Malformed ≡ remaining_reading asks commands hand (Letter b ∷ [])
+letter_ends asks commands NoCommand b = letter_at asks commands b (kind_of_letter b) refl
+letter_ends asks commands (InCommand kind ls) b = ends_wrong asks commands (InCommand kind ls) (Letter b) refl
 
 -- a header as the last token
 pub header_ends : (asks : Bool) (old new : Commands) (hand : PartialCommand) (v c : ℕ) → new ≡ record old { headed = true } → remaining_reading asks old hand (Header v c ∷ []) ≡ remaining_reading asks new hand []
 header_ends asks old new hand v c e =
-    let whole = following asks old hand (Header v c) (GoesOn hand) [] refl ∙ ap (λ (b : Bool). with_ask (asks && (b && not old.asked)) (commands_of hand [])) (or_true old.headed) in
+    let whole = following asks old hand (Header v c) (Continues hand) [] refl ∙ ap (λ (b : Bool). with_ask (asks && (b && not old.asked)) (commands_of hand [])) (or_true old.headed) in
     rw e whole

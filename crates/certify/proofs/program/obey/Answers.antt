@@ -9,7 +9,7 @@ returns-in-Ok-Some g c =
 
 pub returns-in-Ok-None : goal.returns-in-Ok-None
 returns-in-Ok-None g c =
-    obeys_refused g.R.File.Read.remaining g.R.File.Write.contents _ c.misused-in-Ok-None.result _ _ (request_of c.in-Some.call) c.in-Some.ensures (rw c.in-Ok-None.field-0-is at c.in-Ok-None.ensures) c.misused-in-Ok-None.ensures
+    obeys_refused g.R.File.Read.remaining g.R.File.Write.contents _ c.report_misuse-in-Ok-None.result _ _ (request_of c.in-Some.call) c.in-Some.ensures (rw c.in-Ok-None.field-0-is at c.in-Ok-None.ensures) c.report_misuse-in-Ok-None.ensures
 
 pub returns-in-Err : goal.returns-in-Err
 returns-in-Err g c = obeys_fault g.R.File.Read.remaining g.R.File.Write.contents _ c.not_opened.result _ _ (request_of c.in-Some.call) c.in-Some.ensures c.in-Err.ensures c.not_opened.ensures

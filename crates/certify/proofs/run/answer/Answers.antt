@@ -2,10 +2,12 @@ use Rattle.std.proofs.Common.{refl, subst}
 use Rattle.sat_base.specs.device.Reading.{Source, new_source}
 use Rattle.sat_base.specs.script.ScriptState.{initial_state}
 use Rattle.certify.specs.script.LastPiece.{source_in}
+use Rattle.certify.specs.script.LastChunk.{AccountsForBytes}
 use Rattle.sat_base.specs.script.Language.{reading, plain_reading}
 use Rattle.certify.specs.run.ServedScript.{ServesScript}
 use Rattle.certify.proofs.lemmas.run.Runs.{IsNew, counter_so, fresh_source, has_target, is_open_yet, runs_so, steps_so, stopped_so}
-use Rattle.certify.proofs.lemmas.script.LastChunks.{reads_first}
+use Rattle.certify.proofs.lemmas.script.LastChunks.{ends_at_line, keeps_stops, reads_first, waiting_few}
+use Rattle.certify.proofs.lemmas.run.EndLine.{line_if}
 use Rattle.certify.proofs.run.answer.Given.{Over}
 use Rattle.certify.proofs.run.answer.Goals as goal
 use Rattle.certify.proofs.run.answer.Goals.{After-serve_all-served}
@@ -53,7 +55,22 @@ returns-clause-counter_end g c =
     let x = (goal.at.returns-clause-counter_end g c).After-serve_all-served in
     counter_so c.args.budget (g.C.CountedWrite.seen c.args.certificate) c.new-session.result c.serve_all-served.new.session (fresh g x) (g.S.CountedRead.seen c.args.script.now) (left g x) c.serve_all-served.new.stream.ahead.bounded (g.C.CountedWrite.seen c.end_run.result.0) (g.A.CountedWrite.seen c.args.answers.now) (g.A.CountedWrite.seen c.serve_all-served.new.answers) (g.A.CountedWrite.seen c.end_run.new.answers) c.serve_all-served.result c.end_run.result.1 (ends g x) c.end_run.ensures.ends
 
+module _ (g : Over) (c : After-serve_all-served g) where
+  -- no byte was read before
+  account : AccountsForBytes (g.S.CountedRead.seen c.args.script.now) (source_in g.S.CountedRead.seen c.args.script.now c.new-stream.result.ahead) c.new-stream.result.reader
+  account = let S = g.S.CountedRead.seen in reads_first (S c.args.script.now) (source_in S c.args.script.now c.new-stream.result.ahead) c.new-stream.result.reader refl c.new-stream.ensures.waiting c.new-stream.ensures.text
+
 pub returns-clause-stops : goal.returns-clause-stops
 returns-clause-stops g c =
+    let x = (goal.at.returns-clause-stops g c).After-serve_all-served in
     let S = g.S.CountedRead.seen in
-    c.serve_all-served.ensures.stops (S c.args.script.now) (reads_first (S c.args.script.now) (source_in S c.args.script.now c.new-stream.result.ahead) c.new-stream.result.reader refl c.new-stream.ensures.waiting c.new-stream.ensures.text)
+    keeps_stops c.serve_all-served.result (source_in S c.args.script.now c.new-stream.result.ahead) (left g x) c.new-stream.result.reader c.serve_all-served.new.stream.reader (S c.args.script.now) c.serve_all-served.ensures.stops (account g x)
+
+pub returns-clause-line : goal.returns-clause-line
+returns-clause-line g c =
+    let x = (goal.at.returns-clause-line g c).After-serve_all-served in
+    let S = g.S.CountedRead.seen in
+    let new = c.serve_all-served.new.stream in
+    line_if c.serve_all-served.result c.end_run.result.1 c.serve_all-served.new.session (g.C.CountedWrite.seen c.end_run.result.0) (g.A.CountedWrite.seen c.serve_all-served.new.answers) (g.A.CountedWrite.seen c.end_run.new.answers) c.end_run.ensures.ends
+    (source_in S c.args.script.now c.new-stream.result.ahead) (left g x) c.new-stream.result.reader new.reader (S c.args.script.now) c.line-line.result c.end_run.ensures.line c.serve_all-served.ensures.stops
+    (ends_at_line (S c.args.script.now) (left g x) new.reader c.line-line.result (waiting_few new.ahead new.ahead.within) c.line-line.ensures) (account g x)

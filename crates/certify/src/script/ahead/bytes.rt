@@ -1,5 +1,6 @@
 //! Reads chunks, and consumes their bytes.
-ghost use Rattle.std.specs.Prelude.{◌≡◌, ◌+◌, ◌≤◌, [], length, drop, OnOk};
+ghost use Rattle.std.specs.Prelude.{◌≡◌, ◌+◌, ◌≤◌, ◌<◌, [], length, drop, IfOk, OnOk};
+ghost use Rattle.sat_base.specs.dimacs.Parsing.{LastReadGaveBytes};
 ghost use Rattle.certify.specs.script.LastPiece.{RefillsAhead, source_in, waiting_bytes};
 
 use super::{LastPiece, PIECE};
@@ -44,6 +45,7 @@ impl LastPiece {
         requires { waiting_bytes self.old ≡ [] }
         ensures bytes { RefillsAhead result (source_in R.seen reader.old self.old) (source_in R.seen reader.new self.new) }
         ensures reads { OnOk result (self.new.reads ≡ self.old.reads + 1) }
+        ensures last { IfOk result (λ n. 0 < n → LastReadGaveBytes (R.seen reader.old) (R.seen reader.new)) }
     {
         if self.reads >= MAX_READS {
             return Err(ReadError::Failed);

@@ -4,7 +4,7 @@ use Rattle.std.proofs.lemmas.List.{append-nil}
 use Rattle.std.proofs.lemmas.Grind.{common_steps}
 use Rattle.std.specs.Prelude.{IfSome}
 use Rattle.std.specs.Io.KnownBytes.{Consumes, Keeps, IsAtEnd}
-use Rattle.sat_base.specs.device.Device.{Reader, ReadsOnce, FewReads, GavePrefix, GaveAll, GaveEnough, most_reads}
+use Rattle.sat_base.specs.device.Device.{Reader, ReadsOnce, FewReads, GavePrefix, GaveAll, GaveEnough, max_reads}
 use Rattle.sat_base.proofs.lemmas.device.Known.{consumes_none, consumes_more}
 
 pub gave_none : (r : Reader) → GavePrefix r r []
@@ -85,10 +85,10 @@ some_given a c xs ys g h = let e = ap length g.gave in let f = length-append a.g
 pub calls_after : (a b c k : ℕ) → c ≡ b + 1 → b ≡ a + k → c ≡ a + (k + 1)
 calls_after a b c k e f = omega arith
 
-pub calls_within : (a b c k : ℕ) → c ≡ b + 1 → b ≡ a + k → k < most_reads → c ≤ a + most_reads
+pub calls_within : (a b c k : ℕ) → c ≡ b + 1 → b ≡ a + k → k < max_reads → c ≤ a + max_reads
 calls_within a b c k e f h = omega arith
 
-pub calls_upto : (a b k : ℕ) → b ≡ a + k → k ≤ most_reads → b ≤ a + most_reads
+pub calls_upto : (a b k : ℕ) → b ≡ a + k → k ≤ max_reads → b ≤ a + max_reads
 calls_upto a b k f h = omega arith
 
 pub calls_few : (a b c k : ℕ) (xs : List ℕ) → c ≡ b + 1 → b ≡ a + k → k ≤ length xs → c ≤ a + length xs + 1

@@ -4,12 +4,12 @@ use Rattle.std.proofs.lemmas.List.{append-nil, drop_all, length-take, length-tak
 use Rattle.std.proofs.lemmas.Grind.{common_steps}
 use Rattle.std.proofs.Math.Nat.{mul-le-mul_left}
 use Rattle.std.specs.Io.KnownBytes.{Consumes, IsAtEnd, Keeps, prepend_known}
-use Rattle.sat_base.specs.device.Device.{Reader, ReadsOnce, most_reads}
+use Rattle.sat_base.specs.device.Device.{Reader, ReadsOnce, max_reads}
 use Rattle.sat_base.specs.declared.steps.error.StepError.{StepError}
 use Rattle.sat_base.specs.declared.steps.error.StepError.TheVariants as errors
 use Rattle.sat_base.specs.steps.Formats.{IsPrefixOfText}
-use Rattle.sat_base.specs.steps.Numbers.{IsBelow}
-use Rattle.sat_base.specs.device.Reading.{Source, to_come, ConsumesWithReads, ConsumesBytes, ConsumesToEnd, none_given, ConsumesAndFails, Refills, NextByte, ByteWithin, ReadsValue}
+use Rattle.sat_base.specs.steps.Numbers.{SpellsNumberBelow}
+use Rattle.sat_base.specs.device.Reading.{Source, to_come, ConsumesWithReads, ConsumesBytes, ConsumesToEnd, one_if_none_given, ConsumesAndFails, ReadsAhead, ConsumesNextByte, ConsumesByteWithinText, ReadsValue}
 use Rattle.sat_base.proofs.lemmas.device.Known.{consumes_none, consumes_more}
 use Rattle.sat_base.proofs.lemmas.steps.Numbers.{Front, front_none, front_more, live, last_read, shut_zero, shut_large, shut_on}
 
@@ -98,8 +98,8 @@ faults_now e a b ws vs room names n r d f = record {
   names = refl;
 }
 
--- after `most_reads` reads no further read is made, which is also a failure
-pub faults_spent : (s : Source) → s.waiting ≡ [] → most_reads ≤ s.reads → ConsumesAndFails s s []
+-- after `max_reads` reads no further read is made, which is also a failure
+pub faults_spent : (s : Source) → s.waiting ≡ [] → max_reads ≤ s.reads → ConsumesAndFails s s []
 faults_spent s d h = record {
   fresh = [];
   gave = sym (append-nil s.reader.given);
@@ -125,7 +125,7 @@ over_known : (b : Option (List ℕ)) (xs : List ℕ) → xs ≡ [] → IsAtEnd b
 over_known None xs e h = tt
 over_known (Some y) xs e h = ap (λ (z : List ℕ). z ++ y) e ∙ h
 
-few_given : (count reads m : ℕ) → m ≡ count → reads + 1 ≤ reads + m + none_given count
+few_given : (count reads m : ℕ) → m ≡ count → reads + 1 ≤ reads + m + one_if_none_given count
 few_given zero reads m e = omega arith
 few_given (suc n) reads m e = omega arith
 
@@ -134,7 +134,7 @@ no_end true ended room e h k = omega (arith, h)
 no_end false ended room e h k = let f : ended ≡ false = e in cc
 
 pub refilled : {E : Type 0} (count : ℕ) (a b : Reader) (ws room names : List ℕ) (n : ℕ) → ReadsOnce {E = E} (Ok count) room a b → count ≤ length room → 0 < length room → length room ≤ 4096 → ws ≡ []
-    → Refills (Ok tt) count (record { reader = a; waiting = ws; reads = n; names = names }) (record { reader = b; waiting = drop 0 (take count room); reads = n + 1; names = names })
+    → ReadsAhead (Ok tt) count (record { reader = a; waiting = ws; reads = n; names = names }) (record { reader = b; waiting = drop 0 (take count room); reads = n + 1; names = names })
 refilled count a b ws room names n r within some size e =
     let l = length-take-le count room within in
     let none : count ≡ 0 → take count room ≡ [] = λ h. ap (λ (k : ℕ). take k room) h in (
@@ -161,9 +161,9 @@ refilled count a b ws room names n r within some size e =
 
 -- a refill whose bytes were read to the start of a longer buffer
 pub refilled_front : {E : Type 0} (count : ℕ) (a b : Reader) (ws room rest names : List ℕ) (n : ℕ) → ReadsOnce {E = E} (Ok count) room a b → count ≤ length room → 0 < length room → length room ≤ 4096 → ws ≡ []
-    → Refills (Ok tt) count (record { reader = a; waiting = ws; reads = n; names = names }) (record { reader = b; waiting = drop 0 (take count (room ++ rest)); reads = n + 1; names = names })
+    → ReadsAhead (Ok tt) count (record { reader = a; waiting = ws; reads = n; names = names }) (record { reader = b; waiting = drop 0 (take count (room ++ rest)); reads = n + 1; names = names })
 refilled_front count a b ws room rest names n r within some size e =
-    subst (λ (z : List ℕ). Refills (Ok tt) count (record { reader = a; waiting = ws; reads = n; names = names }) (record { reader = b; waiting = drop 0 z; reads = n + 1; names = names })) (sym (take-append-le count room rest within))
+    subst (λ (z : List ℕ). ReadsAhead (Ok tt) count (record { reader = a; waiting = ws; reads = n; names = names }) (record { reader = b; waiting = drop 0 z; reads = n + 1; names = names })) (sym (take-append-le count room rest within))
     (refilled count a b ws room names n r within some size e)
 
 pub none_waits : (at end : ℕ) (piece : List ℕ) → end ≤ at → drop at (take end piece) ≡ []
@@ -183,41 +183,41 @@ groups_none limit s h = record { text = []; passes = passes_none s; front = fron
 pub place_some : (limit value place : ℕ) (old new : Source) → Groups limit value place old new → 0 < place
 place_some limit value place old new g = elim g.begun [ inl h ↦ omega (arith, h.2) | inr h ↦ omega (arith, h.1) ]
 
-groups_cut : (limit value place : ℕ) (old mid new : Source) → Groups limit value place old mid → ConsumesToEnd mid new [] → ReadsValue (IsBelow limit) (Err errors.Cut) old new
+groups_cut : (limit value place : ℕ) (old mid new : Source) → Groups limit value place old mid → ConsumesToEnd mid new [] → ReadsValue (SpellsNumberBelow limit) (Err errors.Cut) old new
 groups_cut limit value place old mid new g h = (g.text, ends_there old mid new g.text g.passes h, live limit g.text value place g.front g.small)
 
 -- if the next group cannot be read, neither can the number
-pub groups_stop : (limit value place : ℕ) (old mid new : Source) (e : StepError) → Groups limit value place old mid → ByteWithin (Err e) mid new → ReadsValue (IsBelow limit) (Err e) old new
+pub groups_stop : (limit value place : ℕ) (old mid new : Source) (e : StepError) → Groups limit value place old mid → ConsumesByteWithinText (Err e) mid new → ReadsValue (SpellsNumberBelow limit) (Err e) old new
 groups_stop limit value place old mid new errors.Read g h = (g.text, faults_there old mid new g.text g.passes h, live limit g.text value place g.front g.small)
 groups_stop limit value place old mid new errors.Cut g h = groups_cut limit value place old mid new g h
 groups_stop limit value place old mid new e g h = absurd h
 
-pub groups_bad : (limit value place b : ℕ) (old mid new : Source) → (g : Groups limit value place old mid) → ConsumesBytes mid new (b ∷ []) → (IsPrefixOfText (IsBelow limit) (g.text ++ b ∷ []) → ⊥) → ReadsValue (IsBelow limit) (Err errors.BadByte) old new
+pub groups_bad : (limit value place b : ℕ) (old mid new : Source) → (g : Groups limit value place old mid) → ConsumesBytes mid new (b ∷ []) → (IsPrefixOfText (SpellsNumberBelow limit) (g.text ++ b ∷ []) → ⊥) → ReadsValue (SpellsNumberBelow limit) (Err errors.BadByte) old new
 groups_bad limit value place b old mid new g h k = (g.text, b, passes_more old mid new g.text (b ∷ []) g.passes h, live limit g.text value place g.front g.small, k)
 
 -- a first group of 0 is the complete number
-pub groups_zero : (limit value place b : ℕ) (old mid new : Source) → Groups limit value place old mid → ConsumesBytes mid new (b ∷ []) → b ≡ 0 → place ≡ 1 → 1 < limit → ReadsValue (IsBelow limit) (Ok 0) old new
+pub groups_zero : (limit value place b : ℕ) (old mid new : Source) → Groups limit value place old mid → ConsumesBytes mid new (b ∷ []) → b ≡ 0 → place ≡ 1 → 1 < limit → ReadsValue (SpellsNumberBelow limit) (Ok 0) old new
 groups_zero limit value place b old mid new g h e f l = elim g.begun [
   | inl k ↦ (b ∷ [], subst (λ (z : List ℕ). ConsumesBytes old new (z ++ b ∷ [])) k.0 (passes_more old mid new g.text (b ∷ []) g.passes h), ((omega arith, sym e), omega arith))
   | inr k ↦ absurd (omega (arith, k.1))
 ]
 
-pub groups_zero_bad : (limit value place b : ℕ) (old mid new : Source) → Groups limit value place old mid → ConsumesBytes mid new (b ∷ []) → b ≡ 0 → (place ≡ 1 → ⊥) → ReadsValue (IsBelow limit) (Err errors.BadByte) old new
+pub groups_zero_bad : (limit value place b : ℕ) (old mid new : Source) → Groups limit value place old mid → ConsumesBytes mid new (b ∷ []) → b ≡ 0 → (place ≡ 1 → ⊥) → ReadsValue (SpellsNumberBelow limit) (Err errors.BadByte) old new
 groups_zero_bad limit value place b old mid new g h e f = elim g.begun [
   | inl k ↦ absurd (f k.2)
   | inr k ↦ groups_bad limit value place b old mid new g h (shut_zero limit g.text value place b g.front k.0 e)
 ]
 
 -- the next group is the last, and the number is below the limit
-pub groups_last : (limit value place b : ℕ) (old mid new : Source) → Groups limit value place old mid → ConsumesBytes mid new (b ∷ []) → (b ≡ 0 → ⊥) → b < 128 → value + place * b < limit → ReadsValue (IsBelow limit) (Ok (value + place * b)) old new
+pub groups_last : (limit value place b : ℕ) (old mid new : Source) → Groups limit value place old mid → ConsumesBytes mid new (b ∷ []) → (b ≡ 0 → ⊥) → b < 128 → value + place * b < limit → ReadsValue (SpellsNumberBelow limit) (Ok (value + place * b)) old new
 groups_last limit value place b old mid new g h z l m = (g.text ++ b ∷ [], passes_more old mid new g.text (b ∷ []) g.passes h, last_read limit g.text value place b g.front l (inr (omega arith)) m)
 
 -- the next group is the last, and the number reaches the limit
-pub groups_large : (limit value place b : ℕ) (old mid new : Source) → Groups limit value place old mid → ConsumesBytes mid new (b ∷ []) → b < 128 → limit ≤ value + place * b → ReadsValue (IsBelow limit) (Err errors.BadByte) old new
+pub groups_large : (limit value place b : ℕ) (old mid new : Source) → Groups limit value place old mid → ConsumesBytes mid new (b ∷ []) → b < 128 → limit ≤ value + place * b → ReadsValue (SpellsNumberBelow limit) (Err errors.BadByte) old new
 groups_large limit value place b old mid new g h l m = groups_bad limit value place b old mid new g h (shut_large limit g.text value place b g.front l m)
 
 -- the next group is not the last, and any number with these groups reaches the limit
-pub groups_on : (limit value place b : ℕ) (old mid new : Source) → Groups limit value place old mid → ConsumesBytes mid new (b ∷ []) → 128 ≤ b → limit ≤ (value + place * (b - 128)) + place * 128 → ReadsValue (IsBelow limit) (Err errors.BadByte) old new
+pub groups_on : (limit value place b : ℕ) (old mid new : Source) → Groups limit value place old mid → ConsumesBytes mid new (b ∷ []) → 128 ≤ b → limit ≤ (value + place * (b - 128)) + place * 128 → ReadsValue (SpellsNumberBelow limit) (Err errors.BadByte) old new
 groups_on limit value place b old mid new g h l m = groups_bad limit value place b old mid new g h (shut_on limit g.text value place b g.front l m)
 
 -- ROOM for further groups: the largest number for which `value + place * room` is at most `largest`
@@ -243,12 +243,12 @@ small_group b h = grind (arith, common_steps)
 large_group : (b : ℕ) → nat_lt b 128 ≡ false → 128 ≤ b
 large_group b h = grind (arith, common_steps)
 
-by_kind : (largest value place b : ℕ) (old mid new : Source) → Groups (largest + 1) value place old mid → ConsumesBytes mid new (b ∷ []) → largest + 1 ≤ value + place * b → (t : Bool) → nat_lt b 128 ≡ t → ReadsValue (IsBelow (largest + 1)) (Err errors.BadByte) old new
+by_kind : (largest value place b : ℕ) (old mid new : Source) → Groups (largest + 1) value place old mid → ConsumesBytes mid new (b ∷ []) → largest + 1 ≤ value + place * b → (t : Bool) → nat_lt b 128 ≡ t → ReadsValue (SpellsNumberBelow (largest + 1)) (Err errors.BadByte) old new
 by_kind largest value place b old mid new g h k true e = groups_large (largest + 1) value place b old mid new g h (small_group b e) k
 by_kind largest value place b old mid new g h k false e = groups_on (largest + 1) value place b old mid new g h (large_group b e) (let s = split_group place b (large_group b e) in omega arith)
 
 -- a group that exceeds the room is a bad byte
-pub groups_past : (largest value place room b : ℕ) (old mid new : Source) → Groups (largest + 1) value place old mid → ConsumesBytes mid new (b ∷ []) → largest < value + place * (room + 1) → room < b → ReadsValue (IsBelow (largest + 1)) (Err errors.BadByte) old new
+pub groups_past : (largest value place room b : ℕ) (old mid new : Source) → Groups (largest + 1) value place old mid → ConsumesBytes mid new (b ∷ []) → largest < value + place * (room + 1) → room < b → ReadsValue (SpellsNumberBelow (largest + 1)) (Err errors.BadByte) old new
 groups_past largest value place room b old mid new g h k l = by_kind largest value place b old mid new g h (past_room largest value place room b k l) (nat_lt b 128) refl
 
 low_of : (largest value place room g q : ℕ) → value + place * room ≤ largest → g + 128 * q ≤ room → (value + place * g) + (place * 128) * q ≤ largest
@@ -282,10 +282,10 @@ groups_more limit value place b old mid new g h l m s = record {
 }
 
 -- THE FIRST BYTE OF A PIECE
-none_zero : (n : ℕ) → (n ≡ 0 → ⊥) → none_given n ≡ 0
+none_zero : (n : ℕ) → (n ≡ 0 → ⊥) → one_if_none_given n ≡ 0
 none_zero n h = grind (arith, common_steps)
 
-pub next_fails : (e : StepError) (n : ℕ) (s t : Source) → Refills (Err e) n s t → NextByte (Err e) s t
+pub next_fails : (e : StepError) (n : ℕ) (s t : Source) → ReadsAhead (Err e) n s t → ConsumesNextByte (Err e) s t
 next_fails errors.Read n s t h = h
 next_fails e n s t h = absurd h
 
@@ -311,8 +311,8 @@ took_text s r ws vs names n m text p e f = record {
 }
 
 -- a read that gave some bytes, and one that gave none
-pub gave_some : (n : ℕ) (s t : Source) → (n ≡ 0 → ⊥) → ConsumesWithReads (none_given n) s t [] → ConsumesBytes s t []
+pub gave_some : (n : ℕ) (s t : Source) → (n ≡ 0 → ⊥) → ConsumesWithReads (one_if_none_given n) s t [] → ConsumesBytes s t []
 gave_some n s t h p = subst (λ (k : ℕ). ConsumesWithReads k s t []) (none_zero n h) p
 
-pub gave_nothing : (n : ℕ) (s t : Source) → n ≡ 0 → ConsumesWithReads (none_given n) s t [] → ConsumesWithReads 1 s t []
-gave_nothing n s t h p = subst (λ (k : ℕ). ConsumesWithReads (none_given k) s t []) h p
+pub gave_nothing : (n : ℕ) (s t : Source) → n ≡ 0 → ConsumesWithReads (one_if_none_given n) s t [] → ConsumesWithReads 1 s t []
+gave_nothing n s t h p = subst (λ (k : ℕ). ConsumesWithReads (one_if_none_given k) s t []) h p

@@ -5,7 +5,7 @@ use Rattle.std.specs.Borrow.{MutBor}
 use Rattle.std.specs.Prelude.{OnOk}
 use Rattle.sat_base.specs.declared.device.output.Output.{Output}
 use Rattle.sat_base.specs.device.Device.{Writer, FlushesOnce, WriterAccepts, WriterFails, WritesText, lent_writer}
-use Rattle.sat_base.specs.device.Sink.{Sink, AddsToSink, SinkFails, SendsText, Flushes, sink_of, empty_sink}
+use Rattle.sat_base.specs.device.Sink.{Sink, AddsToSink, SinkFails, SendsText, FlushesSink, sink_of, empty_sink}
 use Rattle.sat_base.proofs.lemmas.device.Writes.{took_none, took_more, breaks_later, breaks_within, lent_puts, flush_takes, flush_fails}
 
 pub sent_none : (s : Sink) → AddsToSink s s []
@@ -111,7 +111,7 @@ pub ruleset sending = (sends_more, sends_stops)
 
 -- A FLUSH
 
-pub sends_flush : {E : Type 0} (a : Sink) (v w : Writer) (bytes : List ℕ) (r : Result (Unit {0}) E) → bytes ≡ [] → AddsToSink a (record { writer = v; waiting = bytes }) [] → FlushesOnce r v w → Flushes r a (record { writer = w; waiting = bytes })
+pub sends_flush : {E : Type 0} (a : Sink) (v w : Writer) (bytes : List ℕ) (r : Result (Unit {0}) E) → bytes ≡ [] → AddsToSink a (record { writer = v; waiting = bytes }) [] → FlushesOnce r v w → FlushesSink r a (record { writer = w; waiting = bytes })
 sends_flush a v w bytes (Ok u) f p q = record {
   sent = sent_more a (record { writer = v; waiting = bytes }) (record { writer = w; waiting = bytes }) [] [] p (record { fresh = []; flows = append-nil bytes; takes = flush_takes v w q });
   none = f;

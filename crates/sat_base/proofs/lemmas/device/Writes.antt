@@ -4,7 +4,7 @@ use Rattle.std.proofs.lemmas.List.{append-nil, take-append-drop, length-take-le}
 use Rattle.std.proofs.lemmas.Grind.{common_steps}
 use Rattle.std.proofs.Math.Seq.{take-add}
 use Rattle.std.specs.Io.KnownBytes.{Appends, Keeps}
-use Rattle.sat_base.specs.device.Device.{Writer, WritesOnce, FlushesOnce, WriterAccepts, WriterFails, WritesText, takes_none, lent_writer}
+use Rattle.sat_base.specs.device.Device.{Writer, WritesOnce, FlushesOnce, WriterAccepts, WriterFails, WritesText, accepts_none, lent_writer}
 use Rattle.sat_base.proofs.lemmas.device.Known.{appends_none, appends_more, rest_is}
 
 pub took_none : (w : Writer) → WriterAccepts w w []
@@ -52,10 +52,10 @@ breaks_within a b xs ys q = record {
 
 -- ONE WRITE
 
-some_taken : (n : ℕ) (rest : List ℕ) → (n ≡ 0 → ⊥) → takes_none n rest ≡ false
+some_taken : (n : ℕ) (rest : List ℕ) → (n ≡ 0 → ⊥) → accepts_none n rest ≡ false
 some_taken n rest h = grind (arith, common_steps)
 
-none_taken : (n : ℕ) (rest : List ℕ) → n ≡ 0 → 0 < length rest → takes_none n rest ≡ true
+none_taken : (n : ℕ) (rest : List ℕ) → n ≡ 0 → 0 < length rest → accepts_none n rest ≡ true
 none_taken n rest h k = grind (arith, common_steps)
 
 counted : (t : Bool) (old new : ℕ) → new ≡ (if t then old + 1 else old) → t ≡ false → new ≡ old
@@ -70,7 +70,7 @@ pub wrote_some : {E : Type 0} (a b : Writer) (rest : List ℕ) (n : ℕ) → Wri
 wrote_some a b rest n w k h = record {
   taken = w.taken;
   known_bytes = w.known_bytes;
-  failures = counted (takes_none n rest) a.failures b.failures w.failures.0 (some_taken n rest h);
+  failures = counted (accepts_none n rest) a.failures b.failures w.failures.0 (some_taken n rest h);
   calls = omega (arith, w.calls);
   few = let e = length-take-le n rest k in omega (arith, w.calls, w.flushes);
   loans = w.loans;
@@ -91,7 +91,7 @@ wrote_none a b rest n w h k = record {
   whole = refl;
   taken = w.taken ∙ ap (λ (z : List ℕ). a.taken ++ z) (none_at n rest h);
   known_bytes = subst (Appends a.contents b.contents) (none_at n rest h) w.known_bytes;
-  failures = counted_one (takes_none n rest) a.failures b.failures w.failures.0 (none_taken n rest h k);
+  failures = counted_one (accepts_none n rest) a.failures b.failures w.failures.0 (none_taken n rest h k);
   failed = w.failures.1 ∙ none_taken n rest h k;
   calls = omega (arith, w.calls);
   few = omega (arith, w.calls, w.flushes);

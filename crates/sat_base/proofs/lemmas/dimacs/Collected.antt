@@ -6,11 +6,11 @@ use Rattle.std.specs.Prelude.{nat_eq, nat_lt, not, ◌||◌, if◌then◌else◌
 use Rattle.sat_base.specs.values.Literals.{mk_lit, var_limit}
 use Rattle.sat_base.specs.text.Text.{is_blank, Token, Number, Letter, Header, Wrong, Scan, scan}
 use Rattle.sat_base.specs.text.Position.{prepend_tokens}
-use Rattle.sat_base.specs.text.Tokenizing.{capped, capped_token, IsOfHeader, HasNoNumberOrLetter}
-use Rattle.sat_base.specs.dimacs.Dimacs.{PartialClause, TokenEffect, GoesOn, Ends, Fails, Ending, Limit, Dimacs, literals_in, token_effect, at_end, after_token_effect, clauses_of, dimacs_of, dimacs, has_blank, up_to_last_blank}
+use Rattle.sat_base.specs.text.Tokenizing.{capped, capped_token, IsHeaderOrWrong, HasNoNumberOrLetter}
+use Rattle.sat_base.specs.dimacs.Dimacs.{PartialClause, TokenEffect, Continues, EndsClause, Fails, Ending, Limit, Dimacs, literals_in, token_effect, ending_here, after_token_effect, clauses_of, dimacs_of, dimacs, has_blank, up_to_last_blank}
 use Rattle.sat_base.specs.dimacs.Collecting.{token_of}
-use Rattle.sat_base.specs.dimacs.Parsing.{has_LF, whole_lines, NoFault, unless_fault}
-use Rattle.sat_base.specs.dimacs.ParserPlaces.{prepend_clauses, HaveTakenTokens}
+use Rattle.sat_base.specs.dimacs.Parsing.{has_LF, whole_lines, HaveNoFault, NoFaultAndThen}
+use Rattle.sat_base.specs.dimacs.ParserPlaces.{prepend_clauses, CompleteClauses}
 
 -- TEXTS
 has_blank-following : (text : List ℕ) (b : ℕ) → is_blank b ≡ true → has_blank (text ++ b ∷ []) ≡ true
@@ -58,16 +58,16 @@ pub clauses_of_cons : (h : PartialClause) (last : ℕ) (t : ℕ × Token) (ts : 
 unfolding clauses_of
 clauses_of_cons h last t ts = refl
 
-pub clauses_of_nil : (h : PartialClause) (last : ℕ) → clauses_of h last [] ≡ record { clauses = []; ending = at_end h last }
+pub clauses_of_nil : (h : PartialClause) (last : ℕ) → clauses_of h last [] ≡ record { clauses = []; ending = ending_here h last }
 unfolding clauses_of
 clauses_of_nil h last = refl
 
 number_at : (zero past : Bool) (h : PartialClause) (line a b : ℕ) (s : Bool) → (past ≡ false → a ≡ b)
-    → (if zero then Ends (literals_in h) else (if past then Fails (Limit line) else GoesOn (Some (literals_in h ++ mk_lit (a - 1) s ∷ []))))
-    ≡ (if zero then Ends (literals_in h) else (if past then Fails (Limit line) else GoesOn (Some (literals_in h ++ mk_lit (b - 1) s ∷ []))))
+    → (if zero then EndsClause (literals_in h) else (if past then Fails (Limit line) else Continues (Some (literals_in h ++ mk_lit (a - 1) s ∷ []))))
+    ≡ (if zero then EndsClause (literals_in h) else (if past then Fails (Limit line) else Continues (Some (literals_in h ++ mk_lit (b - 1) s ∷ []))))
 number_at true past h line a b s e = refl
 number_at false true h line a b s e = refl
-number_at false false h line a b s e = ap (λ (k : ℕ). GoesOn (Some (literals_in h ++ mk_lit (k - 1) s ∷ []))) (e refl)
+number_at false false h line a b s e = ap (λ (k : ℕ). Continues (Some (literals_in h ++ mk_lit (k - 1) s ∷ []))) (e refl)
 
 -- capping the values of a token does not change its effect
 pub turn-held : (h : PartialClause) (line : ℕ) (t : Token) → token_effect h line (token_of (capped_token t)) ≡ token_effect h line t
@@ -80,32 +80,32 @@ turn-held h line x = refl
 onto-onto : (a b : List (List ℕ)) (d : Dimacs) → prepend_clauses a (prepend_clauses b d) ≡ prepend_clauses (a ++ b) d
 onto-onto a b d = ap (λ (cs : List (List ℕ)). record { clauses = cs; ending = d.ending }) (sym (append_assoc a b d.clauses))
 
-pub turned_first : HaveTakenTokens [] [] None
+pub turned_first : CompleteClauses [] [] None
 turned_first = record { says = λ last ts. refl; sound = λ ts h. h }
 
 -- the clauses after one more token
-module _ (before : List (ℕ × Token)) (all : List (List ℕ)) (hand : PartialClause) (n : ℕ) (t : Token) (m : HaveTakenTokens before all hand) where
-  pub says_next : (k : TokenEffect) → token_effect hand n t ≡ k → (last : ℕ) (ts : List (ℕ × Token))
+module _ (before : List (ℕ × Token)) (all : List (List ℕ)) (unfinished : PartialClause) (n : ℕ) (t : Token) (m : CompleteClauses before all unfinished) where
+  pub says_next : (k : TokenEffect) → token_effect unfinished n t ≡ k → (last : ℕ) (ts : List (ℕ × Token))
       → clauses_of None last ((before ++ (n, t) ∷ []) ++ ts) ≡ prepend_clauses all (after_token_effect k (λ h. clauses_of h last ts))
   says_next k e last ts =
       ap (clauses_of None last) (append_assoc before ((n, t) ∷ []) ts) ∙ m.says last ((n, t) ∷ ts)
-      ∙ ap (prepend_clauses all) (clauses_of_cons hand last (n, t) ts ∙ ap (λ (j : TokenEffect). after_token_effect j (λ h. clauses_of h last ts)) e)
+      ∙ ap (prepend_clauses all) (clauses_of_cons unfinished last (n, t) ts ∙ ap (λ (j : TokenEffect). after_token_effect j (λ h. clauses_of h last ts)) e)
 
-  sound_next : (k : TokenEffect) → token_effect hand n t ≡ k → (ts : List (ℕ × Token)) → unless_fault k (λ h. NoFault h ts) → NoFault None ((before ++ (n, t) ∷ []) ++ ts)
+  sound_next : (k : TokenEffect) → token_effect unfinished n t ≡ k → (ts : List (ℕ × Token)) → NoFaultAndThen k (λ h. HaveNoFault h ts) → HaveNoFault None ((before ++ (n, t) ∷ []) ++ ts)
   sound_next k e ts h =
-      let here : NoFault hand ((n, t) ∷ ts) = subst (λ (j : TokenEffect). unless_fault j (λ g. NoFault g ts)) (sym e) h in
-      subst (NoFault None) (sym (append_assoc before ((n, t) ∷ []) ts)) (m.sound ((n, t) ∷ ts) here)
+      let here : HaveNoFault unfinished ((n, t) ∷ ts) = subst (λ (j : TokenEffect). NoFaultAndThen j (λ g. HaveNoFault g ts)) (sym e) h in
+      subst (HaveNoFault None) (sym (append_assoc before ((n, t) ∷ []) ts)) (m.sound ((n, t) ∷ ts) here)
 
-  pub turned_goes : (h : PartialClause) → token_effect hand n t ≡ GoesOn h → HaveTakenTokens (before ++ (n, t) ∷ []) all h
-  turned_goes h e = record { says = says_next (GoesOn h) e; sound = sound_next (GoesOn h) e }
+  pub turned_goes : (h : PartialClause) → token_effect unfinished n t ≡ Continues h → CompleteClauses (before ++ (n, t) ∷ []) all h
+  turned_goes h e = record { says = says_next (Continues h) e; sound = sound_next (Continues h) e }
 
-  pub turned_ends : (c : List ℕ) → token_effect hand n t ≡ Ends c → HaveTakenTokens (before ++ (n, t) ∷ []) (all ++ c ∷ []) None
+  pub turned_ends : (c : List ℕ) → token_effect unfinished n t ≡ EndsClause c → CompleteClauses (before ++ (n, t) ∷ []) (all ++ c ∷ []) None
   turned_ends c e = record {
-    says = λ last ts. says_next (Ends c) e last ts ∙ onto-onto all (c ∷ []) (clauses_of None last ts);
-    sound = sound_next (Ends c) e;
+    says = λ last ts. says_next (EndsClause c) e last ts ∙ onto-onto all (c ∷ []) (clauses_of None last ts);
+    sound = sound_next (EndsClause c) e;
   }
 
-  pub fails_there : (ending : Ending) → token_effect hand n t ≡ Fails ending → (last : ℕ) (ts : List (ℕ × Token))
+  pub fails_there : (ending : Ending) → token_effect unfinished n t ≡ Fails ending → (last : ℕ) (ts : List (ℕ × Token))
       → clauses_of None last ((before ++ (n, t) ∷ []) ++ ts) ≡ record { clauses = all; ending = ending }
   fails_there ending e last ts =
       says_next (Fails ending) e last ts ∙ ap (λ (cs : List (List ℕ)). record { clauses = cs; ending = ending }) (append-nil all)
@@ -121,23 +121,23 @@ pub dimacs_is : (text : List ℕ) (before : List (ℕ × Token)) (s : Scan) → 
 unfolding dimacs
 dimacs_is text before s e = ap (dimacs_of None) e
 
-pub dimacs_says : (text : List ℕ) (before : List (ℕ × Token)) (all : List (List ℕ)) (hand : PartialClause) (s : Scan) → scan text ≡ prepend_tokens before s → HaveTakenTokens before all hand
-    → dimacs text ≡ prepend_clauses all (dimacs_of hand s)
-dimacs_says text before all hand s e m = dimacs_is text before s e ∙ m.says s.last s.tokens
+pub dimacs_says : (text : List ℕ) (before : List (ℕ × Token)) (all : List (List ℕ)) (unfinished : PartialClause) (s : Scan) → scan text ≡ prepend_tokens before s → CompleteClauses before all unfinished
+    → dimacs text ≡ prepend_clauses all (dimacs_of unfinished s)
+dimacs_says text before all unfinished s e m = dimacs_is text before s e ∙ m.says s.last s.tokens
 
-header_clauses : (hand : PartialClause) (last line : ℕ) (t : Token) → IsOfHeader t → (clauses_of hand last ((line, t) ∷ [])).clauses ≡ []
-header_clauses hand last line (Number negative value) h = absurd h
-header_clauses hand last line (Letter b) h = absurd h
-header_clauses hand last line (Header v c) h = ap (λ (d : Dimacs). d.clauses) (clauses_of_cons hand last (line, Header v c) [] ∙ clauses_of_nil hand last)
-header_clauses hand last line Wrong h = ap (λ (d : Dimacs). d.clauses) (clauses_of_cons hand last (line, Wrong) [])
+header_clauses : (unfinished : PartialClause) (last line : ℕ) (t : Token) → IsHeaderOrWrong t → (clauses_of unfinished last ((line, t) ∷ [])).clauses ≡ []
+header_clauses unfinished last line (Number negative value) h = absurd h
+header_clauses unfinished last line (Letter b) h = absurd h
+header_clauses unfinished last line (Header v c) h = ap (λ (d : Dimacs). d.clauses) (clauses_of_cons unfinished last (line, Header v c) [] ∙ clauses_of_nil unfinished last)
+header_clauses unfinished last line Wrong h = ap (λ (d : Dimacs). d.clauses) (clauses_of_cons unfinished last (line, Wrong) [])
 
 -- if at most a header or a wrong word is still to come, it completes no clause
-pub quiet_clauses : (hand : PartialClause) (s : Scan) → HasNoNumberOrLetter s → (dimacs_of hand s).clauses ≡ []
-quiet_clauses hand s (inl e) = ap (λ (ts : List (ℕ × Token)). (clauses_of hand s.last ts).clauses) e ∙ ap (λ (d : Dimacs). d.clauses) (clauses_of_nil hand s.last)
-quiet_clauses hand s (inr q) = ap (λ (ts : List (ℕ × Token)). (clauses_of hand s.last ts).clauses) q.3 ∙ header_clauses hand s.last q.0 q.1 q.2
+pub quiet_clauses : (unfinished : PartialClause) (s : Scan) → HasNoNumberOrLetter s → (dimacs_of unfinished s).clauses ≡ []
+quiet_clauses unfinished s (inl e) = ap (λ (ts : List (ℕ × Token)). (clauses_of unfinished s.last ts).clauses) e ∙ ap (λ (d : Dimacs). d.clauses) (clauses_of_nil unfinished s.last)
+quiet_clauses unfinished s (inr q) = ap (λ (ts : List (ℕ × Token)). (clauses_of unfinished s.last ts).clauses) q.3 ∙ header_clauses unfinished s.last q.0 q.1 q.2
 
 -- the clauses of a text are those completed so far if what is left has neither numbers nor letters
-pub settled_clauses : (text : List ℕ) (before : List (ℕ × Token)) (all : List (List ℕ)) (hand : PartialClause) (s : Scan) → scan text ≡ prepend_tokens before s → HaveTakenTokens before all hand → HasNoNumberOrLetter s
+pub settled_clauses : (text : List ℕ) (before : List (ℕ × Token)) (all : List (List ℕ)) (unfinished : PartialClause) (s : Scan) → scan text ≡ prepend_tokens before s → CompleteClauses before all unfinished → HasNoNumberOrLetter s
     → (dimacs text).clauses ≡ all
-settled_clauses text before all hand s e m q =
-    ap (λ (d : Dimacs). d.clauses) (dimacs_says text before all hand s e m) ∙ ap (λ (cs : List (List ℕ)). all ++ cs) (quiet_clauses hand s q) ∙ append-nil all
+settled_clauses text before all unfinished s e m q =
+    ap (λ (d : Dimacs). d.clauses) (dimacs_says text before all unfinished s e m) ∙ ap (λ (cs : List (List ℕ)). all ++ cs) (quiet_clauses unfinished s q) ∙ append-nil all

@@ -1,11 +1,11 @@
 -- The example texts of formulas have the stated meaning, by computation.
 use Rattle.std.proofs.Common.{refl}
-use Rattle.sat_base.specs.text.Text.{lines, words, begins_with, tokens_of, last_line, digits, token, scan}
+use Rattle.sat_base.specs.text.Text.{lines, words, first_nonblank_is, tokens_of, last_line, digits, token, scan}
 use Rattle.sat_base.specs.dimacs.Dimacs.{clauses_of, dimacs}
-use Rattle.sat_base.specs.dimacs.DimacsRows.{CleanRows, FaultRows, HeaderRows, PartRows}
+use Rattle.sat_base.specs.dimacs.DimacsRows.{CleanRows, FaultRows, HeaderRows, PrefixRows}
 
 pub clean_rows : CleanRows
-unfolding lines words begins_with tokens_of last_line digits token scan clauses_of dimacs
+unfolding lines words first_nonblank_is tokens_of last_line digits token scan clauses_of dimacs
 clean_rows = record {
   empty = refl;
   header_alone = refl;
@@ -18,7 +18,7 @@ clean_rows = record {
 }
 
 pub fault_rows : FaultRows
-unfolding lines words begins_with tokens_of last_line digits token scan clauses_of dimacs
+unfolding lines words first_nonblank_is tokens_of last_line digits token scan clauses_of dimacs
 fault_rows = record {
   minus_zero = refl;
   past_the_limit = refl;
@@ -33,8 +33,8 @@ fault_rows = record {
 }
 
 pub header_rows : HeaderRows
-unfolding lines words begins_with tokens_of last_line digits token scan
+unfolding lines words first_nonblank_is tokens_of last_line digits token scan
 header_rows = record { numbers = refl; no_LF = refl; none = refl }
 
-pub part_rows : PartRows
+pub part_rows : PrefixRows
 part_rows = record { to_the_blank = refl; to_a_blank_alone = refl; to_the_LF = refl }

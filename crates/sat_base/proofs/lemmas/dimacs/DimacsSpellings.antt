@@ -6,8 +6,8 @@ use Rattle.std.proofs.lemmas.Bool.Decides.{nat_tests}
 use Rattle.sat_base.specs.values.Literals.{variable, is_positive, mk_lit, var_limit}
 use Rattle.sat_base.specs.text.Text.{Token, Number, Letter, Header, Wrong, tokens, scan}
 use Rattle.sat_base.specs.script.Language.{without_lines}
-use Rattle.sat_base.specs.dimacs.Dimacs.{Ending, Clean, Malformed, Limit, Dimacs, PartialClause, TokenEffect, GoesOn, Ends, literals_in, with_number, token_effect, at_end, after_token_effect, clauses_of, dimacs}
-use Rattle.sat_base.specs.script.ScriptSpelling.{IsZero}
+use Rattle.sat_base.specs.dimacs.Dimacs.{Ending, Clean, Malformed, Limit, Dimacs, PartialClause, TokenEffect, Continues, EndsClause, literals_in, number_effect, token_effect, ending_here, after_token_effect, clauses_of, dimacs}
+use Rattle.sat_base.specs.script.ScriptSpelling.{IsZeroToken}
 use Rattle.sat_base.specs.dimacs.DimacsSpelling.{signed_number, AreWithinLimit, SpellsClauses, SpellsFormula, OneFormula, CleanIfSpelled}
 use Rattle.sat_base.proofs.lemmas.dimacs.WrittenIsRead.{clauses_nil, clauses_cons, coded_back}
 use Rattle.sat_base.proofs.lemmas.text.HeaderFirst.{IsWord, AreWords, AreScript, text_is}
@@ -23,7 +23,7 @@ pub record SpellsRest (done : List ℕ) (cs : List (List ℕ)) (ts : List Token)
   pub last : Token
   pub later : List Token
   pub clauses : List (List ℕ)
-  pub is_last : IsZero last
+  pub is_last : IsZeroToken last
   pub within : AreWithinLimit literals
   pub first : cs ≡ (done ++ literals) ∷ clauses
   pub whole : ts ≡ (map signed_number literals ++ last ∷ []) ++ later
@@ -37,7 +37,7 @@ SpellsFrom (Some done) cs ts = SpellsRest done cs ts
 -- clauses.
 pub record ByZero (h : PartialClause) (cs : List (List ℕ)) (t : Token) (ts : List Token) : Type 0 where
   pub more : List (List ℕ)
-  pub is_zero : IsZero t
+  pub is_zero : IsZeroToken t
   pub first : cs ≡ literals_in h ∷ more
   pub rest : SpellsClauses more ts
 
@@ -60,11 +60,11 @@ rest_of (t ∷ ts) = ts
 
 -- FROM A SPELLING TO ITS NEXT TOKEN
 rest_next : (h : PartialClause) (literals : List ℕ) (last : Token) (later : List Token) (clauses cs : List (List ℕ)) (t : Token) (ts : List Token)
-    → IsZero last → AreWithinLimit literals → cs ≡ (literals_in h ++ literals) ∷ clauses → t ∷ ts ≡ (map signed_number literals ++ last ∷ []) ++ later → SpellsClauses clauses later → Next h cs t ts
+    → IsZeroToken last → AreWithinLimit literals → cs ≡ (literals_in h ++ literals) ∷ clauses → t ∷ ts ≡ (map signed_number literals ++ last ∷ []) ++ later → SpellsClauses clauses later → Next h cs t ts
 rest_next h [] last later clauses cs t ts z w f e s =
     let same : t ≡ last = ap first_of e in
     let following : ts ≡ later = ap rest_of e in
-    inl (record { more = clauses; is_zero = subst IsZero (sym same) z; first = f ∙ ap (λ (ls : List ℕ). ls ∷ clauses) (append-nil (literals_in h)); rest = subst (SpellsClauses clauses) (sym following) s })
+    inl (record { more = clauses; is_zero = subst IsZeroToken (sym same) z; first = f ∙ ap (λ (ls : List ℕ). ls ∷ clauses) (append-nil (literals_in h)); rest = subst (SpellsClauses clauses) (sym following) s })
 rest_next h (l ∷ ls) last later clauses cs t ts z w f e s =
     inr (record {
       literal = l;
@@ -141,17 +141,17 @@ number_is negative value some =
     let back : value - 1 + 1 ≡ value = omega arith in
     sym (ap₂ Number p (ap (λ (n : ℕ). n + 1) v ∙ back))
 
-turn_zero : (h : PartialClause) (line : ℕ) (t : Token) → IsZero t → token_effect h line t ≡ Ends (literals_in h)
+turn_zero : (h : PartialClause) (line : ℕ) (t : Token) → IsZeroToken t → token_effect h line t ≡ EndsClause (literals_in h)
 turn_zero h line (Number negative value) z = rw z refl
 turn_zero h line e z = absurd z
 
-turn_literal : (h : PartialClause) (line l : ℕ) → variable l < var_limit → token_effect h line (signed_number l) ≡ GoesOn (Some (literals_in h ++ l ∷ []))
+turn_literal : (h : PartialClause) (line l : ℕ) → variable l < var_limit → token_effect h line (signed_number l) ≡ Continues (Some (literals_in h ++ l ∷ []))
 turn_literal h line l w =
     let v = variable l + 1 in
     let some : nat_eq v 0 ≡ false = grind (arith, nat_tests) in
     let within : nat_lt var_limit v ≡ false = grind (arith, nat_tests) in
-    let spelled : token_effect h line (Number (not (is_positive l)) v) ≡ GoesOn (Some (literals_in h ++ mk_lit (v - 1) (not (not (is_positive l))) ∷ [])) = rw (some, within) refl in
-    spelled ∙ ap (λ (x : ℕ). GoesOn (Some (literals_in h ++ x ∷ []))) (coded_back l)
+    let spelled : token_effect h line (Number (not (is_positive l)) v) ≡ Continues (Some (literals_in h ++ mk_lit (v - 1) (not (not (is_positive l))) ∷ [])) = rw (some, within) refl in
+    spelled ∙ ap (λ (x : ℕ). Continues (Some (literals_in h ++ x ∷ []))) (coded_back l)
 
 -- SPELLED CLAUSES ARE READ
 abbrev AllRead : ℕ → List (ℕ × Token) → Type 0
@@ -162,7 +162,7 @@ none_whole : (ls : List ℕ) (last : Token) (later : List Token) → [] ≡ (map
 none_whole [] last later e = cc
 none_whole (l ∷ ls) last later e = cc
 
-none_read : (h : PartialClause) (last : ℕ) (cs : List (List ℕ)) → SpellsFrom h cs [] → record { clauses = []; ending = at_end h last } ≡ clean cs
+none_read : (h : PartialClause) (last : ℕ) (cs : List (List ℕ)) → SpellsFrom h cs [] → record { clauses = []; ending = ending_here h last } ≡ clean cs
 none_read None last [] s = refl
 none_read None last (c ∷ cs) s = let e : [] ≡ (map signed_number c ++ s.2.0 ∷ []) ++ s.1 = s.4 ∙ ap (λ (us : List Token). us ++ s.1) s.2.3 in absurd (none_whole c s.2.0 s.1 e)
 none_read (Some done) last cs s = absurd (none_whole s.literals s.last s.later s.whole)
@@ -191,11 +191,11 @@ unclean line cs e = let f : Malformed line ≡ Clean = ap (λ (d : Dimacs). d.en
 past : {A : Type 0} (line : ℕ) (cs : List (List ℕ)) → record { clauses = []; ending = Limit line } ≡ clean cs → A
 past line cs e = let f : Limit line ≡ Clean = ap (λ (d : Dimacs). d.ending) e in absurd (cc)
 
-none_spelled : (h : PartialClause) (last : ℕ) (cs : List (List ℕ)) → record { clauses = []; ending = at_end h last } ≡ clean cs → SpellsFrom h cs []
+none_spelled : (h : PartialClause) (last : ℕ) (cs : List (List ℕ)) → record { clauses = []; ending = ending_here h last } ≡ clean cs → SpellsFrom h cs []
 none_spelled None last cs e = subst (λ (ds : List (List ℕ)). SpellsClauses ds []) (ap (λ (d : Dimacs). d.clauses) e) refl
 none_spelled (Some done) last cs e = unclean last cs e
 
-zero_spelled : (h : PartialClause) (last : ℕ) (cs : List (List ℕ)) (t : Token) (ts : List (ℕ × Token)) → IsZero t → AllSpelled last ts
+zero_spelled : (h : PartialClause) (last : ℕ) (cs : List (List ℕ)) (t : Token) (ts : List (ℕ × Token)) → IsZeroToken t → AllSpelled last ts
     → record { clauses = literals_in h ∷ (clauses_of None last ts).clauses; ending = (clauses_of None last ts).ending } ≡ clean cs → Next h cs t (without_lines ts)
 zero_spelled h last cs t ts z ih e =
     let more = clauses_of None last ts in
@@ -208,7 +208,7 @@ zero_spelled h last cs t ts z ih e =
     })
 
 literal_spelled : (h : PartialClause) (last line : ℕ) (cs : List (List ℕ)) (negative : Bool) (value : ℕ) (ts : List (ℕ × Token)) (is_past : Bool) → nat_lt var_limit value ≡ is_past → 0 < value → AllSpelled last ts
-    → after_token_effect (with_number h line negative value) (λ k. clauses_of k last ts) ≡ clean cs → Next h cs (Number negative value) (without_lines ts)
+    → after_token_effect (number_effect h line negative value) (λ k. clauses_of k last ts) ≡ clean cs → Next h cs (Number negative value) (without_lines ts)
 literal_spelled h last line cs negative value ts true p some ih e = past line cs (rw p at e)
 literal_spelled h last line cs negative value ts false p some ih e =
     let l = mk_lit (value - 1) (not negative) in

@@ -9,7 +9,7 @@ use Rattle.sat_base.specs.declared.dimacs.error.DimacsError.TheVariants as error
 use Rattle.sat_base.specs.declared.dimacs.error.IncrementalError.{IncrementalError}
 use Rattle.sat_base.specs.declared.dimacs.error.IncrementalError.TheVariants as parts
 use Rattle.sat_base.specs.dimacs.Dimacs.{Clean, Dimacs, Ending, Limit, Malformed, dimacs}
-use Rattle.sat_base.specs.dimacs.Parsing.{Calls, EndsWell, RunsOutWithinPiece, EndsAtFault, FeedsPiece, Finishes, GoesWell, HasReadCleanly, IsSoundText, FormulaIsDetermined, OnlyTakesClauses, Parses, Progress, at_its_end, no_progress, with_fed}
+use Rattle.sat_base.specs.dimacs.Parsing.{ClosureCalls, NeedsMemoryAtEnd, RunsOutWithinPiece, EndsAtFault, FeedsPiece, FinishEffect, NeedsMemoryAt, HasReadCleanly, TextHasNoFault, FormulaIsDetermined, OnlyTakesClauses, Parses, Progress, stopped_at_end, no_progress, with_fed}
 use Rattle.sat_base.specs.device.Device.{Reader, GavePrefix}
 use Rattle.sat_base.specs.text.Text.{dimacs_header, scan, tokens_of, lines}
 
@@ -24,14 +24,14 @@ fault_ends ending fed piece p q e f rest =
 
 -- if memory ran out within a piece, it ran out within the text
 pub short_on : (fed piece : List ℕ) (p q : Progress) → p.fed ≡ fed → RunsOutWithinPiece piece p q → (rest : List ℕ)
-    → (front : List ℕ) × (byte : ℕ) × (following : List ℕ) × ((fed ++ piece) ++ rest ≡ front ++ byte ∷ following) × GoesWell front byte
+    → (front : List ℕ) × (byte : ℕ) × (following : List ℕ) × ((fed ++ piece) ++ rest ≡ front ++ byte ∷ following) × NeedsMemoryAt front byte
 short_on fed piece p q e f rest = (
   fed ++ f.front,
   f.byte,
   f.following ++ rest,
   append_assoc fed piece rest ∙ ap (λ (xs : List ℕ). fed ++ (xs ++ rest)) f.whole ∙ ap (λ (xs : List ℕ). fed ++ xs) (append_assoc f.front (f.byte ∷ f.following) rest)
       ∙ sym (append_assoc fed f.front (f.byte ∷ (f.following ++ rest))),
-  subst (λ (xs : List ℕ). GoesWell (xs ++ f.front) f.byte) e f.well,
+  subst (λ (xs : List ℕ). NeedsMemoryAt (xs ++ f.front) f.byte) e f.well,
 )
 
 -- the error of a piece is the result of parsing any text that begins with the bytes accepted and this piece
@@ -50,26 +50,26 @@ HasAccepted fed p = p ≡ record (with_fed fed no_progress) { taken = p.taken }
 pub stands_of : (fed : List ℕ) (p : Progress) → p ≡ with_fed fed no_progress → HasAccepted fed p
 stands_of fed p e = e ∙ ap (λ (t : List (List ℕ)). record (with_fed fed no_progress) { taken = t }) (sym (ap (λ (k : Progress). k.taken) e))
 
-pub ends_by : (e : DimacsError) (fed : List ℕ) (p q : Progress) → HasAccepted fed p → Finishes (Err e) p q → Parses (Err e) fed
+pub ends_by : (e : DimacsError) (fed : List ℕ) (p q : Progress) → HasAccepted fed p → FinishEffect (Err e) p q → Parses (Err e) fed
 ends_by (errors.Malformed line) fed p q is f = (f.2, f.3, ap (λ (k : Progress). (dimacs k.fed).ending) (sym is) ∙ f.4)
 ends_by (errors.Limit line) fed p q is f = (f.2, f.3, ap (λ (k : Progress). (dimacs k.fed).ending) (sym is) ∙ f.4)
 ends_by errors.Read fed p q is f = tt
-ends_by errors.OutOfMemory fed p q is f = inr (subst EndsWell (ap (λ (k : Progress). k.fed) is) f.2)
+ends_by errors.OutOfMemory fed p q is f = inr (subst NeedsMemoryAtEnd (ap (λ (k : Progress). k.fed) is) f.2)
 ends_by errors.HasFailed fed p q is f = absurd (let g : ◌≡◌ {A = Bool} true false = sym f.0 ∙ ap (λ (k : Progress). k.stopped) is in cc)
 
-pub parts_clean : (fed : List ℕ) (p q r : Progress) → HasAccepted fed p → r ≡ record q { taken = r.taken } → (q ≡ at_its_end p) × ((dimacs p.fed).ending ≡ Clean) → HasReadCleanly r fed
+pub parts_clean : (fed : List ℕ) (p q r : Progress) → HasAccepted fed p → r ≡ record q { taken = r.taken } → (q ≡ stopped_at_end p) × ((dimacs p.fed).ending ≡ Clean) → HasReadCleanly r fed
 parts_clean fed p q r is kept f =
-    let e : r ≡ record (at_its_end p) { taken = r.taken } = kept ∙ ap (λ (z : Progress). record z { taken = r.taken }) f.0 in
+    let e : r ≡ record (stopped_at_end p) { taken = r.taken } = kept ∙ ap (λ (z : Progress). record z { taken = r.taken }) f.0 in
     let fed_is : p.fed ≡ fed = ap (λ (z : Progress). z.fed) is in
     (ap (λ (z : Progress). z.fed) e ∙ fed_is, ap (λ (z : Progress). z.stopped) e, ap (λ (z : Progress). z.ended) e, ap (λ (z : List ℕ). (dimacs z).ending) (sym fed_is) ∙ f.1)
 
 -- a closure keeps the text if every call changes only which clauses were taken
-pub keeps_always : {F E : Type 0} (calls : Calls F E) → ((f g : F) (p q : MutBor Progress) (answer : Result (Unit {0}) E) → calls f p answer q g → q.now ≡ record p.now { taken = q.now.taken }) → (f : F) → OnlyTakesClauses calls f
+pub keeps_always : {F E : Type 0} (calls : ClosureCalls F E) → ((f g : F) (p q : MutBor Progress) (answer : Result (Unit {0}) E) → calls f p answer q g → q.now ≡ record p.now { taken = q.now.taken }) → (f : F) → OnlyTakesClauses calls f
 keeps_always calls k f [] = tt
 keeps_always calls k f (p ∷ ps) = λ answer q g h. (k f g p q answer h, keeps_always calls k g ps)
 
 -- after a call, a closure that keeps the text still does, and the parser has the same text
-pub keeps_next : {F E : Type 0} (calls : Calls F E) (f g : F) (p q : MutBor Progress) (answer : Result (Unit {0}) E) → OnlyTakesClauses calls f → calls f p answer q g → OnlyTakesClauses calls g × (q.now ≡ record p.now { taken = q.now.taken })
+pub keeps_next : {F E : Type 0} (calls : ClosureCalls F E) (f g : F) (p q : MutBor Progress) (answer : Result (Unit {0}) E) → OnlyTakesClauses calls f → calls f p answer q g → OnlyTakesClauses calls g × (q.now ≡ record p.now { taken = q.now.taken })
 keeps_next calls f g p q answer k h = ((λ ps. (k (p ∷ ps) answer q g h).1), (k (p ∷ []) answer q g h).0)
 
 joined_more : (pieces : List (List ℕ)) (piece : List ℕ) → concat pieces ++ piece ≡ concat (pieces ++ (piece ∷ []))
@@ -99,7 +99,7 @@ pub piece_given : (n : ℕ) (buf : List ℕ) → n ≤ length buf → 0 < n → 
 piece_given n buf h k = let e = length-take-le n buf h in omega arith
 
 -- the empty text has no fault
-pub sound_none : IsSoundText []
+pub sound_none : TextHasNoFault []
 unfolding scan tokens_of lines
 sound_none = record { lines = tt; words = ([], tt) }
 
@@ -120,8 +120,8 @@ no_read r x k h = absurd cc
 pub no_read_called : {T E X : Type 0} (r : Result T (IncrementalError E)) (e : E) → r ≡ Err (parts.Caller e) → r ≡ Err (parts.Dimacs errors.Read) → X
 no_read_called r e k h = absurd cc
 
-pub no_read_ended : {T E X : Type 0} (r : Result T (IncrementalError E)) (e : DimacsError) (p q : Progress) → Finishes (Err e) p q → r ≡ Err (parts.Dimacs e) → r ≡ Err (parts.Dimacs errors.Read) → X
-no_read_ended r e p q f k h = absurd (let i : e ≡ errors.Read = cc in subst (λ (z : DimacsError). Finishes (Err z) p q) i f)
+pub no_read_ended : {T E X : Type 0} (r : Result T (IncrementalError E)) (e : DimacsError) (p q : Progress) → FinishEffect (Err e) p q → r ≡ Err (parts.Dimacs e) → r ≡ Err (parts.Dimacs errors.Read) → X
+no_read_ended r e p q f k h = absurd (let i : e ≡ errors.Read = cc in subst (λ (z : DimacsError). FinishEffect (Err z) p q) i f)
 
 pub no_read_fed : {T E X : Type 0} (r : Result T (IncrementalError E)) (e : DimacsError) (piece : List ℕ) (p q : Progress) → FeedsPiece (Err e) piece p q → r ≡ Err (parts.Dimacs e) → r ≡ Err (parts.Dimacs errors.Read) → X
 no_read_fed r e piece p q f k h = absurd (let i : e ≡ errors.Read = cc in subst (λ (z : DimacsError). FeedsPiece (Err z) piece p q) i f)

@@ -6,7 +6,7 @@ use Rattle.sat_base.specs.declared.dimacs.error.DimacsError.TheVariants as error
 use Rattle.sat_base.specs.declared.dimacs.error.IncrementalError.{IncrementalError}
 use Rattle.sat_base.specs.declared.dimacs.error.IncrementalError.TheVariants as parts
 use Rattle.sat_base.specs.device.Device.{Reader, GavePrefix}
-use Rattle.sat_base.specs.dimacs.Parsing.{Calls, FeedsPiece, Finishes, IsSoundSoFar, FormulaIsDetermined, LastVisit, Parses, ParsesInParts, Progress, Visits}
+use Rattle.sat_base.specs.dimacs.Parsing.{ClosureCalls, FeedsPiece, FinishEffect, HasNoFaultSoFar, FormulaIsDetermined, LastClosureCall, Parses, ParsesInParts, Progress, CallsClosure}
 use Rattle.sat_base.specs.dimacs.ParserPlaces.{with_parser}
 use Rattle.sat_base.proofs.lemmas.device.Given.{enough_front}
 use Rattle.sat_base.proofs.lemmas.dimacs.Parsed.{HasAccepted, ends_by, stops_on, parts_clean, no_read, no_read_called, no_read_ended, no_read_fed}
@@ -26,14 +26,14 @@ refusal_is (Ok u) (Ok v) r h k l = l
 
 -- AT THE END
 
-pub last_at_end : {F E : Type 0} (calls : Calls F E) (seen : Result (Unit {0}) E) (answer : Result (Unit {0}) DimacsError) (r : Result (Unit {0}) (IncrementalError E)) (reader : Reader × Reader) (f h : F) (p q s : Progress)
-    → r ≡ refusal_or seen answer → FormulaIsDetermined reader.0 reader.1 p.fed → Finishes answer p q → Visits calls (f, q) seen (h, s) → LastVisit calls [] reader (with_parser s r) (f, p)
+pub last_at_end : {F E : Type 0} (calls : ClosureCalls F E) (seen : Result (Unit {0}) E) (answer : Result (Unit {0}) DimacsError) (r : Result (Unit {0}) (IncrementalError E)) (reader : Reader × Reader) (f h : F) (p q s : Progress)
+    → r ≡ refusal_or seen answer → FormulaIsDetermined reader.0 reader.1 p.fed → FinishEffect answer p q → CallsClosure calls (f, q) seen (h, s) → LastClosureCall calls [] reader (with_parser s r) (f, p)
 last_at_end calls (Err e) answer r reader f h p q s is whole ends seen = rw is (answer, q, (h, s), inr (refl, whole, ends), seen)
 last_at_end calls (Ok u) (Err e) r reader f h p q s is whole ends seen = rw is (inr (q, (h, s), inr (refl, whole, ends), seen))
 last_at_end calls (Ok u) (Ok v) r reader f h p q s is whole ends seen = rw is (refl, whole, q, h, ends, seen)
 
 pub parsed_at_end : {E : Type 0} (seen : Result (Unit {0}) E) (answer : Result (Unit {0}) DimacsError) (r : Result (Unit {0}) (IncrementalError E)) (a c : Reader) (fed : List ℕ) (p q s : Progress)
-    → r ≡ refusal_or seen answer → ReadToEnd a c fed p.fed → HasAccepted fed p → s ≡ record q { taken = s.taken } → Finishes answer p q → ParsesInParts a c (with_parser s r)
+    → r ≡ refusal_or seen answer → ReadToEnd a c fed p.fed → HasAccepted fed p → s ≡ record q { taken = s.taken } → FinishEffect answer p q → ParsesInParts a c (with_parser s r)
 parsed_at_end (Err e) answer r a c fed p q s is all valid kept ends = rw is tt
 parsed_at_end (Ok u) (Err e) r a c fed p q s is all valid kept ends =
     rw is (enough_read (Err e) a c fed (subst (ReadToEnd a c fed) (ap (λ (z : Progress). z.fed) valid) all) (ends_by e fed p q valid ends))
@@ -42,16 +42,16 @@ parsed_at_end (Ok u) (Ok v) r a c fed p q s is all valid kept ends =
     rw is (fed, read_front a c fed fed whole, parts_clean fed p q s valid kept (ends.1, ends.2), read_whole a c fed fed whole)
 
 pub no_read_at_end : {E X : Type 0} (seen : Result (Unit {0}) E) (answer : Result (Unit {0}) DimacsError) (r : Result (Unit {0}) (IncrementalError E)) (p q s : Progress)
-    → r ≡ refusal_or seen answer → Finishes answer p q → with_parser s r ≡ Err (parts.Dimacs errors.Read) → X
+    → r ≡ refusal_or seen answer → FinishEffect answer p q → with_parser s r ≡ Err (parts.Dimacs errors.Read) → X
 no_read_at_end (Err e) answer r p q s is ends h = no_read_called (with_parser s r) e (ap (with_parser s) is) h
 no_read_at_end (Ok u) (Err e) r p q s is ends h = no_read_ended (with_parser s r) e p q ends (ap (with_parser s) is) h
 no_read_at_end (Ok u) (Ok v) r p q s is ends h = no_read (with_parser s r) s (ap (with_parser s) is) h
 
 -- AT A PIECE
 
-pub last_at_piece : {F E : Type 0} (calls : Calls F E) (seen : Result (Unit {0}) E) (answer : Result (Unit {0}) DimacsError) (r : Result (Unit {0}) (IncrementalError E)) (e : IncrementalError E) (reader : Reader × Reader)
+pub last_at_piece : {F E : Type 0} (calls : ClosureCalls F E) (seen : Result (Unit {0}) E) (answer : Result (Unit {0}) DimacsError) (r : Result (Unit {0}) (IncrementalError E)) (e : IncrementalError E) (reader : Reader × Reader)
     (piece : List ℕ) (f h : F) (p q s : Progress)
-    → r ≡ refusal_or seen answer → r ≡ Err e → 0 < length piece → FeedsPiece answer piece p q → Visits calls (f, q) seen (h, s) → LastVisit calls piece reader (with_parser s r) (f, p)
+    → r ≡ refusal_or seen answer → r ≡ Err e → 0 < length piece → FeedsPiece answer piece p q → CallsClosure calls (f, q) seen (h, s) → LastClosureCall calls piece reader (with_parser s r) (f, p)
 last_at_piece calls (Err d) answer r e reader piece f h p q s is err some feeds seen = rw is (answer, q, (h, s), inl (some, feeds), seen)
 last_at_piece calls (Ok u) (Err d) r e reader piece f h p q s is err some feeds seen = rw is (inr (q, (h, s), inl (some, feeds), seen))
 last_at_piece calls (Ok u) (Ok v) r e reader piece f h p q s is err some feeds seen = absurd cc
@@ -71,8 +71,8 @@ no_read_at_piece (Ok u) (Err e) r piece p q s is feeds h = no_read_fed (with_par
 no_read_at_piece (Ok u) (Ok v) r piece p q s is feeds h = no_read (with_parser s r) s (ap (with_parser s) is) h
 
 -- if parsing continues, the piece was accepted and the closure returned `Ok`
-pub seen_piece : {F E : Type 0} (calls : Calls F E) (seen : Result (Unit {0}) E) (answer : Result (Unit {0}) DimacsError) (r : Result (Unit {0}) (IncrementalError E)) (x : Unit {0}) (piece : List ℕ) (f h : F) (p q s : Progress)
-    → r ≡ refusal_or seen answer → r ≡ Ok x → FeedsPiece answer piece p q → OnOk answer (IsSoundSoFar q) → Visits calls (f, q) seen (h, s) → FeedsPiece (Ok tt) piece p q × IsSoundSoFar q × Visits calls (f, q) (Ok tt) (h, s)
+pub seen_piece : {F E : Type 0} (calls : ClosureCalls F E) (seen : Result (Unit {0}) E) (answer : Result (Unit {0}) DimacsError) (r : Result (Unit {0}) (IncrementalError E)) (x : Unit {0}) (piece : List ℕ) (f h : F) (p q s : Progress)
+    → r ≡ refusal_or seen answer → r ≡ Ok x → FeedsPiece answer piece p q → OnOk answer (HasNoFaultSoFar q) → CallsClosure calls (f, q) seen (h, s) → FeedsPiece (Ok tt) piece p q × HasNoFaultSoFar q × CallsClosure calls (f, q) (Ok tt) (h, s)
 seen_piece calls (Err d) answer r x piece f h p q s is ok feeds sound seen = absurd cc
 seen_piece calls (Ok u) (Err d) r x piece f h p q s is ok feeds sound seen = absurd cc
 seen_piece calls (Ok u) (Ok v) r x piece f h p q s is ok feeds sound seen = (feeds, sound, seen)

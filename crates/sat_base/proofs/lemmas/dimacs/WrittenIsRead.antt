@@ -6,9 +6,9 @@ use Rattle.std.proofs.lemmas.List.{append-nil}
 use Rattle.std.proofs.lemmas.Bool.Decides.{nat_tests}
 use Rattle.std.proofs.lemmas.Fmt.{decimal_by_steps}
 use Rattle.sat_base.specs.values.Literals.{variable, is_positive, mk_lit, var_limit}
-use Rattle.sat_base.specs.values.Formulas.{vars_in, vars_of}
-use Rattle.sat_base.specs.text.Text.{is_blank, is_digit, prepend_to_first, lines, goes_on, words, begins_with, Token, Number, Header, digits, negative_token, token, header_in, with_numbers, header_if, on_line, is_none, tokens_of, last_line, scan, header_first}
-use Rattle.sat_base.specs.dimacs.Dimacs.{Clean, Dimacs, PartialClause, TokenEffect, GoesOn, Ends, literals_in, token_effect, at_end, after_token_effect, clauses_of, dimacs}
+use Rattle.sat_base.specs.values.Formulas.{clause_var_count, clauses_var_count}
+use Rattle.sat_base.specs.text.Text.{is_blank, is_digit, prepend_to_first, lines, begins_nonblank, words, first_nonblank_is, Token, Number, Header, digits, negative_token, token, header_of_words, header_of_numbers, header_if, tokens_on_line, has_no_words, tokens_of, last_line, scan, header_of_tokens}
+use Rattle.sat_base.specs.dimacs.Dimacs.{Clean, Dimacs, PartialClause, TokenEffect, Continues, EndsClause, literals_in, token_effect, ending_here, after_token_effect, clauses_of, dimacs}
 use Rattle.sat_base.specs.dimacs.DimacsText.{number_text, clause_line, clause_lines, header_line, dimacs_text}
 use Rattle.sat_base.specs.dimacs.WrittenDimacs.{WrittenIsRead}
 use Rattle.sat_base.proofs.lemmas.text.Words.{word_plain, word_minus, no_minus_digit, no_letter_digit}
@@ -82,11 +82,11 @@ words_blank : (b : ℕ) (bs : List ℕ) → is_blank b ≡ true → words (b ∷
 unfolding words
 words_blank b bs e = rw e refl
 
-words_on : (b : ℕ) (bs : List ℕ) → is_blank b ≡ false → goes_on bs ≡ true → words (b ∷ bs) ≡ prepend_to_first b (words bs)
+words_on : (b : ℕ) (bs : List ℕ) → is_blank b ≡ false → begins_nonblank bs ≡ true → words (b ∷ bs) ≡ prepend_to_first b (words bs)
 unfolding words
 words_on b bs e g = rw (e, g) refl
 
-words_stop : (b : ℕ) (bs : List ℕ) → is_blank b ≡ false → goes_on bs ≡ false → words (b ∷ bs) ≡ (b ∷ []) ∷ words bs
+words_stop : (b : ℕ) (bs : List ℕ) → is_blank b ≡ false → begins_nonblank bs ≡ false → words (b ∷ bs) ≡ (b ∷ []) ∷ words bs
 unfolding words
 words_stop b bs e g = rw (e, g) refl
 
@@ -131,8 +131,8 @@ lines_front [] bs line more o e = e
 lines_front (b ∷ w) bs line more o e = lines_other b (w ++ bs) o.0 ∙ ap (prepend_to_first b) (lines_front w bs line more o.1 e)
 
 -- THE FIRST BYTE OF A LINE
-begins : (c b : ℕ) (bs : List ℕ) → is_blank b ≡ false → begins_with c (b ∷ bs) ≡ nat_eq b c
-unfolding begins_with
+begins : (c b : ℕ) (bs : List ℕ) → is_blank b ≡ false → first_nonblank_is c (b ∷ bs) ≡ nat_eq b c
+unfolding first_nonblank_is
 begins c b bs e = rw e refl
 
 -- A LITERAL'S WORD
@@ -158,11 +158,11 @@ signed_some : (positive : Bool) (n : ℕ) → n < 2 ^ 64 → signed_text positiv
 signed_some true n k e = (says_decimal n k).some e
 signed_some false n k e = cc
 
-plain_begins : (c : ℕ) (ds rest : List ℕ) → AreDigits ds → (ds ≡ [] → ⊥) → is_digit c ≡ false → begins_with c (ds ++ rest) ≡ false
+plain_begins : (c : ℕ) (ds rest : List ℕ) → AreDigits ds → (ds ≡ [] → ⊥) → is_digit c ≡ false → first_nonblank_is c (ds ++ rest) ≡ false
 plain_begins c [] rest a s e = absurd (s refl)
 plain_begins c (d ∷ ds) rest a s e = begins c d (ds ++ rest) (digit_solid d a.0) ∙ (let f = a.0 in grind (arith, nat_tests))
 
-signed_begins : (c : ℕ) (positive : Bool) (n : ℕ) (rest : List ℕ) → n < 2 ^ 64 → is_digit c ≡ false → (c ≡ 45 → ⊥) → begins_with c (signed_text positive n ++ rest) ≡ false
+signed_begins : (c : ℕ) (positive : Bool) (n : ℕ) (rest : List ℕ) → n < 2 ^ 64 → is_digit c ≡ false → (c ≡ 45 → ⊥) → first_nonblank_is c (signed_text positive n ++ rest) ≡ false
 signed_begins c true n rest k e m = let s = says_decimal n k in plain_begins c (decimal n) rest s.all s.some e
 signed_begins c false n rest k e m = begins c 45 (decimal n ++ rest) refl ∙ (grind (arith, nat_tests))
 
@@ -193,7 +193,7 @@ lines_clause (l ∷ ls) rest w =
     ap lines (append_assoc (number_text l) (32 ∷ clause_line ls) rest)
     ∙ lines_front (number_text l) (32 ∷ (clause_line ls ++ rest)) (32 ∷ clause_line ls) (lines rest) (solid_on_line (number_text l) (signed_solid (is_positive l) (variable l + 1) k)) more
 
-clause_begins : (c : ℕ) (ls : List ℕ) → Within ls → is_digit c ≡ false → (c ≡ 45 → ⊥) → begins_with c (clause_line ls) ≡ false
+clause_begins : (c : ℕ) (ls : List ℕ) → Within ls → is_digit c ≡ false → (c ≡ 45 → ⊥) → first_nonblank_is c (clause_line ls) ≡ false
 clause_begins c [] w e m = plain_begins c (48 ∷ []) (10 ∷ []) (refl, tt) (λ f. cc) e
 clause_begins c (l ∷ ls) w e m = signed_begins c (is_positive l) (variable l + 1) (32 ∷ clause_line ls) (fits l w.0) e m
 
@@ -202,30 +202,30 @@ tokens_nil : (may : Bool) (n : ℕ) → tokens_of may n [] ≡ []
 unfolding tokens_of
 tokens_nil may n = refl
 
-tokens_header : (may : Bool) (n : ℕ) (line : List ℕ) (more : List (List ℕ)) → begins_with 37 line ≡ false → begins_with 99 line ≡ false → begins_with 112 line ≡ true
+tokens_header : (may : Bool) (n : ℕ) (line : List ℕ) (more : List (List ℕ)) → first_nonblank_is 37 line ≡ false → first_nonblank_is 99 line ≡ false → first_nonblank_is 112 line ≡ true
     → tokens_of may n (line ∷ more) ≡ (n + 1, header_if may line) ∷ tokens_of false (n + 1) more
 unfolding tokens_of
 tokens_header may n line more e f g = rw (e, f, g) refl
 
-tokens_plain : (may : Bool) (n : ℕ) (line : List ℕ) (more : List (List ℕ)) → begins_with 37 line ≡ false → begins_with 99 line ≡ false → begins_with 112 line ≡ false
-    → tokens_of may n (line ∷ more) ≡ on_line (n + 1) (words line) ++ tokens_of (may && is_none (words line)) (n + 1) more
+tokens_plain : (may : Bool) (n : ℕ) (line : List ℕ) (more : List (List ℕ)) → first_nonblank_is 37 line ≡ false → first_nonblank_is 99 line ≡ false → first_nonblank_is 112 line ≡ false
+    → tokens_of may n (line ∷ more) ≡ tokens_on_line (n + 1) (words line) ++ tokens_of (may && has_no_words (words line)) (n + 1) more
 unfolding tokens_of
 tokens_plain may n line more e f g = rw (e, f, g) refl
 
-tokens_clause : (n : ℕ) (ls rest : List ℕ) → Within ls → tokens_of false n (lines (clause_line ls ++ rest)) ≡ on_line (n + 1) (clause_words ls) ++ tokens_of false (n + 1) (lines rest)
+tokens_clause : (n : ℕ) (ls rest : List ℕ) → Within ls → tokens_of false n (lines (clause_line ls ++ rest)) ≡ tokens_on_line (n + 1) (clause_words ls) ++ tokens_of false (n + 1) (lines rest)
 tokens_clause n ls rest w =
     ap (tokens_of false n) (lines_clause ls rest w)
     ∙ tokens_plain false n (clause_line ls) (lines rest) (clause_begins 37 ls w refl (λ e. omega arith)) (clause_begins 99 ls w refl (λ e. omega arith)) (clause_begins 112 ls w refl (λ e. omega arith))
-    ∙ ap (λ (ws : List (List ℕ)). on_line (n + 1) ws ++ tokens_of false (n + 1) (lines rest)) (words_clause ls w)
+    ∙ ap (λ (ws : List (List ℕ)). tokens_on_line (n + 1) ws ++ tokens_of false (n + 1) (lines rest)) (words_clause ls w)
 
 -- CLAUSES OF TOKENS
-pub clauses_nil : (hand : PartialClause) (last : ℕ) → clauses_of hand last [] ≡ record { clauses = []; ending = at_end hand last }
+pub clauses_nil : (unfinished : PartialClause) (last : ℕ) → clauses_of unfinished last [] ≡ record { clauses = []; ending = ending_here unfinished last }
 unfolding clauses_of
-clauses_nil hand last = refl
+clauses_nil unfinished last = refl
 
-pub clauses_cons : (hand : PartialClause) (last : ℕ) (t : ℕ × Token) (ts : List (ℕ × Token)) → clauses_of hand last (t ∷ ts) ≡ after_token_effect (token_effect hand t.0 t.1) (λ h. clauses_of h last ts)
+pub clauses_cons : (unfinished : PartialClause) (last : ℕ) (t : ℕ × Token) (ts : List (ℕ × Token)) → clauses_of unfinished last (t ∷ ts) ≡ after_token_effect (token_effect unfinished t.0 t.1) (λ h. clauses_of h last ts)
 unfolding clauses_of
-clauses_cons hand last t ts = refl
+clauses_cons unfinished last t ts = refl
 
 -- the clauses and the ending of `more`, with one clause before them
 abbrev ended : List ℕ → Dimacs → Dimacs
@@ -238,32 +238,32 @@ coded_back l = go (is_positive l) refl
     go true e = let h : l % 2 ≡ 0 = grind (arith, nat_tests) in omega arith
     go false e = let h : l % 2 ≡ 1 = grind (arith, nat_tests) in omega arith
 
-turn_literal : (hand : PartialClause) (k l : ℕ) → variable l < var_limit → token_effect hand k (token (number_text l)) ≡ GoesOn (Some (literals_in hand ++ l ∷ []))
-turn_literal hand k l w =
+turn_literal : (unfinished : PartialClause) (k l : ℕ) → variable l < var_limit → token_effect unfinished k (token (number_text l)) ≡ Continues (Some (literals_in unfinished ++ l ∷ []))
+turn_literal unfinished k l w =
     let v = variable l + 1 in
     let some : nat_eq v 0 ≡ false = grind (arith, nat_tests) in
     let within : nat_lt var_limit v ≡ false = grind (arith, nat_tests) in
-    let spelled : token_effect hand k (Number (not (is_positive l)) v) ≡ GoesOn (Some (literals_in hand ++ mk_lit (v - 1) (not (not (is_positive l))) ∷ [])) = rw (some, within) refl in
-    ap (token_effect hand k) (token_signed (is_positive l) v (omega arith) (fits l w)) ∙ spelled ∙ ap (λ (x : ℕ). GoesOn (Some (literals_in hand ++ x ∷ []))) (coded_back l)
+    let spelled : token_effect unfinished k (Number (not (is_positive l)) v) ≡ Continues (Some (literals_in unfinished ++ mk_lit (v - 1) (not (not (is_positive l))) ∷ [])) = rw (some, within) refl in
+    ap (token_effect unfinished k) (token_signed (is_positive l) v (omega arith) (fits l w)) ∙ spelled ∙ ap (λ (x : ℕ). Continues (Some (literals_in unfinished ++ x ∷ []))) (coded_back l)
 
 zero_token : token (48 ∷ []) ≡ Number false 0
 zero_token = token_plain (48 ∷ []) 0 (says_one 0 (omega arith))
 
-turn_zero : (hand : PartialClause) (k : ℕ) → token_effect hand k (token (48 ∷ [])) ≡ Ends (literals_in hand)
-turn_zero hand k = ap (token_effect hand k) zero_token
+turn_zero : (unfinished : PartialClause) (k : ℕ) → token_effect unfinished k (token (48 ∷ [])) ≡ EndsClause (literals_in unfinished)
+turn_zero unfinished k = ap (token_effect unfinished k) zero_token
 
-reads_clause : (hand : PartialClause) (last k : ℕ) (ls : List ℕ) (rest : List (ℕ × Token)) → Within ls
-    → clauses_of hand last (on_line k (clause_words ls) ++ rest) ≡ ended (literals_in hand ++ ls) (clauses_of None last rest)
-reads_clause hand last k [] rest w =
-    clauses_cons hand last (k, token (48 ∷ [])) rest
-    ∙ ap (λ (t : TokenEffect). after_token_effect t (λ h. clauses_of h last rest)) (turn_zero hand k)
-    ∙ ap (λ (c : List ℕ). ended c (clauses_of None last rest)) (sym (append-nil (literals_in hand)))
-reads_clause hand last k (l ∷ ls) rest w =
-    let more = on_line k (clause_words ls) ++ rest in
-    clauses_cons hand last (k, token (number_text l)) more
-    ∙ ap (λ (t : TokenEffect). after_token_effect t (λ h. clauses_of h last more)) (turn_literal hand k l w.0)
-    ∙ reads_clause (Some (literals_in hand ++ l ∷ [])) last k ls rest w.1
-    ∙ ap (λ (c : List ℕ). ended c (clauses_of None last rest)) (append_assoc (literals_in hand) (l ∷ []) ls)
+reads_clause : (unfinished : PartialClause) (last k : ℕ) (ls : List ℕ) (rest : List (ℕ × Token)) → Within ls
+    → clauses_of unfinished last (tokens_on_line k (clause_words ls) ++ rest) ≡ ended (literals_in unfinished ++ ls) (clauses_of None last rest)
+reads_clause unfinished last k [] rest w =
+    clauses_cons unfinished last (k, token (48 ∷ [])) rest
+    ∙ ap (λ (t : TokenEffect). after_token_effect t (λ h. clauses_of h last rest)) (turn_zero unfinished k)
+    ∙ ap (λ (c : List ℕ). ended c (clauses_of None last rest)) (sym (append-nil (literals_in unfinished)))
+reads_clause unfinished last k (l ∷ ls) rest w =
+    let more = tokens_on_line k (clause_words ls) ++ rest in
+    clauses_cons unfinished last (k, token (number_text l)) more
+    ∙ ap (λ (t : TokenEffect). after_token_effect t (λ h. clauses_of h last more)) (turn_literal unfinished k l w.0)
+    ∙ reads_clause (Some (literals_in unfinished ++ l ∷ [])) last k ls rest w.1
+    ∙ ap (λ (c : List ℕ). ended c (clauses_of None last rest)) (append_assoc (literals_in unfinished) (l ∷ []) ls)
 
 abbrev AllWithin : List (List ℕ) → Type 0
 AllWithin = AllByRecursion Within
@@ -290,7 +290,7 @@ words_header v c h k =
 
 header_says : (v c : ℕ) → v < 2 ^ 64 → c < 2 ^ 64 → header_if true (header_line v c) ≡ Header v c
 header_says v c h k =
-    ap header_in (words_header v c h k) ∙ ap₂ with_numbers (says_decimal v h).value (says_decimal c k).value
+    ap header_of_words (words_header v c h k) ∙ ap₂ header_of_numbers (says_decimal v h).value (says_decimal c k).value
 
 lines_header : (v c : ℕ) (rest : List ℕ) → v < 2 ^ 64 → c < 2 ^ 64 → lines (header_line v c ++ rest) ≡ header_line v c ∷ lines rest
 lines_header v c rest h k =
@@ -312,11 +312,11 @@ text_tokens v c cs h k =
     ∙ tokens_header true 0 (header_line v c) (lines (clause_lines cs)) (begins 37 112 following refl) (begins 99 112 following refl) (begins 112 112 following refl)
     ∙ ap (λ (t : Token). (0 + 1, t) ∷ tokens_of false (0 + 1) (lines (clause_lines cs))) (header_says v c h k)
 
-literals_within : (ls : List ℕ) → vars_in ls ≤ var_limit → Within ls
+literals_within : (ls : List ℕ) → clause_var_count ls ≤ var_limit → Within ls
 literals_within [] h = tt
 literals_within (l ∷ ls) h = (omega arith, literals_within ls (omega arith))
 
-clauses_within : (cs : List (List ℕ)) → vars_of cs ≤ var_limit → AllWithin cs
+clauses_within : (cs : List (List ℕ)) → clauses_var_count cs ≤ var_limit → AllWithin cs
 clauses_within [] h = tt
 clauses_within (c ∷ cs) h = (literals_within c (omega arith), clauses_within cs (omega arith))
 
@@ -328,5 +328,5 @@ written_is_read f h k l =
     let e = text_tokens f.var_count (length cs) cs (omega arith) l in
     let last = last_line 0 (lines text) in (
       ap (clauses_of None last) e ∙ clauses_cons None last (0 + 1, Header f.var_count (length cs)) (tokens_of false (0 + 1) (lines (clause_lines cs))) ∙ reads_clauses (0 + 1) last cs (clauses_within cs h),
-      ap header_first e,
+      ap header_of_tokens e,
     )

@@ -5,9 +5,9 @@ use Rattle.std.specs.List.{AllByRecursion}
 use Rattle.sat_base.specs.script.Script.{Among}
 use Rattle.sat_base.specs.script.ScriptState.{Named, identity_in, identity_of}
 use Rattle.sat_base.proofs.lemmas.script.LiteralValues.{all_at}
-use Rattle.sat_base.specs.script.ScriptStateLaws.{NamesIncrease, Increase, NamesAreListed}
+use Rattle.sat_base.specs.script.ScriptStateLaws.{NamesAreIncreasing, AreIncreasing, NamesAreListed}
 
-same_increasing : (xs ys : List ℕ) → Increase xs → Increase ys → ((n : ℕ) → Among n xs → Among n ys) → ((n : ℕ) → Among n ys → Among n xs) → xs ≡ ys
+same_increasing : (xs ys : List ℕ) → AreIncreasing xs → AreIncreasing ys → ((n : ℕ) → Among n xs → Among n ys) → ((n : ℕ) → Among n ys → Among n xs) → xs ≡ ys
 same_increasing [] [] h k there back = refl
 same_increasing [] (y ∷ ys) h k there back = absurd (back y (inl refl))
 same_increasing (x ∷ xs) [] h k there back = absurd (there x (inl refl))
@@ -31,7 +31,7 @@ all_names : (P : ℕ → Type 0) (ns : List Named) → AllByRecursion (λ n. P n
 all_names P [] h = tt
 all_names P (n ∷ ns) h = (h.0, all_names P ns h.1)
 
-names_increasing : (ns : List Named) → NamesIncrease ns → Increase (map (λ n. n.name) ns)
+names_increasing : (ns : List Named) → NamesAreIncreasing ns → AreIncreasing (map (λ n. n.name) ns)
 names_increasing [] h = tt
 names_increasing (n ∷ ns) h = (all_names (λ m. n.name < m) ns h.0, names_increasing ns h.1)
 

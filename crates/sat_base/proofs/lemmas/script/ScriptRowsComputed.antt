@@ -1,11 +1,11 @@
 -- The example texts have the stated meaning, by computation.
 use Rattle.std.proofs.Common.{refl}
-use Rattle.sat_base.specs.text.Text.{lines, words, begins_with, tokens_of, digits, token, scan}
+use Rattle.sat_base.specs.text.Text.{lines, words, first_nonblank_is, tokens_of, digits, token, scan}
 use Rattle.sat_base.specs.script.Language.{commands_of, plain_reading, reading}
 use Rattle.sat_base.specs.script.ScriptRows.{ReadRows, MalformedRows}
 
 pub read_rows : ReadRows
-unfolding lines words begins_with tokens_of digits token scan commands_of plain_reading reading
+unfolding lines words first_nonblank_is tokens_of digits token scan commands_of plain_reading reading
 read_rows = record {
   empty = refl;
   clause_and_ask = refl;
@@ -36,7 +36,7 @@ read_rows = record {
 }
 
 pub malformed_rows : MalformedRows
-unfolding lines words begins_with tokens_of digits token scan commands_of plain_reading reading
+unfolding lines words first_nonblank_is tokens_of digits token scan commands_of plain_reading reading
 malformed_rows = record {
   comment_after_word = refl;
   minus_zero = refl;

@@ -4,10 +4,10 @@ use Rattle.std.proofs.Math.ListN.{length-set}
 use Rattle.std.proofs.lemmas.Bool.{ltb-true, ltb-false, eqb-false, ne_eqb}
 use Rattle.std.specs.List.{AllByRecursion}
 use Rattle.sat_base.specs.values.Literals.{var_limit, variable, mk_lit}
-use Rattle.sat_base.specs.values.Clauses.{Valuation, literal_true, clause_true, EachHolds}
+use Rattle.sat_base.specs.values.Clauses.{Valuation, literal_true, clause_true, AllClausesTrue}
 use Rattle.sat_base.specs.script.Script.{Literal, Command, Clause, Ask, Hide, Witness, Sample, names_of}
-use Rattle.sat_base.specs.script.ScriptState.{ScriptState, Named, NameMode, Sampled, Witnessed, identity_in, identity_of, insert_by_name, with_name, with_names, names_from, new_names, identity_lit, introduce, introduce_all, without_name, with_mode, hide_all, set_all, state_after_accepted, Refusal, PastLimit, WitnessName, refused_literal, first_refusal, has_witness, refusal_of, after_command, after_script, initial_state}
-use Rattle.sat_base.specs.script.ScriptStateLaws.{NamesIncrease, ScriptStateInvariant, ScriptStateInvariantHolds, only_below, GivenIdentitiesSuffice}
+use Rattle.sat_base.specs.script.ScriptState.{ScriptState, Named, NameMode, Sampled, Witnessed, identity_in, identity_of, insert_by_name, with_name, with_names, names_from, new_names, identity_lit, introduce, introduce_all, without_name, with_mode, hide_all, set_mode_all, state_after_accepted, Refusal, PastLimit, WitnessName, refusal_of_names, first_refusal, has_witness, refusal_of, after_command, after_script, initial_state}
+use Rattle.sat_base.specs.script.ScriptStateLaws.{NamesAreIncreasing, ScriptStateInvariant, ScriptStateInvariantHolds, false_from, GivenIdentitiesSuffice}
 use Rattle.sat_base.proofs.lemmas.script.LiteralValues.{all_map, coded_half}
 
 pub placed_all : (P : Named → Type 0) (new : Named) (ns : List Named) → P new → AllByRecursion P ns → AllByRecursion P (insert_by_name new ns)
@@ -18,11 +18,11 @@ placed_all P new (n ∷ ns) p h = go (ltb n.name new.name) (placed_all P new ns 
     go true ih = (h.0, ih)
     go false ih = (p, h)
 
-pub placed_order : (new : Named) (ns : List Named) → identity_in ns new.name ≡ None → NamesIncrease ns → NamesIncrease (insert_by_name new ns)
+pub placed_order : (new : Named) (ns : List Named) → identity_in ns new.name ≡ None → NamesAreIncreasing ns → NamesAreIncreasing (insert_by_name new ns)
 placed_order new [] e h = (tt, tt)
 placed_order new (n ∷ ns) e h = go (ltb n.name new.name) refl (eqb n.name new.name) refl e (placed_order new ns)
   where
-    go : (b : Bool) → ltb n.name new.name ≡ b → (d : Bool) → eqb n.name new.name ≡ d → cond d (Some n.identity) (identity_in ns new.name) ≡ None → (identity_in ns new.name ≡ None → NamesIncrease ns → NamesIncrease (insert_by_name new ns)) → NamesIncrease (cond b (n ∷ insert_by_name new ns) (new ∷ n ∷ ns))
+    go : (b : Bool) → ltb n.name new.name ≡ b → (d : Bool) → eqb n.name new.name ≡ d → cond d (Some n.identity) (identity_in ns new.name) ≡ None → (identity_in ns new.name ≡ None → NamesAreIncreasing ns → NamesAreIncreasing (insert_by_name new ns)) → NamesAreIncreasing (cond b (n ∷ insert_by_name new ns) (new ∷ n ∷ ns))
     go b x true y f ih = absurd (cc)
     go true x false y f ih = (placed_all (λ m. n.name < m.name) new ns (ltb-true n.name new.name x) h.0, ih f h.1)
     go false x false y f ih =
@@ -43,11 +43,11 @@ filtered_all P test (n ∷ ns) h = go (test n) (filtered_all P test ns h.1)
     go true ih = (h.0, ih)
     go false ih = ih
 
-pub filtered_order : (test : Named → Bool) (ns : List Named) → NamesIncrease ns → NamesIncrease (filter test ns)
+pub filtered_order : (test : Named → Bool) (ns : List Named) → NamesAreIncreasing ns → NamesAreIncreasing (filter test ns)
 filtered_order test [] h = tt
 filtered_order test (n ∷ ns) h = go (test n) (filtered_order test ns h.1)
   where
-    go : (b : Bool) → NamesIncrease (filter test ns) → NamesIncrease (cond b (n ∷ filter test ns) (filter test ns))
+    go : (b : Bool) → NamesAreIncreasing (filter test ns) → NamesAreIncreasing (cond b (n ∷ filter test ns) (filter test ns))
     go true ih = (filtered_all (λ m. n.name < m.name) test ns h.0, ih)
     go false ih = ih
 
@@ -100,16 +100,16 @@ hide_all_kept : (names : List ℕ) (j : ScriptState) → Within names → Script
 hide_all_kept [] j w h = h
 hide_all_kept (n ∷ ns) j w h = hide_all_kept ns (without_name n (introduce n j)) w.1 (hide_kept n (introduce n j) (bring_kept n j w.0 h))
 
-set_all_kept : (mode : NameMode) (names : List ℕ) (j : ScriptState) → Within names → ScriptStateInvariant j → ScriptStateInvariant (set_all mode names j)
+set_all_kept : (mode : NameMode) (names : List ℕ) (j : ScriptState) → Within names → ScriptStateInvariant j → ScriptStateInvariant (set_mode_all mode names j)
 set_all_kept mode [] j w h = h
 set_all_kept mode (n ∷ ns) j w h = set_all_kept mode ns (with_mode mode n (introduce n j)) w.1 (mode_kept mode n (introduce n j) (bring_kept n j w.0 h))
 
 -- names that are not refused are within the limit
-within_literals : (names : List ℕ) (j : ScriptState) → refused_literal j names ≡ None → Within names
+within_literals : (names : List ℕ) (j : ScriptState) → refusal_of_names j names ≡ None → Within names
 within_literals [] j e = tt
 within_literals (n ∷ ns) j e = go (ltb var_limit n) refl (has_witness j (identity_of j n)) e (within_literals ns j)
   where
-    go : (b : Bool) → ltb var_limit n ≡ b → (w : Bool) → cond b (Some PastLimit) (cond w (Some (WitnessName n)) (refused_literal j ns)) ≡ None → (refused_literal j ns ≡ None → Within ns) → Within (n ∷ ns)
+    go : (b : Bool) → ltb var_limit n ≡ b → (w : Bool) → cond b (Some PastLimit) (cond w (Some (WitnessName n)) (refusal_of_names j ns)) ≡ None → (refusal_of_names j ns ≡ None → Within ns) → Within (n ∷ ns)
     go true x w f ih = absurd (cc)
     go false x true f ih = absurd (cc)
     go false x false f ih = (ltb-false var_limit n x, ih f)
@@ -199,14 +199,14 @@ pub judge_kept : ScriptStateInvariantHolds
 judge_kept commands = script_kept commands initial_state start_kept
 
 -- making a valuation false from variable n on does not change literals below n
-same_below : (n : ℕ) (a : Valuation) (l : ℕ) → variable l < n → literal_true (only_below n a) l ≡ literal_true a l
+same_below : (n : ℕ) (a : Valuation) (l : ℕ) → variable l < n → literal_true (false_from n a) l ≡ literal_true a l
 same_below n a l h = let e : ltb (variable l) n ≡ true = lt-ltb (variable l) n h in rw e refl
 
-same_clause_below : (n : ℕ) (a : Valuation) (c : List ℕ) → AllByRecursion (λ l. variable l < n) c → clause_true (only_below n a) c ≡ clause_true a c
+same_clause_below : (n : ℕ) (a : Valuation) (c : List ℕ) → AllByRecursion (λ l. variable l < n) c → clause_true (false_from n a) c ≡ clause_true a c
 same_clause_below n a [] h = refl
-same_clause_below n a (l ∷ ls) h = ap (λ x. x || clause_true (only_below n a) ls) (same_below n a l h.0) ∙ ap (λ x. literal_true a l || x) (same_clause_below n a ls h.1)
+same_clause_below n a (l ∷ ls) h = ap (λ x. x || clause_true (false_from n a) ls) (same_below n a l h.0) ∙ ap (λ x. literal_true a l || x) (same_clause_below n a ls h.1)
 
-all_same_below : (n : ℕ) (a : Valuation) (cs : List (List ℕ)) → AllByRecursion (AllByRecursion (λ l. variable l < n)) cs → EachHolds a cs ↔ EachHolds (only_below n a) cs
+all_same_below : (n : ℕ) (a : Valuation) (cs : List (List ℕ)) → AllByRecursion (AllByRecursion (λ l. variable l < n)) cs → AllClausesTrue a cs ↔ AllClausesTrue (false_from n a) cs
 all_same_below n a [] h = ((λ x. tt), (λ x. tt))
 all_same_below n a (c ∷ cs) h = let r = all_same_below n a cs h.1 in let e = same_clause_below n a c h.0 in ((λ x. (e ∙ x.0, r.0 x.1)), (λ x. (sym e ∙ x.0, r.1 x.1)))
 

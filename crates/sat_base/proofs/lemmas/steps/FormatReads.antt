@@ -4,7 +4,7 @@ use Rattle.std.proofs.lemmas.List.{append-nil}
 use Rattle.sat_base.specs.declared.steps.error.StepError.{StepError}
 use Rattle.sat_base.specs.declared.steps.error.StepError.TheVariants as errors
 use Rattle.sat_base.specs.steps.Formats.{Format, Then, Times, ListOf, IsUniquelyDecodable}
-use Rattle.sat_base.specs.device.Reading.{Source, ConsumesBytes, ReadsValue, giving, valued}
+use Rattle.sat_base.specs.device.Reading.{Source, ConsumesBytes, ReadsValue, with_result_value, map_result}
 use Rattle.sat_base.proofs.lemmas.steps.Formats.{HasText, live_first, shut_first, live_second, shut_second, Times_text, to_items, from_items}
 use Rattle.sat_base.proofs.lemmas.device.ReadLemmas.{passes_none, passes_more, faults_later}
 
@@ -18,7 +18,7 @@ first_fails F G one some errors.Ends old new r = absurd r
 first_fails F G one some errors.HasFailed old new r = absurd r
 
 -- the first value of a pair was read, so reading the second reads the pair
-pub second_gives : {A B : Type 0} (F : Format A) (G : A → Format B) → IsUniquelyDecodable F → (x : A) (a : List ℕ) (old mid new : Source) → F x a → ConsumesBytes old mid a → (r : Result B StepError) → ReadsValue (G x) r mid new → ReadsValue (Then F G) (valued (λ y. (x, y)) r) old new
+pub second_gives : {A B : Type 0} (F : Format A) (G : A → Format B) → IsUniquelyDecodable F → (x : A) (a : List ℕ) (old mid new : Source) → F x a → ConsumesBytes old mid a → (r : Result B StepError) → ReadsValue (G x) r mid new → ReadsValue (Then F G) (map_result (λ y. (x, y)) r) old new
 second_gives F G one x a old mid new f p (Ok y) r = (a ++ r.0, passes_more old mid new a r.0 p r.1, (a, r.0, f, r.2, refl))
 second_gives F G one x a old mid new f p (Err errors.Cut) r = (a ++ r.0, (passes_more old mid new a r.0 p r.1.0, r.1.1), live_second F G x a r.0 f r.2)
 second_gives F G one x a old mid new f p (Err errors.BadByte) r = (a ++ r.0, r.1, subst (ConsumesBytes old new) (sym (append_assoc a r.0 (r.1 ∷ []))) (passes_more old mid new a (r.0 ++ r.1 ∷ []) p r.2), live_second F G x a r.0 f r.3, shut_second F G one x a r.0 r.1 f r.4)
@@ -28,7 +28,7 @@ second_gives F G one x a old mid new f p (Err errors.Ends) r = absurd r
 second_gives F G one x a old mid new f p (Err errors.HasFailed) r = absurd r
 
 -- reading in one format is reading in another, if both have the same texts and `f` maps the values
-pub reads_as : {A B : Type 0} (H : Format A) (K : Format B) (f : A → B) → ((x : A) (t : List ℕ) → H x t → K (f x) t) → ((y : B) (t : List ℕ) → K y t → (x : A) × H x t) → (r : Result A StepError) (old new : Source) → ReadsValue H r old new → ReadsValue K (valued f r) old new
+pub reads_as : {A B : Type 0} (H : Format A) (K : Format B) (f : A → B) → ((x : A) (t : List ℕ) → H x t → K (f x) t) → ((y : B) (t : List ℕ) → K y t → (x : A) × H x t) → (r : Result A StepError) (old new : Source) → ReadsValue H r old new → ReadsValue K (map_result f r) old new
 reads_as H K f to back (Ok x) old new r = (r.0, r.1, to x r.0 r.2)
 reads_as H K f to back (Err errors.Cut) old new r = (r.0, r.1, (f r.2.0, r.2.1, r.2.2, to r.2.0 (r.0 ++ r.2.1 ∷ r.2.2) r.2.3))
 reads_as H K f to back (Err errors.BadByte) old new r = (r.0, r.1, r.2, (f r.3.0, r.3.1, r.3.2, to r.3.0 (r.0 ++ r.3.1 ∷ r.3.2) r.3.3), λ o. let h = back o.0 ((r.0 ++ r.1 ∷ []) ++ o.1) o.2 in r.4 (h.0, o.1, h.1))
@@ -46,14 +46,14 @@ item_fails : {A : Type 0} (F : Format A) → IsUniquelyDecodable F → HasText F
 item_fails F one some n e old new r =
     reads_as (Then F (λ _. Times F n)) (Times F (suc n)) (λ x. x.0 ∷ x.1) (to_items F n) (from_items F n) (Err e) old new (first_fails F (λ _. Times F n) one (λ x. Times_text F some n) e old new r)
 
-consed : {A : Type 0} (x : A) (r : Result (List A) StepError) → valued {A = A × List A} (λ y. y.0 ∷ y.1) (valued (λ y. (x, y)) r) ≡ with_front (x ∷ []) r
+consed : {A : Type 0} (x : A) (r : Result (List A) StepError) → map_result {A = A × List A} (λ y. y.0 ∷ y.1) (map_result (λ y. (x, y)) r) ≡ with_front (x ∷ []) r
 consed x (Ok y) = refl
 consed x (Err e) = refl
 
 pub item_read : {A : Type 0} (F : Format A) → IsUniquelyDecodable F → (n : ℕ) (x : A) (old mid new : Source) → ReadsValue F (Ok x) old mid → (r : Result (List A) StepError) → ReadsValue (Times F n) r mid new → ReadsValue (Times F (suc n)) (with_front (x ∷ []) r) old new
 item_read {A} F one n x old mid new i r h =
     subst (λ (z : Result (List A) StepError). ReadsValue (Times F (suc n)) z old new) (consed x r)
-    (reads_as (Then F (λ _. Times F n)) (Times F (suc n)) (λ y. y.0 ∷ y.1) (to_items F n) (from_items F n) (valued (λ y. (x, y)) r) old new (second_gives F (λ _. Times F n) one x i.0 old mid new i.2 i.1 r h))
+    (reads_as (Then F (λ _. Times F n)) (Times F (suc n)) (λ y. y.0 ∷ y.1) (to_items F n) (from_items F n) (map_result (λ y. (x, y)) r) old new (second_gives F (λ _. Times F n) one x i.0 old mid new i.2 i.1 r h))
 
 -- `Counted F count left xs old mid` holds if reading `left` items from `mid` on, after the items `xs`, is reading
 -- `count` items from `old` on.
@@ -95,7 +95,7 @@ from_list C F xs t h = ((length xs, xs), (h.0, h.1, h.2, (refl, h.3), h.4))
 abbrev second : {A B : Type 0} → A × B → B
 second x = x.1
 
-twice : {A : Type 0} (n : ℕ) (r : Result (List A) StepError) → valued second (valued (λ y. (n, y)) r) ≡ r
+twice : {A : Type 0} (n : ℕ) (r : Result (List A) StepError) → map_result second (map_result (λ y. (n, y)) r) ≡ r
 twice n (Ok x) = refl
 twice n (Err e) = refl
 
@@ -108,19 +108,19 @@ list_fails C F one some e old new r =
 pub list_gives : {A : Type 0} (C : Format ℕ) (F : Format A) → IsUniquelyDecodable C → (n : ℕ) (old mid new : Source) → ReadsValue C (Ok n) old mid → (r : Result (List A) StepError) → ReadsValue (Times F n) r mid new → ReadsValue (ListOf C F) r old new
 list_gives {A} C F one n old mid new c r h =
     subst (λ (z : Result (List A) StepError). ReadsValue (ListOf C F) z old new) (twice n r)
-    (reads_as (Then C (Times F)) (ListOf C F) second (to_list C F) (from_list C F) (valued (λ y. (n, y)) r) old new (second_gives C (Times F) one n c.0 old mid new c.2 c.1 r h))
+    (reads_as (Then C (Times F)) (ListOf C F) second (to_list C F) (from_list C F) (map_result (λ y. (n, y)) r) old new (second_gives C (Times F) one n c.0 old mid new c.2 c.1 r h))
 
 -- a pair whose second value is stored elsewhere
-pub pair_giving : {A B : Type 0} (x : A) (y : B) (r : Result (Unit {0}) StepError) → valued {A = B} {B = A × B} (λ z. (x, z)) (giving y r) ≡ giving {A = A × B} (x, y) r
+pub pair_giving : {A B : Type 0} (x : A) (y : B) (r : Result (Unit {0}) StepError) → map_result {A = B} {B = A × B} (λ z. (x, z)) (with_result_value y r) ≡ with_result_value {A = A × B} (x, y) r
 pair_giving x y (Ok u) = refl
 pair_giving x y (Err e) = refl
 
-pub pair_valued : {A B C : Type 0} (x : A) (f : B → C) (r : Result B StepError) → valued {A = C} {B = A × C} (λ z. (x, z)) (valued f r) ≡ valued {A = B} {B = A × C} (λ z. (x, f z)) r
+pub pair_valued : {A B C : Type 0} (x : A) (f : B → C) (r : Result B StepError) → map_result {A = C} {B = A × C} (λ z. (x, z)) (map_result f r) ≡ map_result {A = B} {B = A × C} (λ z. (x, f z)) r
 pair_valued x f (Ok z) = refl
 pair_valued x f (Err e) = refl
 
 -- an error in the fields after a tag that was compared with `t`
-pub stops_at : {X B : Type 0} (F : ℕ → Format B) (t tag : ℕ) (f : X → B) (r : Result X StepError) (d e : StepError) (old new : Source) → r ≡ Err d → d ≡ e → tag ≡ t → ReadsValue (F t) (Err e) old new → ReadsValue (F tag) (valued f r) old new
+pub stops_at : {X B : Type 0} (F : ℕ → Format B) (t tag : ℕ) (f : X → B) (r : Result X StepError) (d e : StepError) (old new : Source) → r ≡ Err d → d ≡ e → tag ≡ t → ReadsValue (F t) (Err e) old new → ReadsValue (F tag) (map_result f r) old new
 stops_at {X} {B} F t tag f r d e old new p q k h =
-    subst (λ (z : Result X StepError). ReadsValue (F tag) (valued f z) old new) (sym p)
+    subst (λ (z : Result X StepError). ReadsValue (F tag) (map_result f z) old new) (sym p)
     (subst (λ (z : StepError). ReadsValue (F tag) (Err z) old new) (sym q) (subst (λ (n : ℕ). ReadsValue (F n) (Err e) old new) (sym k) h))

@@ -5,7 +5,7 @@ use Rattle.sat_base.specs.declared.device.input.Input.{Input}
 use Rattle.sat_base.specs.declared.steps.error.StepError.{StepError}
 use Rattle.sat_base.specs.declared.steps.error.StepError.TheVariants as errors
 use Rattle.sat_base.specs.device.Device.{Reader}
-use Rattle.sat_base.specs.device.Reading.{Source, ConsumesWithReads, ConsumesAndFails, AllTaken, AnswersStepRead, source, source_of, with_borrows}
+use Rattle.sat_base.specs.device.Reading.{Source, ConsumesWithReads, ConsumesAndFails, IsFullyConsumed, AnswersStepRead, source, source_of, with_borrows}
 use Rattle.sat_base.specs.steps.Steps.{Step}
 
 same_names : (r : Result Step StepError) (s t : Source) → AnswersStepRead r s t → t.names ≡ s.names
@@ -23,7 +23,7 @@ passes_named ns s t text p = record { fresh = p.fresh; gave = p.gave; flows = p.
 faults_named : (ns : List ℕ) (s t : Source) (text : List ℕ) → ConsumesAndFails s t text → ConsumesAndFails (with_borrows ns s) (with_borrows ns t) text
 faults_named ns s t text f = record { fresh = f.fresh; gave = f.gave; flows = f.flows; none = f.none; bytes = f.bytes; cause = f.cause; calls = f.calls; room = f.room; few = f.few; loans = f.loans; names = refl }
 
-taken_named : (ns : List ℕ) (t : Source) → AllTaken t → AllTaken (with_borrows ns t)
+taken_named : (ns : List ℕ) (t : Source) → IsFullyConsumed t → IsFullyConsumed (with_borrows ns t)
 taken_named ns t a = record { read = a.read; ended = a.ended; waiting = a.waiting; over = a.over }
 
 answers_named : (ns : List ℕ) (r : Result Step StepError) (s t : Source) → AnswersStepRead r s t → AnswersStepRead r (with_borrows ns s) (with_borrows ns t)

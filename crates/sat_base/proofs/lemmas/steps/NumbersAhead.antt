@@ -2,8 +2,8 @@
 use Rattle.std.proofs.Common.{◌≡◌, ℕ, zero, suc, ◌+◌, ◌*◌, ◌-◌, ◌<◌, ◌≤◌, List, length, length-append, length-drop, length-take, take, [], ◌∷◌, ◌++◌, ◌⊎◌, inl, inr, Option, Some, None, append_assoc, refl, sym, ap, subst, ◌∙◌, arith}
 use Rattle.std.proofs.Math.Nat.{mul-le-mul_left}
 use Rattle.sat_base.specs.declared.device.ahead.Ahead.{Ahead}
-use Rattle.sat_base.specs.device.TakenAhead.{IsEncodedBetween, buffered_from}
-use Rattle.sat_base.specs.steps.Numbers.{IsBelow, IsNumber}
+use Rattle.sat_base.specs.device.ConsumedAhead.{IsEncodedBetween, buffered_from}
+use Rattle.sat_base.specs.steps.Numbers.{SpellsNumberBelow, SpellsNumber}
 use Rattle.sat_base.proofs.lemmas.steps.Numbers.{Front, front_none, front_more, last_read}
 
 -- `LookedAt value place whole rest` holds if `whole` begins with groups of this value before `rest`, and the number in
@@ -45,7 +45,7 @@ last_begins front place b (inr p) (inr h) = absurd (omega (arith, p, h))
 
 -- a last group, which is 0 only if it is the only one
 pub looked_at_last : (limit value place b : ℕ) (whole rest more : List ℕ) → LookedAt value place whole rest → rest ≡ b ∷ more → b < 128 → (0 < b) ⊎ (place ≤ 1) → value + place * b < limit
-    → (text : List ℕ) × IsBelow limit (value + place * b) text × (whole ≡ text ++ more)
+    → (text : List ℕ) × SpellsNumberBelow limit (value + place * b) text × (whole ≡ text ++ more)
 looked_at_last limit value place b whole rest more l e p z h =
     (l.front ++ b ∷ [], last_read limit l.front value place b l.is p (last_begins l.front place b l.begun z) h, split_more whole l.front rest more b l.split e)
 
@@ -72,7 +72,7 @@ pub looked_on : (value place b at next after : ℕ) (a : Ahead) (rest : List ℕ
 looked_on value place b at next after a rest l e p q w =
     subst (λ (k : ℕ). LookedAt (value + place * (b - 128)) (place * 128) (buffered_from at a) (buffered_from k a)) w (looked_at_more value place b (buffered_from at a) rest (buffered_from next a) l e p q)
 
-number_some : (n : ℕ) (text : List ℕ) → IsNumber n text → 0 < length text
+number_some : (n : ℕ) (text : List ℕ) → SpellsNumber n text → 0 < length text
 number_some n [] h = absurd h
 number_some n (b ∷ bs) h = omega arith
 

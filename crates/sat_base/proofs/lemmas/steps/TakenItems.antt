@@ -5,7 +5,7 @@ use Rattle.sat_base.specs.declared.device.ahead.Ahead.{Ahead}
 use Rattle.sat_base.specs.declared.steps.error.StepError.{StepError}
 use Rattle.sat_base.specs.device.Device.{Reader}
 use Rattle.sat_base.specs.device.Reading.{Source, ConsumesBytes, ReadsValue}
-use Rattle.sat_base.specs.device.TakenAhead.{TakesItems}
+use Rattle.sat_base.specs.device.ConsumedAhead.{ConsumesItems}
 use Rattle.sat_base.specs.device.Waiting.{waiting}
 use Rattle.sat_base.specs.steps.Formats.{Format, Items, Times, IsUniquelyDecodable}
 use Rattle.sat_base.proofs.lemmas.device.ReadLemmas.{passes_none, took_text}
@@ -63,7 +63,7 @@ items_then F one more (x ∷ xs) text ws s n names r new i h =
     (item_read F one (length xs + more) x (with_waiting s (i.0 ++ (i.1 ++ ws)) n names) (with_waiting s (i.1 ++ ws) n names) new (i.0, takes s i.0 (i.1 ++ ws) n names, i.2) (with_front xs r) (items_then F one more xs i.1 ws s n names r new i.3 h))))
 
 -- a loop over a count that consumes several buffered items at once
-pub counted_taken : (F : Format ℕ) → IsUniquelyDecodable F → (count left n : ℕ) (before now : List ℕ) (old : Source) (s : Reader) (names : List ℕ) (a b : Ahead) → TakesItems F left n before now a b
+pub counted_taken : (F : Format ℕ) → IsUniquelyDecodable F → (count left n : ℕ) (before now : List ℕ) (old : Source) (s : Reader) (names : List ℕ) (a b : Ahead) → ConsumesItems F left n before now a b
     → Counted F count left before old (with_waiting s (waiting a) a.reads names) → Counted F count (left - n) now old (with_waiting s (waiting b) b.reads names)
 counted_taken F one count left n before now old s names a b t c = record {
   rests = λ r new h.

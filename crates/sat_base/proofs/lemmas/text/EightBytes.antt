@@ -10,7 +10,7 @@ use Rattle.std.proofs.lemmas.Simd.{map-map, mask_l-mod, length-chunk, trailing_m
 use lib.Lanes.{chunk, mask_l, top, zip2}
 use lib.Count.{count_trailing_zeros}
 use Rattle.sat_base.specs.text.Text.{is_digit, digits}
-use Rattle.sat_base.specs.text.ShortNumbers.{from_bytes, AreEightDigits, value_after}
+use Rattle.sat_base.specs.text.ShortNumbers.{little_endian_value, AreEightDigits, value_with_digits}
 
 -- THE FIRST BYTE THAT IS NO DIGIT
 
@@ -85,9 +85,9 @@ two_pairs : (y p0 q0 p2 : ℕ) → y ≡ p2 * 4294967296 + (q0 * 65536 + p0) →
 two_pairs y p0 q0 p2 e h0 k0 h2 =
     ap (λ z. bit_and z 281470681808895) e ∙ first_pair_of p0 q0 p2 65535 h0 k0 ∙ ap (λ z. z * 4294967296 + p0) (last_pair p2 h2)
 
-eight_are : (a b c d e f g h x : ℕ) → a ≤ 9 → b ≤ 9 → c ≤ 9 → d ≤ 9 → e ≤ 9 → f ≤ 9 → g ≤ 9 → h ≤ 9 → x ≡ from_bytes (a ∷ b ∷ c ∷ d ∷ e ∷ f ∷ g ∷ h ∷ [])
+eight_are : (a b c d e f g h x : ℕ) → a ≤ 9 → b ≤ 9 → c ≤ 9 → d ≤ 9 → e ≤ 9 → f ≤ 9 → g ≤ 9 → h ≤ 9 → x ≡ little_endian_value (a ∷ b ∷ c ∷ d ∷ e ∷ f ∷ g ∷ h ∷ [])
     → bit_and (bit_and (x * 2561 % 18446744073709551616 / 256) 71777214294589695 * 6553601 % 18446744073709551616 / 65536) 281470681808895 * 42949672960001 % 18446744073709551616 / 4294967296
-    ≡ value_after 0 (a ∷ b ∷ c ∷ d ∷ e ∷ f ∷ g ∷ h ∷ [])
+    ≡ value_with_digits 0 (a ∷ b ∷ c ∷ d ∷ e ∷ f ∷ g ∷ h ∷ [])
 eight_are a b c d e f g h x la lb lc ld le lf lg lh is =
     let p0 : ℕ = 10 * a + b in
     let p2 : ℕ = 10 * c + d in
@@ -103,19 +103,19 @@ eight_are a b c d e f g h x la lb lc ld le lf lg lh is =
     let t : ℕ = (100 * p4 + p6) * 4294967296 + (100 * p0 + p2) in
     let s : ℕ = 10000 * (100 * p0 + p2) + (100 * p4 + p6) in
     let five : t * 42949672960001 % 18446744073709551616 / 4294967296 ≡ s = middle_4 (t * 42949672960001) (100 * p0 + p2) s (10000 * (100 * p4 + p6)) (omega arith) (omega arith) (omega arith) in
-    let value : s ≡ value_after 0 (a ∷ b ∷ c ∷ d ∷ e ∷ f ∷ g ∷ h ∷ []) = omega arith in
+    let value : s ≡ value_with_digits 0 (a ∷ b ∷ c ∷ d ∷ e ∷ f ∷ g ∷ h ∷ []) = omega arith in
     ap (λ z. bit_and (bit_and z 71777214294589695 * 6553601 % 18446744073709551616 / 65536) 281470681808895 * 42949672960001 % 18446744073709551616 / 4294967296) one
     ∙ ap (λ z. bit_and (z * 6553601 % 18446744073709551616 / 65536) 281470681808895 * 42949672960001 % 18446744073709551616 / 4294967296) two
     ∙ ap (λ z. bit_and z 281470681808895 * 42949672960001 % 18446744073709551616 / 4294967296) three
     ∙ ap (λ z. z * 42949672960001 % 18446744073709551616 / 4294967296) four
     ∙ five ∙ value
 
-pub eight_value : (ds : List ℕ) (x : ℕ) → AreEightDigits ds → x ≡ from_bytes ds
+pub eight_value : (ds : List ℕ) (x : ℕ) → AreEightDigits ds → x ≡ little_endian_value ds
     → bit_and (bit_and (x * 2561 % 18446744073709551616 / 256) 71777214294589695 * 6553601 % 18446744073709551616 / 65536) 281470681808895 * 42949672960001 % 18446744073709551616 / 4294967296
-    ≡ value_after 0 ds
+    ≡ value_with_digits 0 ds
 eight_value ds x are is = go ds are.eight are.each is
   where
-    go : (ds : List ℕ) → length ds ≡ 8 → AllByRecursion (λ d. d ≤ 9) ds → x ≡ from_bytes ds → bit_and (bit_and (x * 2561 % 18446744073709551616 / 256) 71777214294589695 * 6553601 % 18446744073709551616 / 65536) 281470681808895 * 42949672960001 % 18446744073709551616 / 4294967296 ≡ value_after 0 ds
+    go : (ds : List ℕ) → length ds ≡ 8 → AllByRecursion (λ d. d ≤ 9) ds → x ≡ little_endian_value ds → bit_and (bit_and (x * 2561 % 18446744073709551616 / 256) 71777214294589695 * 6553601 % 18446744073709551616 / 65536) 281470681808895 * 42949672960001 % 18446744073709551616 / 4294967296 ≡ value_with_digits 0 ds
     go [] n h is = absurd (omega arith)
     go (a ∷ []) n h is = absurd (omega arith)
     go (a ∷ b ∷ []) n h is = absurd (omega arith)
@@ -133,11 +133,11 @@ small : {b : ℕ} → is_digit b ≡ true → b < 256
 small {b} e = grind (arith, nat_tests)
 
 -- the low halves of bytes
-halves : (bs : List ℕ) → AllByRecursion (λ b. b < 256) bs → bit_and (from_bytes bs) (from_bytes (map (λ (b : ℕ). 15) bs)) ≡ from_bytes (map (λ b. b % 16) bs)
+halves : (bs : List ℕ) → AllByRecursion (λ b. b < 256) bs → bit_and (little_endian_value bs) (little_endian_value (map (λ (b : ℕ). 15) bs)) ≡ little_endian_value (map (λ b. b % 16) bs)
 halves [] h = refl
 halves (b ∷ bs) h =
-    let n = from_bytes bs in
-    let m = from_bytes (map (λ (b : ℕ). 15) bs) in
+    let n = little_endian_value bs in
+    let m = little_endian_value (map (λ (b : ℕ). 15) bs) in
     let swap_n : b + 256 * n ≡ n * 256 + b = omega arith in
     let swap_m : 15 + 256 * m ≡ m * 256 + 15 = omega arith in
     let back : bit_and n m * 256 + b % 16 ≡ b % 16 + 256 * bit_and n m = omega arith in
@@ -145,7 +145,7 @@ halves (b ∷ bs) h =
     ∙ and_block 8 n m b 15 h.0 (omega arith) ∙ ap (λ z. bit_and n m * 256 + z) (and_mask b 4) ∙ back ∙ ap (λ z. b % 16 + 256 * z) (halves bs h.1)
 
 -- digits spell the value of their low halves
-spell : (n : ℕ) (xs : List ℕ) → AllByRecursion (λ b. is_digit b ≡ true) xs → digits n xs ≡ Some (value_after n (map (λ b. b % 16) xs))
+spell : (n : ℕ) (xs : List ℕ) → AllByRecursion (λ b. is_digit b ≡ true) xs → digits n xs ≡ Some (value_with_digits n (map (λ b. b % 16) xs))
 unfolding digits
 spell n [] h = refl
 spell n (x ∷ xs) h =
@@ -154,7 +154,7 @@ spell n (x ∷ xs) h =
     rw e (ap (λ d. digits (10 * n + d) xs) low ∙ spell (10 * n + x % 16) xs h.1)
 
 -- leading zeros are digits, and do not change the value
-zeros_first : (j : ℕ) (ds : List ℕ) → value_after 0 (map (λ b. b % 16) (replicate j 0 ++ ds)) ≡ value_after 0 (map (λ b. b % 16) ds)
+zeros_first : (j : ℕ) (ds : List ℕ) → value_with_digits 0 (map (λ b. b % 16) (replicate j 0 ++ ds)) ≡ value_with_digits 0 (map (λ b. b % 16) ds)
 zeros_first zero ds = refl
 zeros_first (suc j) ds = zeros_first j ds
 
@@ -168,7 +168,7 @@ all_low zero [] h = tt
 all_low zero (x ∷ xs) h = (let e : is_digit x ≡ true = h.0 in grind (arith, nat_tests), all_low zero xs h.1)
 all_low (suc j) xs h = (omega arith, all_low j xs h)
 
-fifteens : (bs : List ℕ) → length bs ≡ 8 → from_bytes (map (λ (b : ℕ). 15) bs) ≡ 1085102592571150095
+fifteens : (bs : List ℕ) → length bs ≡ 8 → little_endian_value (map (λ (b : ℕ). 15) bs) ≡ 1085102592571150095
 fifteens [] e = absurd (omega arith)
 fifteens (a ∷ []) e = absurd (omega arith)
 fifteens (a ∷ b ∷ []) e = absurd (omega arith)
@@ -180,12 +180,12 @@ fifteens (a ∷ b ∷ c ∷ d ∷ f ∷ g ∷ h ∷ []) e = absurd (omega arith)
 fifteens (a ∷ b ∷ c ∷ d ∷ f ∷ g ∷ h ∷ i ∷ []) e = refl
 fifteens (a ∷ b ∷ c ∷ d ∷ f ∷ g ∷ h ∷ i ∷ j ∷ bs) e = absurd (omega arith)
 
-finish : (j : ℕ) (xs : List ℕ) (eight top v : ℕ) → length (replicate j 0 ++ xs) ≡ 8 → AllByRecursion (λ b. is_digit b ≡ true) xs → top ≡ from_bytes (replicate j 0 ++ xs)
-    → ((ds : List ℕ) → AreEightDigits ds → bit_and top 1085102592571150095 ≡ from_bytes ds → v ≡ value_after 0 ds) → digits 0 xs ≡ Some v
+finish : (j : ℕ) (xs : List ℕ) (eight top v : ℕ) → length (replicate j 0 ++ xs) ≡ 8 → AllByRecursion (λ b. is_digit b ≡ true) xs → top ≡ little_endian_value (replicate j 0 ++ xs)
+    → ((ds : List ℕ) → AreEightDigits ds → bit_and top 1085102592571150095 ≡ little_endian_value ds → v ≡ value_with_digits 0 ds) → digits 0 xs ≡ Some v
 finish j xs eight top v long h is spec =
     let bs = replicate j 0 ++ xs in
     let ds = map (λ b. b % 16) bs in
-    let low : bit_and top 1085102592571150095 ≡ from_bytes ds = ap (λ z. bit_and z 1085102592571150095) is ∙ ap (λ m. bit_and (from_bytes bs) m) (sym (fifteens bs long)) ∙ halves bs (all_bytes j xs h) in
+    let low : bit_and top 1085102592571150095 ≡ little_endian_value ds = ap (λ z. bit_and z 1085102592571150095) is ∙ ap (λ m. bit_and (little_endian_value bs) m) (sym (fifteens bs long)) ∙ halves bs (all_bytes j xs h) in
     let are : AreEightDigits ds = record { eight = length-map bs (λ b. b % 16) ∙ long; each = all_low j xs h } in
     spell 0 xs h ∙ ap Some (sym (zeros_first j xs) ∙ sym (spec ds are low))
 
@@ -194,42 +194,42 @@ below_top n low high e h = omega arith
 
 by_count : (b0 b1 b2 b3 b4 b5 b6 b7 : ℕ) (rest : List ℕ) (count eight v : ℕ) → 0 < count → count ≤ 7 → ((k : ℕ) → k < count → is_digit (get_or (b0 ∷ b1 ∷ b2 ∷ b3 ∷ b4 ∷ b5 ∷ b6 ∷ b7 ∷ rest) k 0) ≡ true)
     → eight ≡ from_le_bytes w64 (b0 ∷ b1 ∷ b2 ∷ b3 ∷ b4 ∷ b5 ∷ b6 ∷ b7 ∷ [])
-    → ((ds : List ℕ) → AreEightDigits ds → bit_and (eight * 2 ^ (64 - 8 * count) % 18446744073709551616) 1085102592571150095 ≡ from_bytes ds → v ≡ value_after 0 ds)
+    → ((ds : List ℕ) → AreEightDigits ds → bit_and (eight * 2 ^ (64 - 8 * count) % 18446744073709551616) 1085102592571150095 ≡ little_endian_value ds → v ≡ value_with_digits 0 ds)
     → digits 0 (take count (b0 ∷ b1 ∷ b2 ∷ b3 ∷ b4 ∷ b5 ∷ b6 ∷ b7 ∷ rest)) ≡ Some v
 by_count b0 b1 b2 b3 b4 b5 b6 b7 rest zero eight v some few d e spec = absurd (omega arith)
 by_count b0 b1 b2 b3 b4 b5 b6 b7 rest (suc zero) eight v some few d e spec =
     let l0 : b0 < 256 = small (d 0 (omega arith)) in
-    let shifted : eight * 72057594037927936 % 18446744073709551616 ≡ from_bytes (0 ∷ 0 ∷ 0 ∷ 0 ∷ 0 ∷ 0 ∷ 0 ∷ b0 ∷ []) = below_top (eight * 72057594037927936) (from_bytes (0 ∷ 0 ∷ 0 ∷ 0 ∷ 0 ∷ 0 ∷ 0 ∷ b0 ∷ [])) (b1 + 256 * (b2 + 256 * (b3 + 256 * (b4 + 256 * (b5 + 256 * (b6 + 256 * (b7))))))) (omega arith) (omega arith) in
+    let shifted : eight * 72057594037927936 % 18446744073709551616 ≡ little_endian_value (0 ∷ 0 ∷ 0 ∷ 0 ∷ 0 ∷ 0 ∷ 0 ∷ b0 ∷ []) = below_top (eight * 72057594037927936) (little_endian_value (0 ∷ 0 ∷ 0 ∷ 0 ∷ 0 ∷ 0 ∷ 0 ∷ b0 ∷ [])) (b1 + 256 * (b2 + 256 * (b3 + 256 * (b4 + 256 * (b5 + 256 * (b6 + 256 * (b7))))))) (omega arith) (omega arith) in
     finish 7 (b0 ∷ []) eight (eight * 72057594037927936 % 18446744073709551616) v refl (d 0 (omega arith), tt) shifted spec
 by_count b0 b1 b2 b3 b4 b5 b6 b7 rest (suc (suc zero)) eight v some few d e spec =
     let l0 : b0 < 256 = small (d 0 (omega arith)) in let l1 : b1 < 256 = small (d 1 (omega arith)) in
-    let shifted : eight * 281474976710656 % 18446744073709551616 ≡ from_bytes (0 ∷ 0 ∷ 0 ∷ 0 ∷ 0 ∷ 0 ∷ b0 ∷ b1 ∷ []) = below_top (eight * 281474976710656) (from_bytes (0 ∷ 0 ∷ 0 ∷ 0 ∷ 0 ∷ 0 ∷ b0 ∷ b1 ∷ [])) (b2 + 256 * (b3 + 256 * (b4 + 256 * (b5 + 256 * (b6 + 256 * (b7)))))) (omega arith) (omega arith) in
+    let shifted : eight * 281474976710656 % 18446744073709551616 ≡ little_endian_value (0 ∷ 0 ∷ 0 ∷ 0 ∷ 0 ∷ 0 ∷ b0 ∷ b1 ∷ []) = below_top (eight * 281474976710656) (little_endian_value (0 ∷ 0 ∷ 0 ∷ 0 ∷ 0 ∷ 0 ∷ b0 ∷ b1 ∷ [])) (b2 + 256 * (b3 + 256 * (b4 + 256 * (b5 + 256 * (b6 + 256 * (b7)))))) (omega arith) (omega arith) in
     finish 6 (b0 ∷ b1 ∷ []) eight (eight * 281474976710656 % 18446744073709551616) v refl (d 0 (omega arith), (d 1 (omega arith), tt)) shifted spec
 by_count b0 b1 b2 b3 b4 b5 b6 b7 rest (suc (suc (suc zero))) eight v some few d e spec =
     let l0 : b0 < 256 = small (d 0 (omega arith)) in let l1 : b1 < 256 = small (d 1 (omega arith)) in let l2 : b2 < 256 = small (d 2 (omega arith)) in
-    let shifted : eight * 1099511627776 % 18446744073709551616 ≡ from_bytes (0 ∷ 0 ∷ 0 ∷ 0 ∷ 0 ∷ b0 ∷ b1 ∷ b2 ∷ []) = below_top (eight * 1099511627776) (from_bytes (0 ∷ 0 ∷ 0 ∷ 0 ∷ 0 ∷ b0 ∷ b1 ∷ b2 ∷ [])) (b3 + 256 * (b4 + 256 * (b5 + 256 * (b6 + 256 * (b7))))) (omega arith) (omega arith) in
+    let shifted : eight * 1099511627776 % 18446744073709551616 ≡ little_endian_value (0 ∷ 0 ∷ 0 ∷ 0 ∷ 0 ∷ b0 ∷ b1 ∷ b2 ∷ []) = below_top (eight * 1099511627776) (little_endian_value (0 ∷ 0 ∷ 0 ∷ 0 ∷ 0 ∷ b0 ∷ b1 ∷ b2 ∷ [])) (b3 + 256 * (b4 + 256 * (b5 + 256 * (b6 + 256 * (b7))))) (omega arith) (omega arith) in
     finish 5 (b0 ∷ b1 ∷ b2 ∷ []) eight (eight * 1099511627776 % 18446744073709551616) v refl (d 0 (omega arith), (d 1 (omega arith), (d 2 (omega arith), tt))) shifted spec
 by_count b0 b1 b2 b3 b4 b5 b6 b7 rest (suc (suc (suc (suc zero)))) eight v some few d e spec =
     let l0 : b0 < 256 = small (d 0 (omega arith)) in let l1 : b1 < 256 = small (d 1 (omega arith)) in let l2 : b2 < 256 = small (d 2 (omega arith)) in let l3 : b3 < 256 = small (d 3 (omega arith)) in
-    let shifted : eight * 4294967296 % 18446744073709551616 ≡ from_bytes (0 ∷ 0 ∷ 0 ∷ 0 ∷ b0 ∷ b1 ∷ b2 ∷ b3 ∷ []) = below_top (eight * 4294967296) (from_bytes (0 ∷ 0 ∷ 0 ∷ 0 ∷ b0 ∷ b1 ∷ b2 ∷ b3 ∷ [])) (b4 + 256 * (b5 + 256 * (b6 + 256 * (b7)))) (omega arith) (omega arith) in
+    let shifted : eight * 4294967296 % 18446744073709551616 ≡ little_endian_value (0 ∷ 0 ∷ 0 ∷ 0 ∷ b0 ∷ b1 ∷ b2 ∷ b3 ∷ []) = below_top (eight * 4294967296) (little_endian_value (0 ∷ 0 ∷ 0 ∷ 0 ∷ b0 ∷ b1 ∷ b2 ∷ b3 ∷ [])) (b4 + 256 * (b5 + 256 * (b6 + 256 * (b7)))) (omega arith) (omega arith) in
     finish 4 (b0 ∷ b1 ∷ b2 ∷ b3 ∷ []) eight (eight * 4294967296 % 18446744073709551616) v refl (d 0 (omega arith), (d 1 (omega arith), (d 2 (omega arith), (d 3 (omega arith), tt)))) shifted spec
 by_count b0 b1 b2 b3 b4 b5 b6 b7 rest (suc (suc (suc (suc (suc zero))))) eight v some few d e spec =
     let l0 : b0 < 256 = small (d 0 (omega arith)) in let l1 : b1 < 256 = small (d 1 (omega arith)) in let l2 : b2 < 256 = small (d 2 (omega arith)) in let l3 : b3 < 256 = small (d 3 (omega arith)) in let l4 : b4 < 256 = small (d 4 (omega arith)) in
-    let shifted : eight * 16777216 % 18446744073709551616 ≡ from_bytes (0 ∷ 0 ∷ 0 ∷ b0 ∷ b1 ∷ b2 ∷ b3 ∷ b4 ∷ []) = below_top (eight * 16777216) (from_bytes (0 ∷ 0 ∷ 0 ∷ b0 ∷ b1 ∷ b2 ∷ b3 ∷ b4 ∷ [])) (b5 + 256 * (b6 + 256 * (b7))) (omega arith) (omega arith) in
+    let shifted : eight * 16777216 % 18446744073709551616 ≡ little_endian_value (0 ∷ 0 ∷ 0 ∷ b0 ∷ b1 ∷ b2 ∷ b3 ∷ b4 ∷ []) = below_top (eight * 16777216) (little_endian_value (0 ∷ 0 ∷ 0 ∷ b0 ∷ b1 ∷ b2 ∷ b3 ∷ b4 ∷ [])) (b5 + 256 * (b6 + 256 * (b7))) (omega arith) (omega arith) in
     finish 3 (b0 ∷ b1 ∷ b2 ∷ b3 ∷ b4 ∷ []) eight (eight * 16777216 % 18446744073709551616) v refl (d 0 (omega arith), (d 1 (omega arith), (d 2 (omega arith), (d 3 (omega arith), (d 4 (omega arith), tt))))) shifted spec
 by_count b0 b1 b2 b3 b4 b5 b6 b7 rest (suc (suc (suc (suc (suc (suc zero)))))) eight v some few d e spec =
     let l0 : b0 < 256 = small (d 0 (omega arith)) in let l1 : b1 < 256 = small (d 1 (omega arith)) in let l2 : b2 < 256 = small (d 2 (omega arith)) in let l3 : b3 < 256 = small (d 3 (omega arith)) in let l4 : b4 < 256 = small (d 4 (omega arith)) in let l5 : b5 < 256 = small (d 5 (omega arith)) in
-    let shifted : eight * 65536 % 18446744073709551616 ≡ from_bytes (0 ∷ 0 ∷ b0 ∷ b1 ∷ b2 ∷ b3 ∷ b4 ∷ b5 ∷ []) = below_top (eight * 65536) (from_bytes (0 ∷ 0 ∷ b0 ∷ b1 ∷ b2 ∷ b3 ∷ b4 ∷ b5 ∷ [])) (b6 + 256 * (b7)) (omega arith) (omega arith) in
+    let shifted : eight * 65536 % 18446744073709551616 ≡ little_endian_value (0 ∷ 0 ∷ b0 ∷ b1 ∷ b2 ∷ b3 ∷ b4 ∷ b5 ∷ []) = below_top (eight * 65536) (little_endian_value (0 ∷ 0 ∷ b0 ∷ b1 ∷ b2 ∷ b3 ∷ b4 ∷ b5 ∷ [])) (b6 + 256 * (b7)) (omega arith) (omega arith) in
     finish 2 (b0 ∷ b1 ∷ b2 ∷ b3 ∷ b4 ∷ b5 ∷ []) eight (eight * 65536 % 18446744073709551616) v refl (d 0 (omega arith), (d 1 (omega arith), (d 2 (omega arith), (d 3 (omega arith), (d 4 (omega arith), (d 5 (omega arith), tt)))))) shifted spec
 by_count b0 b1 b2 b3 b4 b5 b6 b7 rest (suc (suc (suc (suc (suc (suc (suc zero))))))) eight v some few d e spec =
     let l0 : b0 < 256 = small (d 0 (omega arith)) in let l1 : b1 < 256 = small (d 1 (omega arith)) in let l2 : b2 < 256 = small (d 2 (omega arith)) in let l3 : b3 < 256 = small (d 3 (omega arith)) in let l4 : b4 < 256 = small (d 4 (omega arith)) in let l5 : b5 < 256 = small (d 5 (omega arith)) in let l6 : b6 < 256 = small (d 6 (omega arith)) in
-    let shifted : eight * 256 % 18446744073709551616 ≡ from_bytes (0 ∷ b0 ∷ b1 ∷ b2 ∷ b3 ∷ b4 ∷ b5 ∷ b6 ∷ []) = below_top (eight * 256) (from_bytes (0 ∷ b0 ∷ b1 ∷ b2 ∷ b3 ∷ b4 ∷ b5 ∷ b6 ∷ [])) (b7) (omega arith) (omega arith) in
+    let shifted : eight * 256 % 18446744073709551616 ≡ little_endian_value (0 ∷ b0 ∷ b1 ∷ b2 ∷ b3 ∷ b4 ∷ b5 ∷ b6 ∷ []) = below_top (eight * 256) (little_endian_value (0 ∷ b0 ∷ b1 ∷ b2 ∷ b3 ∷ b4 ∷ b5 ∷ b6 ∷ [])) (b7) (omega arith) (omega arith) in
     finish 1 (b0 ∷ b1 ∷ b2 ∷ b3 ∷ b4 ∷ b5 ∷ b6 ∷ []) eight (eight * 256 % 18446744073709551616) v refl (d 0 (omega arith), (d 1 (omega arith), (d 2 (omega arith), (d 3 (omega arith), (d 4 (omega arith), (d 5 (omega arith), (d 6 (omega arith), tt))))))) shifted spec
 by_count b0 b1 b2 b3 b4 b5 b6 b7 rest (suc (suc (suc (suc (suc (suc (suc (suc n)))))))) eight v some few d e spec = absurd (omega arith)
 
 pub short_value : (bytes : List ℕ) (count eight v : ℕ) → 8 ≤ length bytes → 0 < count → count ≤ 7 → ((k : ℕ) → k < count → is_digit (get_or bytes k 0) ≡ true)
     → eight ≡ from_le_bytes w64 (get_or bytes 0 0 ∷ get_or bytes 1 0 ∷ get_or bytes 2 0 ∷ get_or bytes 3 0 ∷ get_or bytes 4 0 ∷ get_or bytes 5 0 ∷ get_or bytes 6 0 ∷ get_or bytes 7 0 ∷ [])
-    → ((ds : List ℕ) → AreEightDigits ds → bit_and (eight * 2 ^ (64 - 8 * count) % 18446744073709551616) 1085102592571150095 ≡ from_bytes ds → v ≡ value_after 0 ds)
+    → ((ds : List ℕ) → AreEightDigits ds → bit_and (eight * 2 ^ (64 - 8 * count) % 18446744073709551616) 1085102592571150095 ≡ little_endian_value ds → v ≡ value_with_digits 0 ds)
     → digits 0 (take count bytes) ≡ Some v
 short_value [] count eight v l = absurd (omega arith)
 short_value (a ∷ []) count eight v l = absurd (omega arith)

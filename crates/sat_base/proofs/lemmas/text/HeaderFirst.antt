@@ -1,7 +1,7 @@
 -- Only the first token of a text can be a header.
 use Rattle.std.proofs.Common.{◌≡◌, ℕ, ◌+◌, List, [], ◌∷◌, ◌++◌, Bool, true, false, cond, Option, Some, None, refl, sym, subst, ◌⊎◌, inl, inr}
 use Rattle.std.specs.Prelude.{nat_eq, ◌&&◌}
-use Rattle.sat_base.specs.text.Text.{words, begins_with, is_letter, digits, unsigned_token, negative_token, after_minus, letter_token, token, header_if, is_none, on_line, Token, Number, Header, Wrong, tokens_of, lines, scan, tokens}
+use Rattle.sat_base.specs.text.Text.{words, first_nonblank_is, is_letter, digits, unsigned_token, negative_token, after_minus, letter_token, token, header_if, has_no_words, tokens_on_line, Token, Number, Header, Wrong, tokens_of, lines, scan, tokens}
 use Rattle.sat_base.specs.script.Language.{without_lines}
 
 -- `IsWord token` holds if the token is not a header.
@@ -41,7 +41,7 @@ unfolding token
 word_token [] = tt
 word_token (b ∷ bs) = either (nat_eq b 45) _ _ (after_minus_word bs) (either (is_letter b) _ _ (alone_word b bs) (plain_word (digits 0 (b ∷ bs))))
 
-line_words : (n : ℕ) (ws : List (List ℕ)) (more : List (ℕ × Token)) → AreWords (without_lines more) → AreWords (without_lines (on_line n ws ++ more))
+line_words : (n : ℕ) (ws : List (List ℕ)) (more : List (ℕ × Token)) → AreWords (without_lines more) → AreWords (without_lines (tokens_on_line n ws ++ more))
 line_words n [] more h = h
 line_words n (w ∷ ws) more h = (word_token w, line_words n ws more h)
 
@@ -51,10 +51,10 @@ unfolding tokens_of
 of_none may n = refl
 
 of_line : (may : Bool) (n : ℕ) (line : List ℕ) (lines : List (List ℕ)) → tokens_of may n (line ∷ lines)
-    ≡ cond (begins_with 37 line) []
-    (cond (begins_with 99 line) (tokens_of may (n + 1) lines)
-    (cond (begins_with 112 line) ((n + 1, header_if may line) ∷ tokens_of false (n + 1) lines)
-    (on_line (n + 1) (words line) ++ tokens_of (may && is_none (words line)) (n + 1) lines)))
+    ≡ cond (first_nonblank_is 37 line) []
+    (cond (first_nonblank_is 99 line) (tokens_of may (n + 1) lines)
+    (cond (first_nonblank_is 112 line) ((n + 1, header_if may line) ∷ tokens_of false (n + 1) lines)
+    (tokens_on_line (n + 1) (words line) ++ tokens_of (may && has_no_words (words line)) (n + 1) lines)))
 unfolding tokens_of
 of_line may n line lines = refl
 
@@ -71,13 +71,13 @@ late n [] = rw (of_none false n) tt
 late n (line ∷ ls) =
     let rest = late (n + 1) ls in
     subst (λ (ts : List (ℕ × Token)). AreWords (without_lines ts)) (sym (of_line false n line ls))
-    (chosen (λ ts. AreWords (without_lines ts)) (begins_with 37 line) (begins_with 99 line) (begins_with 112 line) _ _ _ _ tt rest (tt, rest) (line_words (n + 1) (words line) _ rest))
+    (chosen (λ ts. AreWords (without_lines ts)) (first_nonblank_is 37 line) (first_nonblank_is 99 line) (first_nonblank_is 112 line) _ _ _ _ tt rest (tt, rest) (line_words (n + 1) (words line) _ rest))
 
 after_header : (t : Token) (ts : List Token) → AreWords ts → AreScript (t ∷ ts)
 after_header (Header v c) ts h = inr (v, c, ts, h, refl)
 after_header e ts h = inl (tt, h)
 
-after_words : (n : ℕ) (ws : List (List ℕ)) (ls : List (List ℕ)) → AreScript (without_lines (tokens_of true n ls)) → AreScript (without_lines (on_line n ws ++ tokens_of (is_none ws) n ls))
+after_words : (n : ℕ) (ws : List (List ℕ)) (ls : List (List ℕ)) → AreScript (without_lines (tokens_of true n ls)) → AreScript (without_lines (tokens_on_line n ws ++ tokens_of (has_no_words ws) n ls))
 after_words n [] ls h = h
 after_words n (w ∷ ws) ls h = inl (line_words n (w ∷ ws) _ (late n ls))
 
@@ -87,7 +87,7 @@ early n [] = rw (of_none true n) (inl tt)
 early n (line ∷ ls) =
     let rest = early (n + 1) ls in
     subst (λ (ts : List (ℕ × Token)). AreScript (without_lines ts)) (sym (of_line true n line ls))
-    (chosen (λ ts. AreScript (without_lines ts)) (begins_with 37 line) (begins_with 99 line) (begins_with 112 line) _ _ _ _ (inl tt) rest (after_header _ _ (late (n + 1) ls)) (after_words (n + 1) (words line) ls rest))
+    (chosen (λ ts. AreScript (without_lines ts)) (first_nonblank_is 37 line) (first_nonblank_is 99 line) (first_nonblank_is 112 line) _ _ _ _ (inl tt) rest (after_header _ _ (late (n + 1) ls)) (after_words (n + 1) (words line) ls rest))
 
 pub text_is : (text : List ℕ) → AreScript (without_lines (tokens text))
 unfolding scan

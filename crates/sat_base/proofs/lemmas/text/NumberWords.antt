@@ -8,7 +8,7 @@ use Rattle.std.specs.List.{AllByRecursion}
 use Rattle.std.specs.Str.Parse.{AllDigits, digits_value}
 use Rattle.std.proofs.lemmas.Int.Digits.{digits_value_push}
 use Rattle.std.proofs.lemmas.Str.{digit_value_digit}
-use Rattle.sat_base.specs.text.NumberWords.{IsNumberUpTo, digits_so_far, NoDigit, NoWord, EndsNone}
+use Rattle.sat_base.specs.text.NumberWords.{IsNumberUpTo, digits_so_far, NoNumberContinues, BeginsWithNoWord, EndsNoNumber}
 
 -- `Plain bytes` holds if none of the bytes is a space.
 abbrev pub Plain : List ℕ → Type 0
@@ -35,11 +35,11 @@ so_far (suc m) h = refl
 
 module _ (limit : ℕ) (fits : limit < 2 ^ 64) where
   -- a byte other than a digit
-  pub no_digit : (number b : ℕ) → ((48 ≤ b) × (b ≤ 57) → ⊥) → NoDigit limit number b
+  pub no_digit : (number b : ℕ) → ((48 ≤ b) × (b ≤ 57) → ⊥) → NoNumberContinues limit number b
   no_digit number b wrong n more h e = let k : n < 2 ^ 64 = omega arith in wrong (digit_after (digits_so_far number) b more (subst (AllDigits 10) e (are_digits n k)))
 
   -- a leading zero
-  pub no_zero : (number b : ℕ) → 48 ≤ b → 10 * number + (b - 48) ≡ 0 → NoDigit limit number b
+  pub no_zero : (number b : ℕ) → 48 ≤ b → 10 * number + (b - 48) ≡ 0 → NoNumberContinues limit number b
   no_zero zero b low z n more h e =
       let k : n < 2 ^ 64 = omega arith in
       let f : 48 < get_or (decimal n) 0 0 = first_decimal n h.0 k in
@@ -77,7 +77,7 @@ module _ (limit : ℕ) (fits : limit < 2 ^ 64) where
   begun_value (suc number) h = value_of (suc number) h
 
   -- a number past the limit
-  pub past_limit : (number b : ℕ) → number < 2 ^ 64 → 48 ≤ b → b ≤ 57 → limit < 10 * number + (b - 48) → NoDigit limit number b
+  pub past_limit : (number b : ℕ) → number < 2 ^ 64 → 48 ≤ b → b ≤ 57 → limit < 10 * number + (b - 48) → NoNumberContinues limit number b
   past_limit number b h low high past n more k e =
       let small : n < 2 ^ 64 = omega arith in
       let f : decimal n ≡ (digits_so_far number ++ (b ∷ [])) ++ more = e ∙ sym (append_assoc (digits_so_far number) (b ∷ []) more) in
@@ -125,16 +125,16 @@ module _ (limit : ℕ) (fits : limit < 2 ^ 64) where
   number_goes_on (suc number) b x n tail small space k e = goes_on (decimal (suc number)) (decimal n) b x tail (plain_so_far (suc number) small) (λ s. let z : suc number ≡ 0 = space s in omega arith) e
 
   -- no digit that can continue a number comes next
-  pub no_number_so : (number b : ℕ) (bytes x : List ℕ) → number ≤ limit → (b ≡ 32 → number ≡ 0) → NoDigit limit number b → bytes ≡ digits_so_far number ++ (b ∷ x) → NoWord decimal (IsNumberUpTo limit) bytes
+  pub no_number_so : (number b : ℕ) (bytes x : List ℕ) → number ≤ limit → (b ≡ 32 → number ≡ 0) → NoNumberContinues limit number b → bytes ≡ digits_so_far number ++ (b ∷ x) → BeginsWithNoWord decimal (IsNumberUpTo limit) bytes
   no_number_so number b bytes x h space none e n tail k f =
       let r = number_goes_on number b x n tail (omega arith) space k (sym e ∙ f) in
       none n r.0 k r.1
 
   -- the bytes have ended
-  pub no_number_past : (number : ℕ) (bytes : List ℕ) → number < 2 ^ 64 → bytes ≡ digits_so_far number ++ [] → NoWord decimal (IsNumberUpTo limit) bytes
+  pub no_number_past : (number : ℕ) (bytes : List ℕ) → number < 2 ^ 64 → bytes ≡ digits_so_far number ++ [] → BeginsWithNoWord decimal (IsNumberUpTo limit) bytes
   no_number_past number bytes small e n tail k f = no_space (digits_so_far number) (decimal n) tail (plain_so_far number small) (sym (append-nil (digits_so_far number)) ∙ sym e ∙ f)
 
-  pub no_number_end : (number : ℕ) (bytes : List ℕ) → number ≤ limit → bytes ≡ digits_so_far number ++ [] → NoWord decimal (IsNumberUpTo limit) bytes
+  pub no_number_end : (number : ℕ) (bytes : List ℕ) → number ≤ limit → bytes ≡ digits_so_far number ++ [] → BeginsWithNoWord decimal (IsNumberUpTo limit) bytes
   no_number_end number bytes h e = no_number_past number bytes (omega arith) e
 
 -- DIGIT BY DIGIT
@@ -180,14 +180,14 @@ id_first [] rest tail h k e = omega arith
 id_first (d ∷ ds) rest tail h k e = let r : d ≡ 48 = cc in omega arith
 
 -- no number begins with `0`
-pub no_number_zero : (limit : ℕ) → limit < 2 ^ 64 → (bytes : List ℕ) → 0 < length bytes → get_or bytes 0 0 ≡ 48 → NoWord decimal (IsNumberUpTo limit) bytes
+pub no_number_zero : (limit : ℕ) → limit < 2 ^ 64 → (bytes : List ℕ) → 0 < length bytes → get_or bytes 0 0 ≡ 48 → BeginsWithNoWord decimal (IsNumberUpTo limit) bytes
 no_number_zero limit fits [] h e n tail k f = omega arith
 no_number_zero limit fits (b ∷ bytes) h e n tail k f =
     let g : 48 ∷ bytes ≡ decimal n ++ (32 ∷ tail) = ap (λ c. c ∷ bytes) (sym e) ∙ f in
     id_first (decimal n) bytes tail (decimal_nonempty n (omega arith)) (first_decimal n k.0 (omega arith)) g
 
 -- digits before another byte are not a number, unless a space ends one within the limit
-pub no_number_stop : (limit : ℕ) → limit < 2 ^ 64 → (number b : ℕ) (bytes x : List ℕ) → number < 2 ^ 64 → ((48 ≤ b) × (b ≤ 57) → ⊥) → EndsNone number b limit → bytes ≡ digits_so_far number ++ (b ∷ x) → NoWord decimal (IsNumberUpTo limit) bytes
+pub no_number_stop : (limit : ℕ) → limit < 2 ^ 64 → (number b : ℕ) (bytes x : List ℕ) → number < 2 ^ 64 → ((48 ≤ b) × (b ≤ 57) → ⊥) → EndsNoNumber number b limit → bytes ≡ digits_so_far number ++ (b ∷ x) → BeginsWithNoWord decimal (IsNumberUpTo limit) bytes
 no_number_stop limit fits number b bytes x small other space e n tail k f = go (eqb b 32) refl
   where
     from : (b ≡ 32 → number ≡ 0) → ⊥

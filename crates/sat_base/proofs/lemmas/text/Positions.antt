@@ -2,9 +2,9 @@
 use Rattle.std.proofs.Common.{◌≡◌, ℕ, ◌+◌, List, [], ◌∷◌, ◌++◌, Bool, true, false, Option, Some, None, refl, sym, ap, ◌∙◌, append_assoc}
 use Rattle.std.specs.Prelude.{nat_eq, not, ◌&&◌}
 use Rattle.std.proofs.lemmas.List.{append-nil}
-use Rattle.sat_base.specs.text.Text.{is_blank, prepend_to_first, lines, goes_on, words, begins_with, header_if, is_none, on_line, last_line, Wrong, tokens_of, Scan, scan}
-use Rattle.sat_base.specs.text.Position.{first_line, later_lines, Stage, Begun, stage_after, stage_end, after_word, stage_token, Position, Fresh, Leading, Comment, Between, Within, HeaderBetween, HeaderWithin, Spoilt, Over, HasNoBlank, IsPosition, remaining_scan, unfinished_token, after_LF, lines_after, after_header_word, following_blank, spoils, ended_by_blank, line_at, prepend_tokens}
-use Rattle.sat_base.specs.text.Tokenizing.{BeginsSpoilt}
+use Rattle.sat_base.specs.text.Text.{is_blank, prepend_to_first, lines, begins_nonblank, words, first_nonblank_is, header_if, has_no_words, tokens_on_line, last_line, Wrong, tokens_of, Scan, scan}
+use Rattle.sat_base.specs.text.Position.{first_line, later_lines, HeaderStage, Begun, stage_after, token_of_stage, after_word, stage_token, Position, Fresh, Leading, Comment, Between, Within, HeaderBetween, HeaderWithin, WrongHeader, Over, HasNoBlank, IsValidPosition, remaining_scan, unfinished_token, position_after_LF, lines_after, position_after_word, position_after_blank, wrong_word_token, token_ended_by_blank, line_of_last_byte, prepend_tokens}
+use Rattle.sat_base.specs.text.Tokenizing.{BeginsWrongHeaderWord}
 use Rattle.sat_base.proofs.lemmas.text.Headers.{stage_nil, stage_cons, header_in_is}
 
 lines_LF : (bs : List ℕ) → lines (10 ∷ bs) ≡ (10 ∷ []) ∷ lines bs
@@ -35,28 +35,28 @@ words_blank b bs e = rw e refl
 words_blank_one : (b : ℕ) → is_blank b ≡ true → words (b ∷ []) ≡ []
 words_blank_one b e = words_blank b [] e ∙ words_nil
 
-words_more : (b : ℕ) (bs : List ℕ) → is_blank b ≡ false → goes_on bs ≡ true → words (b ∷ bs) ≡ prepend_to_first b (words bs)
+words_more : (b : ℕ) (bs : List ℕ) → is_blank b ≡ false → begins_nonblank bs ≡ true → words (b ∷ bs) ≡ prepend_to_first b (words bs)
 unfolding words
 words_more b bs e g = rw (e, g) refl
 
-words_one : (b : ℕ) (bs : List ℕ) → is_blank b ≡ false → goes_on bs ≡ false → words (b ∷ bs) ≡ (b ∷ []) ∷ words bs
+words_one : (b : ℕ) (bs : List ℕ) → is_blank b ≡ false → begins_nonblank bs ≡ false → words (b ∷ bs) ≡ (b ∷ []) ∷ words bs
 unfolding words
 words_one b bs e g = rw (e, g) refl
 
-begins_nil : (c : ℕ) → begins_with c [] ≡ false
-unfolding begins_with
+begins_nil : (c : ℕ) → first_nonblank_is c [] ≡ false
+unfolding first_nonblank_is
 begins_nil c = refl
 
-begins_blank : (c b : ℕ) (bs : List ℕ) → is_blank b ≡ true → begins_with c (b ∷ bs) ≡ begins_with c bs
-unfolding begins_with
+begins_blank : (c b : ℕ) (bs : List ℕ) → is_blank b ≡ true → first_nonblank_is c (b ∷ bs) ≡ first_nonblank_is c bs
+unfolding first_nonblank_is
 begins_blank c b bs e = rw e refl
 
-begins_at : (c b : ℕ) (bs : List ℕ) → is_blank b ≡ false → begins_with c (b ∷ bs) ≡ nat_eq b c
-unfolding begins_with
+begins_at : (c b : ℕ) (bs : List ℕ) → is_blank b ≡ false → first_nonblank_is c (b ∷ bs) ≡ nat_eq b c
+unfolding first_nonblank_is
 begins_at c b bs e = rw e refl
 
 -- a line of one blank
-begins_one : (c b : ℕ) → is_blank b ≡ true → begins_with c (b ∷ []) ≡ false
+begins_one : (c b : ℕ) → is_blank b ≡ true → first_nonblank_is c (b ∷ []) ≡ false
 begins_one c b e = begins_blank c b [] e ∙ begins_nil c
 
 pub Solid-more : (w : List ℕ) (b : ℕ) → HasNoBlank w → is_blank b ≡ false → HasNoBlank (w ++ b ∷ [])
@@ -81,17 +81,17 @@ onto_some : (x : ℕ) (ws : List (List ℕ)) → (more : List ℕ) × (us : List
 onto_some x [] = ([], [], refl)
 onto_some x (w ∷ ws) = (w, ws, refl)
 
-first_word_if : (x : ℕ) (bs : List ℕ) (more : Bool) → is_blank x ≡ false → goes_on bs ≡ more → BeginsWord x [] bs
+first_word_if : (x : ℕ) (bs : List ℕ) (more : Bool) → is_blank x ≡ false → begins_nonblank bs ≡ more → BeginsWord x [] bs
 first_word_if x bs true e g = let o = onto_some x (words bs) in (o.0, o.1, words_more x bs e g ∙ o.2)
 first_word_if x bs false e g = ([], words bs, words_one x bs e g)
 
 pub first_word : (x : ℕ) (w bs : List ℕ) → HasNoBlank (x ∷ w) → BeginsWord x w bs
-first_word x [] bs s = first_word_if x bs (goes_on bs) s.0 refl
+first_word x [] bs s = first_word_if x bs (begins_nonblank bs) s.0 refl
 first_word x (y ∷ w) bs s = let h = first_word y w bs s.1 in (h.0, h.1, words_more x ((y ∷ w) ++ bs) s.0 (ap not s.1.0) ∙ ap (prepend_to_first x) h.2)
 
 -- bytes that begin with a nonblank byte have a word
-some_words : (x : ℕ) (bs : List ℕ) → is_blank x ≡ false → is_none (words (x ∷ bs)) ≡ false
-some_words x bs e = let h = first_word x [] bs (e, tt) in ap is_none h.2
+some_words : (x : ℕ) (bs : List ℕ) → is_blank x ≡ false → has_no_words (words (x ∷ bs)) ≡ false
+some_words x bs e = let h = first_word x [] bs (e, tt) in ap has_no_words h.2
 
 -- LINES
 and_false : (may : Bool) → (may && false) ≡ false
@@ -105,19 +105,19 @@ and_true false = refl
 -- `Begins l percent comment header` holds if the flags say whether the first nonblank byte of the line is `%`, `c` or
 -- `p`.
 pub record Begins (l : List ℕ) (percent comment header : Bool) : Type 0 where
-  pub ends : begins_with 37 l ≡ percent
-  pub comments : begins_with 99 l ≡ comment
-  pub heads : begins_with 112 l ≡ header
+  pub ends : first_nonblank_is 37 l ≡ percent
+  pub comments : first_nonblank_is 99 l ≡ comment
+  pub heads : first_nonblank_is 112 l ≡ header
 
-of_words : (may : Bool) (n : ℕ) (l : List ℕ) (ls : List (List ℕ)) → Begins l false false false → tokens_of may n (l ∷ ls) ≡ on_line (n + 1) (words l) ++ tokens_of (may && is_none (words l)) (n + 1) ls
+of_words : (may : Bool) (n : ℕ) (l : List ℕ) (ls : List (List ℕ)) → Begins l false false false → tokens_of may n (l ∷ ls) ≡ tokens_on_line (n + 1) (words l) ++ tokens_of (may && has_no_words (words l)) (n + 1) ls
 unfolding tokens_of
 of_words may n l ls e = rw (e.ends, e.comments, e.heads) refl
 
-of_end : (may : Bool) (n : ℕ) (l : List ℕ) (ls : List (List ℕ)) → begins_with 37 l ≡ true → tokens_of may n (l ∷ ls) ≡ []
+of_end : (may : Bool) (n : ℕ) (l : List ℕ) (ls : List (List ℕ)) → first_nonblank_is 37 l ≡ true → tokens_of may n (l ∷ ls) ≡ []
 unfolding tokens_of
 of_end may n l ls e = rw e refl
 
-of_comment : (may : Bool) (n : ℕ) (l : List ℕ) (ls : List (List ℕ)) → begins_with 37 l ≡ false → begins_with 99 l ≡ true → tokens_of may n (l ∷ ls) ≡ tokens_of may (n + 1) ls
+of_comment : (may : Bool) (n : ℕ) (l : List ℕ) (ls : List (List ℕ)) → first_nonblank_is 37 l ≡ false → first_nonblank_is 99 l ≡ true → tokens_of may n (l ∷ ls) ≡ tokens_of may (n + 1) ls
 unfolding tokens_of
 of_comment may n l ls e f = rw (e, f) refl
 
@@ -133,7 +133,7 @@ of_none may n = refl
 of_blanks : (may : Bool) (n : ℕ) (l : List ℕ) (ls : List (List ℕ)) → Begins l false false false → words l ≡ [] → tokens_of may n (l ∷ ls) ≡ tokens_of may (n + 1) ls
 of_blanks may n l ls e f =
     of_words may n l ls e
-    ∙ ap (λ (ws : List (List ℕ)). on_line (n + 1) ws ++ tokens_of (may && is_none ws) (n + 1) ls) f
+    ∙ ap (λ (ws : List (List ℕ)). tokens_on_line (n + 1) ws ++ tokens_of (may && has_no_words ws) (n + 1) ls) f
     ∙ ap (λ (m : Bool). tokens_of m (n + 1) ls) (and_true may)
 
 no_words_begin : Begins [] false false false
@@ -145,11 +145,11 @@ LF_begins = record { ends = begins_one 37 10 refl; comments = begins_one 99 10 r
 byte_begins : (b : ℕ) (l : List ℕ) → is_blank b ≡ false → Begins (b ∷ l) (nat_eq b 37) (nat_eq b 99) (nat_eq b 112)
 byte_begins b l e = record { ends = begins_at 37 b l e; comments = begins_at 99 b l e; heads = begins_at 112 b l e }
 
-last_line_cons : (n : ℕ) (l : List ℕ) (ls : List (List ℕ)) → begins_with 37 l ≡ false → last_line n (l ∷ ls) ≡ last_line (n + 1) ls
+last_line_cons : (n : ℕ) (l : List ℕ) (ls : List (List ℕ)) → first_nonblank_is 37 l ≡ false → last_line n (l ∷ ls) ≡ last_line (n + 1) ls
 unfolding last_line
 last_line_cons n l ls e = rw e refl
 
-last_line_end : (n : ℕ) (l : List ℕ) (ls : List (List ℕ)) → begins_with 37 l ≡ true → last_line n (l ∷ ls) ≡ n + 1
+last_line_end : (n : ℕ) (l : List ℕ) (ls : List (List ℕ)) → first_nonblank_is 37 l ≡ true → last_line n (l ∷ ls) ≡ n + 1
 unfolding last_line
 last_line_end n l ls e = rw e refl
 
@@ -172,15 +172,15 @@ unfolding remaining_scan scan
 start text = refl
 
 -- the last word of a header line
-last_word : (o : Option Stage) → after_word o (λ s. stage_token s []) ≡ after_word o stage_end
+last_word : (o : Option HeaderStage) → after_word o (λ s. stage_token s []) ≡ after_word o token_of_stage
 last_word None = refl
 last_word (Some s) = stage_nil s
 
-stage_one : (stage : Stage) (w : List ℕ) → stage_token stage (w ∷ []) ≡ after_word (stage_after stage w) stage_end
+stage_one : (stage : HeaderStage) (w : List ℕ) → stage_token stage (w ∷ []) ≡ after_word (stage_after stage w) token_of_stage
 stage_one stage w = stage_cons stage w [] ∙ last_word (stage_after stage w)
 
 -- LF ends the line and completes the unfinished token
-pub LF_left : (spot : Position) (n : ℕ) (bs : List ℕ) → IsPosition spot → remaining_scan spot n (10 ∷ bs) ≡ prepend_tokens (unfinished_token spot n) (remaining_scan (after_LF spot) (lines_after spot n) bs)
+pub LF_left : (spot : Position) (n : ℕ) (bs : List ℕ) → IsValidPosition spot → remaining_scan spot n (10 ∷ bs) ≡ prepend_tokens (unfinished_token spot n) (remaining_scan (position_after_LF spot) (lines_after spot n) bs)
 unfolding remaining_scan
 LF_left (Fresh may) n bs s = rw (lines_LF bs, of_blanks may n (10 ∷ []) (lines bs) LF_begins (words_blank_one 10 refl), last_line_cons n (10 ∷ []) (lines bs) (LF_begins.ends)) refl
 LF_left (Leading may) n bs s = rw (lines_LF bs, of_blanks may n (10 ∷ []) (lines bs) LF_begins (words_blank_one 10 refl), last_line_cons n (10 ∷ []) (lines bs) (LF_begins.ends)) refl
@@ -189,7 +189,7 @@ LF_left Between n bs s = rw (lines_LF bs, words_blank_one 10 refl) refl
 LF_left (Within x w) n bs s = rw (lines_LF bs, word_cut x w 10 [] s refl, words_nil) refl
 LF_left (HeaderBetween stage) n bs s = rw (lines_LF bs, words_blank_one 10 refl, stage_nil stage) refl
 LF_left (HeaderWithin stage x w) n bs s = rw (lines_LF bs, word_cut x w 10 [] s refl, words_nil, stage_one stage (x ∷ w)) refl
-LF_left Spoilt n bs s = rw (lines_LF bs) refl
+LF_left WrongHeader n bs s = rw (lines_LF bs) refl
 LF_left Over n bs s = refl
 
 -- any other byte at the start of a line has the same effect as after blanks
@@ -203,15 +203,15 @@ leading_blank may n b bs e f =
     rw (lines_more b bs e, skips may n b (first_line (lines bs)) (later_lines (lines bs)) f, last_skips n b (first_line (lines bs)) (later_lines (lines bs)) f) refl
 
 -- a blank after a word of a header line
-header_blank : (o : Option Stage) (n : ℕ) (bs : List ℕ)
+header_blank : (o : Option HeaderStage) (n : ℕ) (bs : List ℕ)
     → record { tokens = (n + 1, after_word o (λ s. stage_token s (words (first_line (lines bs))))) ∷ tokens_of false (n + 1) (later_lines (lines bs)); last = last_line (n + 1) (later_lines (lines bs)) }
-    ≡ prepend_tokens (spoils o n) (remaining_scan (after_header_word o) n bs)
+    ≡ prepend_tokens (wrong_word_token o n) (remaining_scan (position_after_word o) n bs)
 unfolding remaining_scan
 header_blank None n bs = refl
 header_blank (Some stage) n bs = refl
 
 -- a blank other than LF ends the unfinished word
-pub blank_left : (spot : Position) (n b : ℕ) (bs : List ℕ) → IsPosition spot → nat_eq b 10 ≡ false → is_blank b ≡ true → remaining_scan spot n (b ∷ bs) ≡ prepend_tokens (ended_by_blank spot n) (remaining_scan (following_blank spot) n bs)
+pub blank_left : (spot : Position) (n b : ℕ) (bs : List ℕ) → IsValidPosition spot → nat_eq b 10 ≡ false → is_blank b ≡ true → remaining_scan spot n (b ∷ bs) ≡ prepend_tokens (token_ended_by_blank spot n) (remaining_scan (position_after_blank spot) n bs)
 unfolding remaining_scan
 blank_left (Fresh may) n b bs s e f = fresh_leads may n b bs e ∙ leading_blank may n b bs e f
 blank_left (Leading may) n b bs s e f = leading_blank may n b bs e f
@@ -221,7 +221,7 @@ blank_left (Within x w) n b bs s e f = rw (lines_more b bs e, word_cut x w b (fi
 blank_left (HeaderBetween stage) n b bs s e f = rw (lines_more b bs e, words_blank b (first_line (lines bs)) f) refl
 blank_left (HeaderWithin stage x w) n b bs s e f =
     rw (lines_more b bs e, word_cut x w b (first_line (lines bs)) s f, stage_cons stage (x ∷ w) (words (first_line (lines bs)))) (header_blank (stage_after stage (x ∷ w)) n bs)
-blank_left Spoilt n b bs s e f = rw (lines_more b bs e) refl
+blank_left WrongHeader n b bs s e f = rw (lines_more b bs e) refl
 blank_left Over n b bs s e f = refl
 
 -- A NONBLANK BYTE
@@ -247,7 +247,7 @@ leading_header n bs =
     let b = byte_begins 112 (first_line (lines bs)) refl in
     rw (lines_more 112 bs refl, of_header true n (line_with 112 bs) (later_lines (lines bs)) b, last_line_cons n (line_with 112 bs) (later_lines (lines bs)) b.ends, header_in_is (words (line_with 112 bs))) refl
 
-pub leading_late_header : (n : ℕ) (bs : List ℕ) → remaining_scan (Leading false) n (112 ∷ bs) ≡ remaining_scan Spoilt n bs
+pub leading_late_header : (n : ℕ) (bs : List ℕ) → remaining_scan (Leading false) n (112 ∷ bs) ≡ remaining_scan WrongHeader n bs
 unfolding remaining_scan
 leading_late_header n bs =
     let b = byte_begins 112 (first_line (lines bs)) refl in
@@ -255,11 +255,11 @@ leading_late_header n bs =
 
 -- a line that begins with a word
 of_word : (may : Bool) (n b : ℕ) (l : List ℕ) (ls : List (List ℕ)) → Begins (b ∷ l) false false false → is_blank b ≡ false
-    → tokens_of may n ((b ∷ l) ∷ ls) ≡ on_line (n + 1) (words (b ∷ l)) ++ tokens_of false (n + 1) ls
+    → tokens_of may n ((b ∷ l) ∷ ls) ≡ tokens_on_line (n + 1) (words (b ∷ l)) ++ tokens_of false (n + 1) ls
 of_word may n b l ls e f =
     of_words may n (b ∷ l) ls e
-    ∙ ap (λ (none : Bool). on_line (n + 1) (words (b ∷ l)) ++ tokens_of (may && none) (n + 1) ls) (some_words b l f)
-    ∙ ap (λ (m : Bool). on_line (n + 1) (words (b ∷ l)) ++ tokens_of m (n + 1) ls) (and_false may)
+    ∙ ap (λ (none : Bool). tokens_on_line (n + 1) (words (b ∷ l)) ++ tokens_of (may && none) (n + 1) ls) (some_words b l f)
+    ∙ ap (λ (m : Bool). tokens_on_line (n + 1) (words (b ∷ l)) ++ tokens_of m (n + 1) ls) (and_false may)
 
 pub leading_word : (may : Bool) (n b : ℕ) (bs : List ℕ) → nat_eq b 10 ≡ false → is_blank b ≡ false → nat_eq b 37 ≡ false → nat_eq b 99 ≡ false → nat_eq b 112 ≡ false
     → remaining_scan (Leading may) n (b ∷ bs) ≡ remaining_scan (Within b []) n bs
@@ -282,25 +282,25 @@ unfolding remaining_scan
 within_more x w n b bs e = rw (lines_more b bs e, sym (append_assoc w (b ∷ []) (first_line (lines bs)))) refl
 
 -- in a header line
-pub header_between_word : (stage : Stage) (n b : ℕ) (bs : List ℕ) → nat_eq b 10 ≡ false → remaining_scan (HeaderBetween stage) n (b ∷ bs) ≡ remaining_scan (HeaderWithin stage b []) n bs
+pub header_between_word : (stage : HeaderStage) (n b : ℕ) (bs : List ℕ) → nat_eq b 10 ≡ false → remaining_scan (HeaderBetween stage) n (b ∷ bs) ≡ remaining_scan (HeaderWithin stage b []) n bs
 unfolding remaining_scan
 header_between_word stage n b bs e = rw (lines_more b bs e) refl
 
-pub header_within_more : (stage : Stage) (x : ℕ) (w : List ℕ) (n b : ℕ) (bs : List ℕ) → nat_eq b 10 ≡ false
+pub header_within_more : (stage : HeaderStage) (x : ℕ) (w : List ℕ) (n b : ℕ) (bs : List ℕ) → nat_eq b 10 ≡ false
     → remaining_scan (HeaderWithin stage x w) n (b ∷ bs) ≡ remaining_scan (HeaderWithin stage x (w ++ b ∷ [])) n bs
 unfolding remaining_scan
 header_within_more stage x w n b bs e = rw (lines_more b bs e, sym (append_assoc w (b ∷ []) (first_line (lines bs)))) refl
 
-spoils_line : (stage : Stage) (x : ℕ) (w bs : List ℕ) → HasNoBlank (x ∷ w) → BeginsSpoilt stage (x ∷ w) → stage_token stage (words ((x ∷ w) ++ bs)) ≡ Wrong
+spoils_line : (stage : HeaderStage) (x : ℕ) (w bs : List ℕ) → HasNoBlank (x ∷ w) → BeginsWrongHeaderWord stage (x ∷ w) → stage_token stage (words ((x ∷ w) ++ bs)) ≡ Wrong
 spoils_line stage x w bs s h =
     let front = first_word x w bs s in
-    ap (stage_token stage) front.2 ∙ stage_cons stage ((x ∷ w) ++ front.0) front.1 ∙ ap (λ (o : Option Stage). after_word o (λ s. stage_token s front.1)) (h front.0)
+    ap (stage_token stage) front.2 ∙ stage_cons stage ((x ∷ w) ++ front.0) front.1 ∙ ap (λ (o : Option HeaderStage). after_word o (λ s. stage_token s front.1)) (h front.0)
 
-pub header_spoilt : (stage : Stage) (x : ℕ) (w : List ℕ) (n : ℕ) (bs : List ℕ) → HasNoBlank (x ∷ w) → BeginsSpoilt stage (x ∷ w) → remaining_scan (HeaderWithin stage x w) n bs ≡ remaining_scan Spoilt n bs
+pub header_spoilt : (stage : HeaderStage) (x : ℕ) (w : List ℕ) (n : ℕ) (bs : List ℕ) → HasNoBlank (x ∷ w) → BeginsWrongHeaderWord stage (x ∷ w) → remaining_scan (HeaderWithin stage x w) n bs ≡ remaining_scan WrongHeader n bs
 unfolding remaining_scan
 header_spoilt stage x w n bs s h = rw (spoils_line stage x w (first_line (lines bs)) s h) refl
 
-pub spoilt_more : (n b : ℕ) (bs : List ℕ) → nat_eq b 10 ≡ false → remaining_scan Spoilt n (b ∷ bs) ≡ remaining_scan Spoilt n bs
+pub spoilt_more : (n b : ℕ) (bs : List ℕ) → nat_eq b 10 ≡ false → remaining_scan WrongHeader n (b ∷ bs) ≡ remaining_scan WrongHeader n bs
 unfolding remaining_scan
 spoilt_more n b bs e = rw (lines_more b bs e) refl
 
@@ -310,7 +310,7 @@ over_more n b bs = refl
 
 -- THE END
 -- the end of the text completes the unfinished token, on the line of the last byte
-pub end_left : (spot : Position) (n : ℕ) → IsPosition spot → remaining_scan spot n [] ≡ record { tokens = unfinished_token spot n; last = line_at spot n }
+pub end_left : (spot : Position) (n : ℕ) → IsValidPosition spot → remaining_scan spot n [] ≡ record { tokens = unfinished_token spot n; last = line_of_last_byte spot n }
 unfolding remaining_scan
 end_left (Fresh may) n s = rw (lines_nil, of_none may n, last_line_nil n) refl
 end_left (Leading may) n s = rw (lines_nil, of_blanks may n [] [] no_words_begin words_nil, of_none may (n + 1), last_line_cons n [] [] no_words_begin.ends, last_line_nil (n + 1)) refl
@@ -319,9 +319,9 @@ end_left Between n s = rw (lines_nil, words_nil, of_none false (n + 1), last_lin
 end_left (Within x w) n s = rw (lines_nil, append-nil (x ∷ w), word_ends x w s, of_none false (n + 1), last_line_nil (n + 1)) refl
 end_left (HeaderBetween stage) n s = rw (lines_nil, words_nil, stage_nil stage, of_none false (n + 1), last_line_nil (n + 1)) refl
 end_left (HeaderWithin stage x w) n s = rw (lines_nil, append-nil (x ∷ w), word_ends x w s, stage_one stage (x ∷ w), of_none false (n + 1), last_line_nil (n + 1)) refl
-end_left Spoilt n s = rw (lines_nil, of_none false (n + 1), last_line_nil (n + 1)) refl
+end_left WrongHeader n s = rw (lines_nil, of_none false (n + 1), last_line_nil (n + 1)) refl
 end_left Over n s = refl
 
 -- if the text ends here, its last line is that of the last byte
-pub last_left_end : (spot : Position) (n : ℕ) → IsPosition spot → (remaining_scan spot n []).last ≡ line_at spot n
+pub last_left_end : (spot : Position) (n : ℕ) → IsValidPosition spot → (remaining_scan spot n []).last ≡ line_of_last_byte spot n
 last_left_end spot n s = ap (λ (r : Scan). r.last) (end_left spot n s)

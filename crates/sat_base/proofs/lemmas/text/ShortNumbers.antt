@@ -6,8 +6,8 @@ use Rattle.std.proofs.Math.Seq.{drop-cons, take-length}
 use Rattle.sat_base.specs.declared.text.Place.{Place}
 use Rattle.sat_base.specs.declared.text.Place.TheVariants as at
 use Rattle.sat_base.specs.text.Text.{is_blank, is_digit, digits}
-use Rattle.sat_base.specs.text.Tokenizing.{MovesPlace, MovesBy, BeginsWord, with_digit}
-use Rattle.sat_base.specs.text.NumberWords.{IsNumberUpTo, NoWord, EndsNone, digits_so_far}
+use Rattle.sat_base.specs.text.Tokenizing.{MovesPlaceByByte, MovesPlaceByBytes, CanBeginWord, with_digit}
+use Rattle.sat_base.specs.text.NumberWords.{IsNumberUpTo, BeginsWithNoWord, EndsNoNumber, digits_so_far}
 use Rattle.sat_base.specs.text.ShortNumbers.{BeginsWithDigits}
 use Rattle.sat_base.proofs.lemmas.text.NumberWords.{next_digit, so_far, no_number_stop}
 use Rattle.sat_base.proofs.lemmas.text.Places.{moves_digit}
@@ -90,7 +90,7 @@ module _ (bytes : List ℕ) (value count : ℕ) (b : BeginsWithDigits bytes valu
       short_whole other ∙ ap (λ (z : List ℕ). z ++ (get_or bytes count 0 ∷ drop (suc count) bytes)) (so_far value (short_digits other).more) ∙ ap (λ (c : ℕ). decimal value ++ (c ∷ drop (suc count) bytes)) space
 
   -- no number within the limit begins the bytes, if the byte after the digits does not end one
-  pub no_short_number : (limit : ℕ) → limit < 2 ^ 64 → (get_or bytes 0 0 ≡ 48 → ⊥) → EndsNone value (get_or bytes count 0) limit → NoWord decimal (IsNumberUpTo limit) bytes
+  pub no_short_number : (limit : ℕ) → limit < 2 ^ 64 → (get_or bytes 0 0 ≡ 48 → ⊥) → EndsNoNumber value (get_or bytes count 0) limit → BeginsWithNoWord decimal (IsNumberUpTo limit) bytes
   no_short_number limit fits other none =
       let ends : is_digit (get_or bytes count 0) ≡ false = b.ends in
       no_number_stop limit fits value (get_or bytes count 0) bytes (drop (suc count) bytes) b.small (λ h. no_digit_within (get_or bytes count 0) ends h) none (short_whole other)
@@ -106,18 +106,18 @@ after xs k =
 
 -- AS A TOKEN
 
-moves_digits : (negative : Bool) (n m : ℕ) (ds : List ℕ) → m < 2 ^ 64 → digits n ds ≡ Some m → MovesBy (at.Digits negative n) ds (at.Digits negative m)
-moves_digits negative n m [] l e = subst (λ k. MovesBy (at.Digits negative n) [] (at.Digits negative k)) (same_end n m e) (λ spot i. (spot, i, λ k rest. refl))
+moves_digits : (negative : Bool) (n m : ℕ) (ds : List ℕ) → m < 2 ^ 64 → digits n ds ≡ Some m → MovesPlaceByBytes (at.Digits negative n) ds (at.Digits negative m)
+moves_digits negative n m [] l e = subst (λ k. MovesPlaceByBytes (at.Digits negative n) [] (at.Digits negative k)) (same_end n m e) (λ spot i. (spot, i, λ k rest. refl))
 moves_digits negative n m (d ∷ ds) l e =
     let f : is_digit d ≡ true = front_digit n m d ds e in
     let g = following n m d ds e in
     let k = grows (10 * n + (d - 48)) m ds g in
     let same : with_digit n d ≡ 10 * n + (d - 48) = omega arith in
     let blank : is_blank d ≡ false = grind (arith, nat_tests) in
-    let more : MovesBy (at.Digits negative (with_digit n d)) ds (at.Digits negative m) = rw same (moves_digits negative (10 * n + (d - 48)) m ds l g) in
+    let more : MovesPlaceByBytes (at.Digits negative (with_digit n d)) ds (at.Digits negative m) = rw same (moves_digits negative (10 * n + (d - 48)) m ds l g) in
     moves_first (at.Digits negative n) (at.Digits negative (with_digit n d)) (at.Digits negative m) d ds (moves_digit negative n d blank f) more
 
-from_first : (negative : Bool) (old : Place) (xs : List ℕ) (m : ℕ) → ((d : ℕ) → is_digit d ≡ true → MovesPlace old d (at.Digits negative (d - 48))) → 0 < length xs → m < 2 ^ 64 → digits 0 xs ≡ Some m → MovesBy old xs (at.Digits negative m)
+from_first : (negative : Bool) (old : Place) (xs : List ℕ) (m : ℕ) → ((d : ℕ) → is_digit d ≡ true → MovesPlaceByByte old d (at.Digits negative (d - 48))) → 0 < length xs → m < 2 ^ 64 → digits 0 xs ≡ Some m → MovesPlaceByBytes old xs (at.Digits negative m)
 from_first negative old [] m begin h l e = absurd (omega arith)
 from_first negative old (d ∷ ds) m begin h l e =
     let same : 10 * 0 + (d - 48) ≡ d - 48 = omega arith in
@@ -125,8 +125,8 @@ from_first negative old (d ∷ ds) m begin h l e =
     moves_first old (at.Digits negative (d - 48)) (at.Digits negative m) d ds (begin d (front_digit 0 m d ds e)) (moves_digits negative (d - 48) m ds l g)
 
 module _ (bytes : List ℕ) (value count : ℕ) (b : BeginsWithDigits bytes value count) where
-  pub moves_short : (old : Place) → BeginsWord old → MovesBy old (take count bytes) (at.Digits false value)
+  pub moves_short : (old : Place) → CanBeginWord old → MovesPlaceByBytes old (take count bytes) (at.Digits false value)
   moves_short old w = from_first false old (take count bytes) value (λ d f. moves_first_digit old d w f) (let s = b.some in omega (arith, taken bytes value count b)) b.small b.spelt
 
-  pub moves_short_after_minus : MovesBy at.Minus (take count bytes) (at.Digits true value)
+  pub moves_short_after_minus : MovesPlaceByBytes at.Minus (take count bytes) (at.Digits true value)
   moves_short_after_minus = from_first true at.Minus (take count bytes) value moves_digit_after_minus (let s = b.some in omega (arith, taken bytes value count b)) b.small b.spelt

@@ -3,7 +3,7 @@ use Rattle.std.proofs.Common.{◌≡◌, ℕ, ◌+◌, ◌*◌, ◌-◌, ◌<◌
 use Rattle.std.proofs.lemmas.List.{append-nil}
 use Rattle.std.proofs.lemmas.Bool.Decides.{nat_tests}
 use Rattle.sat_base.specs.text.Text.{is_digit, is_letter, digits, unsigned_token, negative_token, after_minus, letter_token, token, Number, Letter, Wrong}
-use Rattle.sat_base.specs.text.Tokenizing.{SpellsCapped, BeginsWrong, with_digit}
+use Rattle.sat_base.specs.text.Tokenizing.{SpellsCapped, BeginsWrongWord, with_digit}
 
 pub digits_cons : (n d : ℕ) (ds : List ℕ) → is_digit d ≡ true → digits n (d ∷ ds) ≡ digits (10 * n + (d - 48)) ds
 unfolding digits
@@ -75,24 +75,24 @@ no_minus_letter d e f = let g : is_letter 45 ≡ true = subst (λ (k : ℕ). is_
 pub no_letter_digit : (d : ℕ) → is_digit d ≡ true → is_letter d ≡ false
 no_letter_digit d e = grind (arith, nat_tests)
 
-pub BeginsWrong_more : (w : List ℕ) (b : ℕ) → BeginsWrong w → BeginsWrong (w ++ b ∷ [])
+pub BeginsWrong_more : (w : List ℕ) (b : ℕ) → BeginsWrongWord w → BeginsWrongWord (w ++ b ∷ [])
 BeginsWrong_more w b h more = ap token (append_assoc w (b ∷ []) more) ∙ h (b ∷ more)
 
 -- a first byte other than a digit, a letter or `-`
-pub BeginsWrong_first : (b : ℕ) → is_digit b ≡ false → is_letter b ≡ false → (b ≡ 45 → ⊥) → BeginsWrong (b ∷ [])
+pub BeginsWrong_first : (b : ℕ) → is_digit b ≡ false → is_letter b ≡ false → (b ≡ 45 → ⊥) → BeginsWrongWord (b ∷ [])
 BeginsWrong_first b e l n more = token_plain b more n l ∙ ap unsigned_token (digits_stop 0 b more e)
 
 -- a letter before another byte
-pub BeginsWrong_letter : (b c : ℕ) → is_letter b ≡ true → BeginsWrong (b ∷ c ∷ [])
+pub BeginsWrong_letter : (b c : ℕ) → is_letter b ≡ true → BeginsWrongWord (b ∷ c ∷ [])
 BeginsWrong_letter b c l more = token_letter b (c ∷ more) (no_minus_letter b l) l
 
 -- after digits, a byte other than a digit
-pub BeginsWrong_plain : (x : ℕ) (w : List ℕ) (v b : ℕ) → SpellsCapped (x ∷ w) v → (x ≡ 45 → ⊥) → is_letter x ≡ false → is_digit b ≡ false → BeginsWrong ((x ∷ w) ++ b ∷ [])
+pub BeginsWrong_plain : (x : ℕ) (w : List ℕ) (v b : ℕ) → SpellsCapped (x ∷ w) v → (x ≡ 45 → ⊥) → is_letter x ≡ false → is_digit b ≡ false → BeginsWrongWord ((x ∷ w) ++ b ∷ [])
 BeginsWrong_plain x w v b s n l e more =
     ap token (append_assoc (x ∷ w) (b ∷ []) more) ∙ token_plain x (w ++ b ∷ more) n l ∙ ap unsigned_token (digits_wrong 0 s.0 b (x ∷ w) more s.1 e)
 
 -- after `-`, a byte other than a digit
-pub BeginsWrong_minus : (b : ℕ) → is_digit b ≡ false → BeginsWrong (45 ∷ b ∷ [])
+pub BeginsWrong_minus : (b : ℕ) → is_digit b ≡ false → BeginsWrongWord (45 ∷ b ∷ [])
 BeginsWrong_minus b e more = token_minus (b ∷ more) ∙ ap negative_token (digits_stop 0 b more e)
 
 after_minus_is : (w : List ℕ) → (w ≡ [] → ⊥) → after_minus w ≡ negative_token (digits 0 w)
@@ -103,7 +103,7 @@ some_more : (w : List ℕ) (b : ℕ) (more : List ℕ) → w ++ b ∷ more ≡ [
 some_more [] b more e = cc
 some_more (x ∷ w) b more e = cc
 
-pub BeginsWrong_negative : (w : List ℕ) (v b : ℕ) → SpellsCapped w v → is_digit b ≡ false → BeginsWrong ((45 ∷ w) ++ b ∷ [])
+pub BeginsWrong_negative : (w : List ℕ) (v b : ℕ) → SpellsCapped w v → is_digit b ≡ false → BeginsWrongWord ((45 ∷ w) ++ b ∷ [])
 BeginsWrong_negative w v b s e more =
     ap token (append_assoc (45 ∷ w) (b ∷ []) more) ∙ token_minus (w ++ b ∷ more) ∙ after_minus_is (w ++ b ∷ more) (some_more w b more) ∙ ap negative_token (digits_wrong 0 s.0 b w more s.1 e)
 
@@ -120,5 +120,5 @@ word_bare = token_minus []
 pub word_letter : (b : ℕ) → is_letter b ≡ true → token (b ∷ []) ≡ Letter b
 word_letter b l = token_letter b [] (no_minus_letter b l) l
 
-pub word_wrong : (w : List ℕ) → BeginsWrong w → token w ≡ Wrong
+pub word_wrong : (w : List ℕ) → BeginsWrongWord w → token w ≡ Wrong
 word_wrong w h = ap token (sym (append-nil w)) ∙ h []

@@ -7,23 +7,23 @@ use Rattle.std.proofs.Math.Seq.{drop-cons}
 use Rattle.std.proofs.iter.runs.Sources.{from_front}
 use Rattle.std.specs.Map.Iter.{TakesFirst, ShowsInOrder, deref}
 use Rattle.sat_base.specs.values.Literals.{variable}
-use Rattle.sat_base.specs.values.Formulas.{vars_in, vars_of}
-use Rattle.sat_base.specs.values.Flat.{pieces, AreEnds}
+use Rattle.sat_base.specs.values.Formulas.{clause_var_count, clauses_var_count}
+use Rattle.sat_base.specs.values.Flat.{pieces, AreEndsOfPieces}
 
 pub length-pieces : {A : Type 0} (from : ℕ) (ends : List ℕ) (xs : List A) → length (pieces from ends xs) ≡ length ends
 length-pieces from [] xs = refl
 length-pieces from (e ∷ es) xs = ap suc (length-pieces e es xs)
 
-pub AreEnds-le : {A : Type 0} (from : ℕ) (ends : List ℕ) (xs : List A) → AreEnds from ends xs → from ≤ length xs
+pub AreEnds-le : {A : Type 0} (from : ℕ) (ends : List ℕ) (xs : List A) → AreEndsOfPieces from ends xs → from ≤ length xs
 AreEnds-le from [] xs h = omega arith
 AreEnds-le from (e ∷ es) xs h = let more : e ≤ length xs = AreEnds-le e es xs h.1 in omega (arith, h.0)
 
-pub start_below : {A : Type 0} (from : ℕ) (ends : List ℕ) (xs : List A) (i : ℕ) → AreEnds from ends xs → i < length ends → get_or (from ∷ ends) i 0 ≤ get_or ends i 0
+pub start_below : {A : Type 0} (from : ℕ) (ends : List ℕ) (xs : List A) (i : ℕ) → AreEndsOfPieces from ends xs → i < length ends → get_or (from ∷ ends) i 0 ≤ get_or ends i 0
 start_below from [] xs i h inside = absurd (omega arith)
 start_below from (e ∷ es) xs zero h inside = h.0
 start_below from (e ∷ es) xs (suc i) h inside = start_below e es xs i h.1 (omega arith)
 
-pub end_below : {A : Type 0} (from : ℕ) (ends : List ℕ) (xs : List A) (i : ℕ) → AreEnds from ends xs → i < length ends → get_or ends i 0 ≤ length xs
+pub end_below : {A : Type 0} (from : ℕ) (ends : List ℕ) (xs : List A) (i : ℕ) → AreEndsOfPieces from ends xs → i < length ends → get_or ends i 0 ≤ length xs
 end_below from [] xs i h inside = absurd (omega arith)
 end_below from (e ∷ es) xs zero h inside = AreEnds-le e es xs h.1
 end_below from (e ∷ es) xs (suc i) h inside = end_below e es xs i h.1 (omega arith)
@@ -45,24 +45,24 @@ last_piece xs c from e =
 same_piece : {A : Type 0} (xs c : List A) (from end : ℕ) → end ≤ length xs → between from end (xs ++ c) ≡ between from end xs
 same_piece xs c from end h = between_is (xs ++ c) from end ∙ ap (drop from) (take-append-le end xs c h) ∙ sym (between_is xs from end)
 
-pub pieces-push : {A : Type 0} (from : ℕ) (ends : List ℕ) (xs c : List A) → AreEnds from ends xs → pieces from (ends ++ length (xs ++ c) ∷ []) (xs ++ c) ≡ pieces from ends xs ++ c ∷ []
+pub pieces-push : {A : Type 0} (from : ℕ) (ends : List ℕ) (xs c : List A) → AreEndsOfPieces from ends xs → pieces from (ends ++ length (xs ++ c) ∷ []) (xs ++ c) ≡ pieces from ends xs ++ c ∷ []
 pieces-push from [] xs c h = ap (λ p. p ∷ []) (last_piece xs c from h)
 pieces-push from (e ∷ es) xs c h =
     ap (λ p. p ∷ pieces e (es ++ length (xs ++ c) ∷ []) (xs ++ c)) (same_piece xs c from e (AreEnds-le e es xs h.1))
     ∙ ap (λ ps. between from e xs ∷ ps) (pieces-push e es xs c h.1)
 
-pub AreEnds-push : {A : Type 0} (from : ℕ) (ends : List ℕ) (xs c : List A) → AreEnds from ends xs → AreEnds from (ends ++ length (xs ++ c) ∷ []) (xs ++ c)
+pub AreEnds-push : {A : Type 0} (from : ℕ) (ends : List ℕ) (xs c : List A) → AreEndsOfPieces from ends xs → AreEndsOfPieces from (ends ++ length (xs ++ c) ∷ []) (xs ++ c)
 AreEnds-push from [] xs c h = (omega (arith, length-append xs c), refl)
 AreEnds-push from (e ∷ es) xs c h = (h.0, AreEnds-push e es xs c h.1)
 
 pub ruleset flat = (length-pieces, start_below, end_below, piece_at, pieces-push, AreEnds-push)
 
 -- counting the variable of the next literal
-pub vars_next : (ls : List ℕ) (i count : ℕ) → i < length ls → max count (vars_in (drop i ls)) ≡ max (max count (variable (get_or ls i 0) + 1)) (vars_in (drop (i + 1) ls))
+pub vars_next : (ls : List ℕ) (i count : ℕ) → i < length ls → max count (clause_var_count (drop i ls)) ≡ max (max count (variable (get_or ls i 0) + 1)) (clause_var_count (drop (i + 1) ls))
 vars_next ls i count h = let e : i + 1 ≡ suc i = omega arith in rw (e, drop-cons ls i 0) (omega arith)
 
 -- one more clause
-pub vars_of_more : (cs : List (List ℕ)) (c : List ℕ) → vars_of (cs ++ c ∷ []) ≡ max (vars_of cs) (vars_in c)
+pub vars_of_more : (cs : List (List ℕ)) (c : List ℕ) → clauses_var_count (cs ++ c ∷ []) ≡ max (clauses_var_count cs) (clause_var_count c)
 vars_of_more [] c = omega arith
 vars_of_more (d ∷ ds) c = let h = vars_of_more ds c in omega arith
 

@@ -13,8 +13,8 @@ returns-in-Letter c = rw c.in-Letter.is (moves_letter c.in-Letter.field-0 c.args
 pub returns-in-Bad : goal.returns-in-Bad
 returns-in-Bad c = rw c.in-Bad.is (moves_bad c.args.byte c.requires)
 
-pub returns-in-Spoilt : goal.returns-in-Spoilt
-returns-in-Spoilt c = rw c.in-Spoilt.is (moves_spoilt c.args.byte c.requires)
+pub returns-in-WrongHeader : goal.returns-in-WrongHeader
+returns-in-WrongHeader c = rw c.in-WrongHeader.is (moves_spoilt c.args.byte c.requires)
 
 pub returns-in-Over : goal.returns-in-Over
 returns-in-Over c = rw c.in-Over.is (moves_over c.args.byte)

@@ -7,7 +7,7 @@ use Rattle.sat_checker.specs.LiteralSets.{is_among}
 use Rattle.sat_checker.specs.inner.Marks.{NoRepeats}
 use Rattle.sat_checker.specs.Propagation.{IsFalsified, IsUnit}
 use Rattle.sat_checker.specs.Stored.{StoredClause}
-use Rattle.sat_checker.specs.inner.Walk.{ClauseState, falsified, becomes_unit, neither, clause_state, state_by_open, not_false, walk, walk_on, and_then}
+use Rattle.sat_checker.specs.inner.Walk.{ClauseState, falsified, becomes_unit, neither, clause_state, state_by_open, not_false, walk, walk_clause, and_then}
 use Rattle.sat_checker.specs.announcements.Needed.{ConflictCauses, negations_except, causes_by, conflict_causes}
 use Rattle.sat_checker.specs.announcements.Promises.{IsOneOf, Reason, is_conflict, is_unit, is_neither, IsNeededLiteral, of_last, of_reason, IsConflictCauses}
 use Rattle.sat_checker.proofs.lemmas.meaning.Clauses.{literals_of}
@@ -251,7 +251,7 @@ followed (c ∷ cs) assumed n e = go (λ m. followed cs m n.1) (clause_state ass
     opened ih o u w true k = followed_taken assumed c cs o u (conflict_causes (o ∷ assumed) cs) (ih (o ∷ assumed) w) k
     opened ih o u w false k = followed_left assumed c cs o u (conflict_causes (o ∷ assumed) cs) (ih (o ∷ assumed) w) k
 
-    go : Follow cs → (v : ClauseState) → clause_state assumed c.literals ≡ v → Says assumed c.literals v → and_then (walk_on v assumed) (λ more. walk more (literals_of cs)) ≡ None → Followed assumed (c ∷ cs) (causes_by v c assumed (λ more. conflict_causes more cs))
+    go : Follow cs → (v : ClauseState) → clause_state assumed c.literals ≡ v → Says assumed c.literals v → and_then (walk_clause v assumed) (λ more. walk more (literals_of cs)) ≡ None → Followed assumed (c ∷ cs) (causes_by v c assumed (λ more. conflict_causes more cs))
     go ih falsified q s w = followed_conflict assumed c cs s
     go ih (becomes_unit o) q s w = opened ih o s w (is_among (conflict_causes (o ∷ assumed) cs).literals o) refl
     go ih neither q s w = followed_over assumed c cs (never_falsified assumed c.literals q) (never_unit assumed c.literals n.0 q) (conflict_causes assumed cs) (ih assumed w)

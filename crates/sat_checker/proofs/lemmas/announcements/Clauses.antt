@@ -1,7 +1,7 @@
 -- Worked examples of announcements about clauses, proved by computing.
 use Rattle.std.proofs.Common.{refl, inl, inr, lit<}
 use Rattle.sat_checker.specs.Propagation.{unit_true, tautology}
-use Rattle.sat_checker.specs.announcements.Rows.{InputNew, InputDuplicate, InputRedundant, InputUnitAgain, InputTautology, InputAfterUnsat, DerivedNew, DerivedIrredundant, DerivedRedundantAgain, DerivedIrredundantAgain, DerivedUnitAgain, DerivedTautology, RedundantGone, RedundantStays, SatisfiedGone, SatisfiedKept, SimplifiedGone, SimplifiedByEmpty, SatisfiedStays}
+use Rattle.sat_checker.specs.announcements.Rows.{InputNew, InputDuplicate, InputRedundant, InputUnitAgain, InputTautology, InputAfterUnsat, DerivedNew, DerivedIrredundant, DerivedRedundantAgain, DerivedIrredundantAgain, DerivedUnitAgain, DerivedTautology, RedundantDeleted, IrredundantCountLeft, SatisfiedDeleted, KeptAsRedundant, SimplifiedDeleted, SimplifiedByEmpty, OneIrredundantCountLeft}
 use Rattle.sat_checker.proofs.lemmas.rows.Accepted.{refuted_twice}
 
 pub input_new : InputNew
@@ -40,23 +40,23 @@ unit_again = (((tt, inr (refl, tt)), unit_true refl), refl)
 pub derived_tautology : DerivedTautology
 derived_tautology = ((tt, tautology refl), refl)
 
-pub redundant_gone : RedundantGone
+pub redundant_gone : RedundantDeleted
 redundant_gone = ((((tt, inr (refl, tt)), unit_true refl), lit< tt), refl)
 
-pub redundant_stays : RedundantStays
+pub redundant_stays : IrredundantCountLeft
 redundant_stays = (((((tt, inr (refl, tt)), unit_true refl), unit_true refl), lit< tt), refl)
 
-pub satisfied_gone : SatisfiedGone
+pub satisfied_gone : SatisfiedDeleted
 satisfied_gone = (((((tt, inr (refl, tt)), inr (refl, tt)), inr (refl, (refl, tt))), (lit< tt, refl)), refl)
 
-pub satisfied_kept : SatisfiedKept
+pub satisfied_kept : KeptAsRedundant
 satisfied_kept = (((((tt, inr (refl, tt)), unit_true refl), unit_true refl), (lit< tt, refl)), refl)
 
-pub simplified_gone : SimplifiedGone
+pub simplified_gone : SimplifiedDeleted
 simplified_gone = ((((tt, inr (refl, (refl, (refl, tt)))), inr (refl, (refl, tt))), (lit< tt, (refl, refl))), refl)
 
 pub simplified_by_empty : SimplifiedByEmpty
 simplified_by_empty = (((((tt, inr (refl, (refl, tt))), inr tt), (lit< tt, (refl, refl))), refl), ((refuted_twice.0, (lit< tt, (refl, refl))), refl))
 
-pub satisfied_stays : SatisfiedStays
+pub satisfied_stays : OneIrredundantCountLeft
 satisfied_stays = (((((tt, inr (refl, tt)), inr (refl, (refl, tt))), inr (refl, (refl, tt))), (lit< tt, refl)), refl)

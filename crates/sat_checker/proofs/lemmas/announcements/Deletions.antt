@@ -5,12 +5,12 @@ use Rattle.std.specs.List.{AllByRecursion, list_any}
 use Rattle.sat_base.specs.values.Literals.{negated}
 use Rattle.sat_checker.specs.LiteralSets.{is_among, is_subset_of, canonical}
 use Rattle.sat_checker.specs.Propagation.{IsFalsified}
-use Rattle.sat_checker.specs.Stored.{StoredClause, StoredUnit, Last, NoneYet, Empty, UnitClause, LongClause, Stored, unit_literals}
-use Rattle.sat_checker.specs.Storing.{clause_numbered, unit_numbered, last_literals, settled_by}
+use Rattle.sat_checker.specs.Stored.{StoredClause, StoredUnit, LastIrredundant, NoneYet, Empty, UnitClause, LongClause, Stored, unit_literals}
+use Rattle.sat_checker.specs.Storing.{clause_with_id, unit_with_id, last_literals, settled_by}
 use Rattle.sat_checker.specs.Accepts.{IsStrictSubset, ready_after, stored_after}
-use Rattle.sat_checker.specs.announcements.Needed.{true_unit}
-use Rattle.sat_checker.specs.announcements.Announcements.{option_to_list, last_id, delayed}
-use Rattle.sat_checker.specs.announcements.Promises.{IsOneOf, RestsOn, IsNoEmpty, DeletionsRest, NoticesInOrder}
+use Rattle.sat_checker.specs.announcements.Needed.{satisfying_unit}
+use Rattle.sat_checker.specs.announcements.Announcements.{option_to_list, last_id, delayed_announcement}
+use Rattle.sat_checker.specs.announcements.Promises.{IsOneOf, FollowsByPropagation, IsNotEmptyClause, DeletedFollowByPropagation, NoticesAreAppended}
 use Rattle.sat_checker.proofs.lemmas.sets.Canonical.{canonical_among}
 use Rattle.sat_checker.proofs.lemmas.sets.Subsets.{each_true, some_of}
 use Rattle.sat_checker.proofs.lemmas.meaning.Meaning.{means_ready}
@@ -25,11 +25,11 @@ pub record UnitNumbered (us : List StoredUnit) (id : ℕ) (ls : List ℕ) : Type
   pub id_is : unit.id ≡ id
   pub literals_are : unit.literal ∷ [] ≡ ls
 
-pub unit_of : (id : ℕ) (ls : List ℕ) (us : List StoredUnit) → unit_numbered id us ≡ Some ls → UnitNumbered us id ls
+pub unit_of : (id : ℕ) (ls : List ℕ) (us : List StoredUnit) → unit_with_id id us ≡ Some ls → UnitNumbered us id ls
 unit_of id ls [] e = absurd cc
 unit_of id ls (u ∷ us) e = go (unit_of id ls us) (eqb u.id id) refl e
   where
-    go : (unit_numbered id us ≡ Some ls → UnitNumbered us id ls) → (b : Bool) → eqb u.id id ≡ b → cond b (Some (u.literal ∷ [])) (unit_numbered id us) ≡ Some ls → UnitNumbered (u ∷ us) id ls
+    go : (unit_with_id id us ≡ Some ls → UnitNumbered us id ls) → (b : Bool) → eqb u.id id ≡ b → cond b (Some (u.literal ∷ [])) (unit_with_id id us) ≡ Some ls → UnitNumbered (u ∷ us) id ls
     go ih true s k = record { unit = u; stored = inl refl; id_is = eqb-true u.id id s; literals_are = cc }
     go ih false s k = let w = ih k in record { unit = w.unit; stored = inr w.stored; id_is = w.id_is; literals_are = w.literals_are }
 
@@ -39,11 +39,11 @@ pub record ClauseNumbered (cs : List StoredClause) (id : ℕ) (ls : List ℕ) : 
   pub id_is : clause.id ≡ id
   pub literals_are : clause.literals ≡ ls
 
-pub signed : (id : ℕ) (ls : List ℕ) (cs : List StoredClause) → clause_numbered id cs ≡ Some ls → ClauseNumbered cs id ls
+pub signed : (id : ℕ) (ls : List ℕ) (cs : List StoredClause) → clause_with_id id cs ≡ Some ls → ClauseNumbered cs id ls
 signed id ls [] e = absurd cc
 signed id ls (c ∷ cs) e = go (signed id ls cs) (eqb c.id id) refl e
   where
-    go : (clause_numbered id cs ≡ Some ls → ClauseNumbered cs id ls) → (b : Bool) → eqb c.id id ≡ b → cond b (Some c.literals) (clause_numbered id cs) ≡ Some ls → ClauseNumbered (c ∷ cs) id ls
+    go : (clause_with_id id cs ≡ Some ls → ClauseNumbered cs id ls) → (b : Bool) → eqb c.id id ≡ b → cond b (Some c.literals) (clause_with_id id cs) ≡ Some ls → ClauseNumbered (c ∷ cs) id ls
     go ih true s k = record { clause = c; stored = inl refl; id_is = eqb-true c.id id s; literals_are = cc }
     go ih false s k = let w = ih k in record { clause = w.clause; stored = inr w.stored; id_is = w.id_is; literals_are = w.literals_are }
 
@@ -55,7 +55,7 @@ part_falsified part clause e = go part (each_true (is_among clause) part e)
     go [] h = tt
     go (l ∷ ls) h = (among_negated clause l h.0, go ls h.1)
 
-by_unit : (f : Stored) (clause ls : List ℕ) (id : ℕ) → UnitNumbered f.units id ls → is_subset_of ls clause ≡ true → RestsOn f clause (id ∷ [])
+by_unit : (f : Stored) (clause ls : List ℕ) (id : ℕ) → UnitNumbered f.units id ls → is_subset_of ls clause ≡ true → FollowsByPropagation f clause (id ∷ [])
 by_unit f clause ls id u p = record {
   units = u.unit ∷ [];
   clauses = [];
@@ -66,7 +66,7 @@ by_unit f clause ls id u p = record {
   conflict = part_falsified (u.unit.literal ∷ []) clause (subst (λ x. is_subset_of x clause ≡ true) (sym u.literals_are) p);
 }
 
-by_clause : (f : Stored) (clause ls : List ℕ) (id : ℕ) → ClauseNumbered f.clauses id ls → is_subset_of ls clause ≡ true → RestsOn f clause (id ∷ [])
+by_clause : (f : Stored) (clause ls : List ℕ) (id : ℕ) → ClauseNumbered f.clauses id ls → is_subset_of ls clause ≡ true → FollowsByPropagation f clause (id ∷ [])
 by_clause f clause ls id c p = record {
   units = [];
   clauses = c.clause ∷ [];
@@ -77,34 +77,34 @@ by_clause f clause ls id c p = record {
   conflict = part_falsified c.clause.literals clause (subst (λ x. is_subset_of x clause ≡ true) (sym c.literals_are) p);
 }
 
-by_last : (f : Stored) (clause : List ℕ) (last : Last) → IsStrictSubset (last_literals last f) clause → IsNoEmpty last → RestsOn f clause (option_to_list (last_id last))
+by_last : (f : Stored) (clause : List ℕ) (last : LastIrredundant) → IsStrictSubset (last_literals last f) clause → IsNotEmptyClause last → FollowsByPropagation f clause (option_to_list (last_id last))
 by_last f clause NoneYet s n = absurd s
 by_last f clause (Empty id) s n = absurd (n id refl)
-by_last f clause (UnitClause id) s n = go (unit_numbered id f.units) refl s
+by_last f clause (UnitClause id) s n = go (unit_with_id id f.units) refl s
   where
-    go : (x : Option (List ℕ)) → unit_numbered id f.units ≡ x → IsStrictSubset x clause → RestsOn f clause (id ∷ [])
+    go : (x : Option (List ℕ)) → unit_with_id id f.units ≡ x → IsStrictSubset x clause → FollowsByPropagation f clause (id ∷ [])
     go None e k = absurd k
     go (Some ls) e k = by_unit f clause ls id (unit_of id ls f.units e) k.0
-by_last f clause (LongClause id) s n = go (clause_numbered id f.clauses) refl s
+by_last f clause (LongClause id) s n = go (clause_with_id id f.clauses) refl s
   where
-    go : (x : Option (List ℕ)) → clause_numbered id f.clauses ≡ x → IsStrictSubset x clause → RestsOn f clause (id ∷ [])
+    go : (x : Option (List ℕ)) → clause_with_id id f.clauses ≡ x → IsStrictSubset x clause → FollowsByPropagation f clause (id ∷ [])
     go None e k = absurd k
     go (Some ls) e k = by_clause f clause ls id (signed id ls f.clauses e) k.0
 
-pub deletions : DeletionsRest
-deletions steps clause ok = ((λ a. satisfied (true_unit (canonical clause) (ready_after steps).units) refl a.1), (λ a n. by_last (ready_after steps) clause (ready_after steps).last a.1 n))
+pub deletions : DeletedFollowByPropagation
+deletions steps clause ok = ((λ a. satisfied (satisfying_unit (canonical clause) (ready_after steps).units) refl a.1), (λ a n. by_last (ready_after steps) clause (ready_after steps).last a.1 n))
   where
-    satisfied : (x : Option ℕ) → true_unit (canonical clause) (ready_after steps).units ≡ x → list_any (is_among (unit_literals (ready_after steps))) clause ≡ true → RestsOn (ready_after steps) clause (option_to_list x)
+    satisfied : (x : Option ℕ) → satisfying_unit (canonical clause) (ready_after steps).units ≡ x → list_any (is_among (unit_literals (ready_after steps))) clause ≡ true → FollowsByPropagation (ready_after steps) clause (option_to_list x)
     satisfied (Some id) e h = rests_on_unit (ready_after steps) clause [] (sorted_ready steps) (means_ready steps ok).coherent.apart id e
     satisfied None e h =
         let s = some_of (is_among (unit_literals (ready_after steps))) clause h in
         absurd (both_ways (is_among (unit_literals (ready_after steps)) s.literal) (true_missing (canonical clause) (ready_after steps).units e s.literal (canonical_among clause s.literal ∙ s.within)) s.passes)
 
-settled_once : (f : Stored) (x : Option (ℕ × ℕ)) → f.conflict ≡ x → delayed (settled_by x f) ≡ []
+settled_once : (f : Stored) (x : Option (ℕ × ℕ)) → f.conflict ≡ x → delayed_announcement (settled_by x f) ≡ []
 settled_once f None e = rw e refl
 settled_once f (Some units) e = refl
 
-pub in_order : NoticesInOrder
+pub in_order : NoticesAreAppended
 in_order steps step = (
   refl,
   settled_once (stored_after steps) (stored_after steps).conflict refl,

@@ -8,14 +8,14 @@ use Rattle.sat_checker.specs.inner.Marks.{IsIncreasing, NoRepeats}
 use Rattle.sat_checker.specs.Stored.{StoredClause, StoredUnit, Stored, unit_literals}
 use Rattle.sat_checker.specs.Storing.{with_units}
 use Rattle.sat_checker.specs.Accepts.{VariablesDistinct, PassesByHashes, ready_after}
-use Rattle.sat_checker.specs.announcements.Needed.{conflict_causes, clauses_named, conflict_ids, true_unit, unit_alone, propagations}
+use Rattle.sat_checker.specs.announcements.Needed.{conflict_causes, clauses_of_hashes, conflict_ids, satisfying_unit, only_unit_or, propagations}
 use Rattle.sat_checker.specs.announcements.Promises.{IsOneOf, IsConflictCauses, PropagationsInTurn, ConflictIsFollowedBackwards}
 use Rattle.sat_checker.proofs.lemmas.sets.Canonical.{canonical_among}
 use Rattle.sat_checker.proofs.lemmas.sets.Marks.{once}
 use Rattle.sat_checker.proofs.lemmas.sets.Subsets.{any_true}
 use Rattle.sat_checker.proofs.lemmas.meaning.Meaning.{means_ready}
 use Rattle.sat_checker.proofs.lemmas.announcements.Sorted.{Sorted, sorted_ready, sorted_units}
-use Rattle.sat_checker.proofs.lemmas.announcements.Rests.{true_found, named_stored, met, rests_on}
+use Rattle.sat_checker.proofs.lemmas.announcements.Rests.{true_found, named_stored, reached, rests_on}
 use Rattle.sat_checker.proofs.lemmas.announcements.Apart.{apart_units}
 use Rattle.sat_checker.proofs.lemmas.announcements.Backwards.{followed}
 
@@ -40,24 +40,24 @@ module _ (f : Stored) (clause hashes : List ℕ) (sorted : Sorted f) where
   no_unit : list_any (is_among (unit_literals f)) clause ≡ false → (m : ℕ) → is_among clause m ≡ true → is_among (unit_literals f) m ≡ false
   no_unit n m h = false_from_ne_true (is_among (unit_literals f) m) (λ t. both_ways (list_any (is_among (unit_literals f)) clause) n (any_true (is_among (unit_literals f)) clause m h t))
 
-  no_true_unit : list_any (is_among (unit_literals f)) clause ≡ false → true_unit (canonical clause) f.units ≡ None
-  no_true_unit n = go (true_unit (canonical clause) f.units) refl
+  no_true_unit : list_any (is_among (unit_literals f)) clause ≡ false → satisfying_unit (canonical clause) f.units ≡ None
+  no_true_unit n = go (satisfying_unit (canonical clause) f.units) refl
     where
-      go : (x : Option ℕ) → true_unit (canonical clause) f.units ≡ x → x ≡ None
+      go : (x : Option ℕ) → satisfying_unit (canonical clause) f.units ≡ x → x ≡ None
       go None e = refl
       go (Some id) e =
           let t = true_found (canonical clause) f.units id e in
           absurd (both_ways (is_among (unit_literals f) t.literal) (no_unit n t.literal (sym (canonical_among clause t.literal) ∙ t.within)) (subst (λ l. is_among (unit_literals f) l ≡ true) t.found.literal_is (one_among t.found.unit f.units t.found.stored)))
 
-  ids_are : is_tautology clause ≡ false → list_any (is_among (unit_literals f)) clause ≡ false → propagations f clause hashes ≡ conflict_ids (map negated clause) (conflict_causes (map negated clause ++ unit_literals f) (clauses_named hashes f)) f.units
+  ids_are : is_tautology clause ≡ false → list_any (is_among (unit_literals f)) clause ≡ false → propagations f clause hashes ≡ conflict_ids (map negated clause) (conflict_causes (map negated clause ++ unit_literals f) (clauses_of_hashes hashes f)) f.units
   ids_are t n =
-      let ids : List ℕ = conflict_ids (map negated clause) (conflict_causes (map negated clause ++ unit_literals f) (clauses_named hashes f)) f.units in
-      ap (λ b. cond b [] (unit_alone (true_unit (canonical clause) f.units) ids)) t ∙ ap (λ x. unit_alone x ids) (no_true_unit n)
+      let ids : List ℕ = conflict_ids (map negated clause) (conflict_causes (map negated clause ++ unit_literals f) (clauses_of_hashes hashes f)) f.units in
+      ap (λ b. cond b [] (only_unit_or (satisfying_unit (canonical clause) f.units) ids)) t ∙ ap (λ x. only_unit_or x ids) (no_true_unit n)
 
-  is_exact : VariablesDistinct (unit_literals f) → PassesByHashes f clause hashes → is_tautology clause ≡ false → list_any (is_among (unit_literals f)) clause ≡ false → IsConflictCauses (map negated clause ++ unit_literals f) (clauses_named hashes f) (conflict_causes (map negated clause ++ unit_literals f) (clauses_named hashes f))
+  is_exact : VariablesDistinct (unit_literals f) → PassesByHashes f clause hashes → is_tautology clause ≡ false → list_any (is_among (unit_literals f)) clause ≡ false → IsConflictCauses (map negated clause ++ unit_literals f) (clauses_of_hashes hashes f) (conflict_causes (map negated clause ++ unit_literals f) (clauses_of_hashes hashes f))
   is_exact apart p t n =
-      (followed (clauses_named hashes f) (map negated clause ++ unit_literals f) (each_named (λ c. NoRepeats c.literals) (clauses_named hashes f) (λ c k. once c.literals (one_holds (λ d. IsIncreasing d.literals) f.clauses c sorted.sets (named_stored hashes f c k))))
-      (met f clause hashes sorted apart (no_unit n) t p)).is_ground
+      (followed (clauses_of_hashes hashes f) (map negated clause ++ unit_literals f) (each_named (λ c. NoRepeats c.literals) (clauses_of_hashes hashes f) (λ c k. once c.literals (one_holds (λ d. IsIncreasing d.literals) f.clauses c sorted.sets (named_stored hashes f c k))))
+      (reached f clause hashes sorted apart (no_unit n) t p)).is_ground
 
 pub in_turn : PropagationsInTurn
 in_turn steps front clause hashes ok =

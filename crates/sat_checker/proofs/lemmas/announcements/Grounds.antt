@@ -6,7 +6,7 @@ use Rattle.sat_base.specs.values.Literals.{negated}
 use Rattle.sat_checker.specs.LiteralSets.{is_among}
 use Rattle.sat_checker.specs.Propagation.{IsFalsified, IsUnit, UnitInTurn}
 use Rattle.sat_checker.specs.Stored.{StoredClause}
-use Rattle.sat_checker.specs.inner.Walk.{ClauseState, falsified, becomes_unit, neither, clause_state, state_by_open, not_false, walk, walk_on, and_then}
+use Rattle.sat_checker.specs.inner.Walk.{ClauseState, falsified, becomes_unit, neither, clause_state, state_by_open, not_false, walk, walk_clause, and_then}
 use Rattle.sat_checker.specs.announcements.Needed.{ConflictCauses, negations_except, causes_by, conflict_causes}
 use Rattle.sat_checker.proofs.lemmas.propagation.Greedy.{Within}
 use Rattle.sat_checker.proofs.lemmas.sets.Members.{each_at}
@@ -167,7 +167,7 @@ grounds_run (c ∷ cs) assumed known e k = go (grounds_run cs) (clause_state ass
         (ih (o ∷ assumed) (o ∷ known) w (after_covers known assumed (negations_except o c.literals) (conflict_causes (o ∷ assumed) cs).literals o k'))
     opened ih o u w false n k' = ih (o ∷ assumed) known w (aside_covers known assumed (conflict_causes (o ∷ assumed) cs).literals o n k')
 
-    go : Run cs → (v : ClauseState) → Says assumed c.literals v → and_then (walk_on v assumed) (λ more. walk more (literals_of cs)) ≡ None
+    go : Run cs → (v : ClauseState) → Says assumed c.literals v → and_then (walk_clause v assumed) (λ more. walk more (literals_of cs)) ≡ None
         → Covers known assumed (causes_by v c assumed (λ more. conflict_causes more cs)).literals → Turns known (causes_by v c assumed (λ more. conflict_causes more cs))
     go ih falsified s w k' = falsified_known known assumed c.literals k' s
     go ih (becomes_unit o) s w k' = opened ih o s w (is_among (conflict_causes (o ∷ assumed) cs).literals o) refl k'

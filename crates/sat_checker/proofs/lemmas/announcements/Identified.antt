@@ -5,11 +5,11 @@ use Rattle.std.specs.List.{AllByRecursion}
 use Rattle.sat_base.specs.values.Literals.{variable, negated}
 use Rattle.sat_base.specs.steps.Steps.{Redundant, Simplified, Satisfied, Step, SolverVarName, UserVarName, DeleteVar, AddClause, AtClause, UnitClauses, DeleteClause, Model, FailedAssumptions}
 use Rattle.sat_checker.specs.LiteralSets.{is_among, is_subset_of, is_tautology, canonical, same_literals}
-use Rattle.sat_checker.specs.Stored.{StoredClause, StoredUnit, Last, NoneYet, Empty, UnitClause, LongClause, Stored, is_unit}
-use Rattle.sat_checker.specs.Storing.{with_count, with_stored_clause, clause_with, without_count, unless_gone, without_clause, unit_id, first_conflict, with_unit, with_contradiction, with_new_unit, with_conflict_settled, settled_by, with_set, unit_at, long_at, place_of, with_canonical, with_stored, with_input, with_units, with_known, with_literals_known, clause_numbered, unit_numbered, last_literals}
+use Rattle.sat_checker.specs.Stored.{StoredClause, StoredUnit, LastIrredundant, NoneYet, Empty, UnitClause, LongClause, Stored, is_unit}
+use Rattle.sat_checker.specs.Storing.{with_count, with_stored_clause, clause_with, without_count, unless_removed, without_clause, unit_id, first_conflict, with_unit, with_contradiction, with_new_unit, with_conflict_settled, settled_by, with_sorted_set, last_unit_or, last_long_or, last_clause_or, with_canonical, with_stored, with_input, with_units, with_known, with_literals_known, clause_with_id, unit_with_id, last_literals}
 use Rattle.sat_checker.specs.Accepts.{IsStrictSubset, effect, stored_after, ready_after}
 use Rattle.sat_checker.specs.announcements.Needed.{propagations}
-use Rattle.sat_checker.specs.announcements.Announcements.{Announcement, id_of, id_of_set, input_set, input, derived_set, derived, derived_units, option_to_list, last_id, announced, delayed_by, delayed, Notice, notices_over, notices_after, all_notices_after}
+use Rattle.sat_checker.specs.announcements.Announcements.{Announcement, id_of, id_of_set, announced_input_set, announced_input, announced_derived_set, announced_derived, announced_derived_units, option_to_list, last_id, announced, delayed_empty_clause, delayed_announcement, Notice, notices_of, notices_after, all_notices_after}
 use Rattle.sat_checker.specs.announcements.Announcements as announcements
 use Rattle.sat_checker.specs.announcements.Promises.{IsOneOf, IsAnnouncedAs, IsAnnounced, AreAnnounced, IdsAreAnnounced, ConflictIsAnnounced, SimplifiedIsAnnounced}
 use Rattle.sat_checker.proofs.lemmas.propagation.Soundness.{negated-negated}
@@ -49,7 +49,7 @@ news_front id ls xs ys n = (n.0, one_front n.0 xs ys n.1, n.2)
 news_after : (id : ℕ) (ls : List ℕ) (xs ys : List Announcement) → IsNews id ls ys → IsNews id ls (xs ++ ys)
 news_after id ls xs ys n = (n.0, one_after n.0 xs ys n.1, n.2)
 
-news_reported : (f : Stored) (id : ℕ) (ls : List ℕ) (news : List Announcement) → IsNews id ls news → IsAnnounced id ls (notices_over f news)
+news_reported : (f : Stored) (id : ℕ) (ls : List ℕ) (news : List Announcement) → IsNews id ls news → IsAnnounced id ls (notices_of f news)
 news_reported f id ls news n = (record { announcement = n.0; variables = f.variables }, one_mapped (λ a. record { announcement = a; variables = f.variables }) n.0 news n.1, n.2)
 
 announced_front : (id : ℕ) (ls : List ℕ) (xs ys : List Notice) → IsAnnounced id ls xs → IsAnnounced id ls (xs ++ ys)
@@ -59,16 +59,16 @@ reported_after : (id : ℕ) (ls : List ℕ) (xs ys : List Notice) → IsAnnounce
 reported_after id ls xs ys t = (t.0, one_after t.0 xs ys t.1, t.2)
 
 -- a clause that is not stored yet is announced under the next id
-derived_news : (r : Bool) (c hs : List ℕ) (f : Stored) → is_tautology c ≡ false → id_of_set (canonical c) f ≡ None → IsNews f.next_id (canonical c) (derived r c hs f)
+derived_news : (r : Bool) (c hs : List ℕ) (f : Stored) → is_tautology c ≡ false → id_of_set (canonical c) f ≡ None → IsNews f.next_id (canonical c) (announced_derived r c hs f)
 derived_news r c hs f t e =
     let ids : List ℕ = propagations f c hs in
-    subst (λ b. IsNews f.next_id (canonical c) (cond b [] (derived_set r (canonical c) ids f (id_of_set (canonical c) f)))) (sym t)
-    (subst (λ x. IsNews f.next_id (canonical c) (derived_set r (canonical c) ids f x)) (sym e) (announcements.AtClause f.next_id r (canonical c) ids, inl refl, (refl, refl)))
+    subst (λ b. IsNews f.next_id (canonical c) (cond b [] (announced_derived_set r (canonical c) ids f (id_of_set (canonical c) f)))) (sym t)
+    (subst (λ x. IsNews f.next_id (canonical c) (announced_derived_set r (canonical c) ids f x)) (sym e) (announcements.AtClause f.next_id r (canonical c) ids, inl refl, (refl, refl)))
 
-input_news : (c : List ℕ) (f : Stored) → is_tautology c ≡ false → id_of_set (canonical c) f ≡ None → IsNews f.next_id (canonical c) (input c f)
+input_news : (c : List ℕ) (f : Stored) → is_tautology c ≡ false → id_of_set (canonical c) f ≡ None → IsNews f.next_id (canonical c) (announced_input c f)
 input_news c f t e =
-    subst (λ b. IsNews f.next_id (canonical c) (cond b (announcements.TautologicalClause f.next_id (canonical c) ∷ []) (input_set f.next_id (canonical c) (id_of_set (canonical c) f)))) (sym t)
-    (subst (λ x. IsNews f.next_id (canonical c) (input_set f.next_id (canonical c) x)) (sym e) (announcements.AddClause f.next_id (canonical c), inl refl, (refl, refl)))
+    subst (λ b. IsNews f.next_id (canonical c) (cond b (announcements.TautologicalClause f.next_id (canonical c) ∷ []) (announced_input_set f.next_id (canonical c) (id_of_set (canonical c) f)))) (sym t)
+    (subst (λ x. IsNews f.next_id (canonical c) (announced_input_set f.next_id (canonical c) x)) (sym e) (announcements.AddClause f.next_id (canonical c), inl refl, (refl, refl)))
 
 -- making variables known does not change the id of a set
 known_set : (ls vs : List ℕ) (f : Stored) → id_of_set ls (with_known vs f) ≡ id_of_set ls f
@@ -84,15 +84,15 @@ unit_none l (u ∷ us) e =
     ap (λ b. cond b (Some u.id) (unit_id l us)) p.0 ∙ unit_none l us p.1
 
 -- the last clause is an empty one only if it was before; a unit or a longer clause is not empty
-unit_not_empty : (l id : ℕ) (us : List StoredUnit) (last : Last) → unit_at l us last ≡ Empty id → last ≡ Empty id
+unit_not_empty : (l id : ℕ) (us : List StoredUnit) (last : LastIrredundant) → last_unit_or l us last ≡ Empty id → last ≡ Empty id
 unit_not_empty l id [] last e = e
 unit_not_empty l id (u ∷ us) last e = go (eqb u.literal l) (unit_not_empty l id us last) e
   where
-    go : (b : Bool) → (unit_at l us last ≡ Empty id → last ≡ Empty id) → cond b (UnitClause u.id) (unit_at l us last) ≡ Empty id → last ≡ Empty id
+    go : (b : Bool) → (last_unit_or l us last ≡ Empty id → last ≡ Empty id) → cond b (UnitClause u.id) (last_unit_or l us last) ≡ Empty id → last ≡ Empty id
     go true ih e = absurd cc
     go false ih e = ih e
 
-long_not_empty : (id : ℕ) (x : Option StoredClause) (last : Last) → long_at x last ≡ Empty id → last ≡ Empty id
+long_not_empty : (id : ℕ) (x : Option StoredClause) (last : LastIrredundant) → last_long_or x last ≡ Empty id → last ≡ Empty id
 long_not_empty id None last e = e
 long_not_empty id (Some c) last e = absurd cc
 
@@ -149,7 +149,7 @@ module _ (reported : List Notice) where
       less true = h.0
       less false = h.0
 
-      go : AreClauses (without_clause r ls cs) → (b : Bool) → AreClauses (cond b (unless_gone (without_count r c) ++ cs) (c ∷ without_clause r ls cs))
+      go : AreClauses (without_clause r ls cs) → (b : Bool) → AreClauses (cond b (unless_removed (without_count r c) ++ cs) (c ∷ without_clause r ls cs))
       go ih true = clauses_unless (without_count r c) _ cs (less r) h.1
       go ih false = (h.0, ih)
 
@@ -197,8 +197,8 @@ module _ (reported : List Notice) where
       go false e false = new_unit l f (new (unit_none l f.units e)) a
 
   -- after a set is stored, everything is announced if the set is announced or not new
-  set_announced : (r : Bool) (ls : List ℕ) (f : Stored) → (id_of_set ls f ≡ None → IsAnnounced f.next_id ls reported) → AreAnnounced f reported → AreAnnounced (with_set r ls f) reported
-  set_announced r [] f new a = aside f (with_set r [] f) refl refl refl refl a
+  set_announced : (r : Bool) (ls : List ℕ) (f : Stored) → (id_of_set ls f ≡ None → IsAnnounced f.next_id ls reported) → AreAnnounced f reported → AreAnnounced (with_sorted_set r ls f) reported
+  set_announced r [] f new a = aside f (with_sorted_set r [] f) refl refl refl refl a
   set_announced r (l ∷ []) f new a = unit_announced l f new a
   set_announced r (l ∷ m ∷ ls) f new a = record {
     clauses = clauses_with r f.next_id (l ∷ m ∷ ls) f.clauses (λ e. new (ap id_of e)) a.clauses;
@@ -207,7 +207,7 @@ module _ (reported : List Notice) where
     conflict = a.conflict;
   }
 
-  last_announced : (ls : List ℕ) (f g : Stored) → (id_of_set ls f ≡ None → IsAnnounced f.next_id ls reported) → AreAnnounced f reported → (id : ℕ) → place_of f.next_id ls g f.last ≡ Empty id → IsAnnounced id [] reported
+  last_announced : (ls : List ℕ) (f g : Stored) → (id_of_set ls f ≡ None → IsAnnounced f.next_id ls reported) → AreAnnounced f reported → (id : ℕ) → last_clause_or f.next_id ls g f.last ≡ Empty id → IsAnnounced id [] reported
   last_announced [] f g new a id e = let is : f.next_id ≡ id = cc in subst (λ i. IsAnnounced i [] reported) is (new refl)
   last_announced (l ∷ []) f g new a id e = a.last id (unit_not_empty l id g.units f.last e)
   last_announced (l ∷ m ∷ ls) f g new a id e = a.last id (long_not_empty id (clause_with (l ∷ m ∷ ls) g.clauses) f.last e)
@@ -216,7 +216,7 @@ module _ (reported : List Notice) where
   canonical_announced true ls f new a = set_announced true ls f new a
   canonical_announced false ls f new a =
       let s = set_announced false ls f new a in
-      record { clauses = s.clauses; units = s.units; last = last_announced ls f (with_set false ls f) new a; conflict = s.conflict }
+      record { clauses = s.clauses; units = s.units; last = last_announced ls f (with_sorted_set false ls f) new a; conflict = s.conflict }
 
   stored_announced : (r : Bool) (c : List ℕ) (f : Stored) → (is_tautology c ≡ false → id_of_set (canonical c) f ≡ None → IsAnnounced f.next_id (canonical c) reported) → AreAnnounced f reported → AreAnnounced (with_stored r c f) reported
   stored_announced r c f new a = go (is_tautology c) refl
@@ -232,11 +232,11 @@ module _ (reported : List Notice) where
   known_announced vs f a = aside f (with_known vs f) refl refl refl refl a
 
   -- after units are added one by one, everything is announced if their announcements were reported
-  units_announced : (us : List (ℕ × ℕ)) (f : Stored) → ((id : ℕ) (ls : List ℕ) → IsNews id ls (derived_units us f) → IsAnnounced id ls reported) → AreAnnounced f reported → AreAnnounced (with_units (map (λ u. u.0) us) f) reported
+  units_announced : (us : List (ℕ × ℕ)) (f : Stored) → ((id : ℕ) (ls : List ℕ) → IsNews id ls (announced_derived_units us f) → IsAnnounced id ls reported) → AreAnnounced f reported → AreAnnounced (with_units (map (λ u. u.0) us) f) reported
   units_announced [] f w a = a
   units_announced (u ∷ us) f w a =
-      let this : List Announcement = derived false (u.0 ∷ []) (u.1 ∷ []) f in
-      let others : List Announcement = derived_units us (with_unit u.0 f) in
+      let this : List Announcement = announced_derived false (u.0 ∷ []) (u.1 ∷ []) f in
+      let others : List Announcement = announced_derived_units us (with_unit u.0 f) in
       units_announced us (with_unit u.0 f) (λ id ls n. w id ls (news_after id ls this others n))
       (unit_announced u.0 f (λ e. w f.next_id (u.0 ∷ []) (news_front f.next_id (u.0 ∷ []) this others (derived_news false (u.0 ∷ []) (u.1 ∷ []) f refl e))) a)
 
@@ -255,7 +255,7 @@ module _ (reported : List Notice) where
   }
   effect_announced (AddClause c) f n w a = go f.unsat w
     where
-      go : (b : Bool) → ((id : ℕ) (ls : List ℕ) → IsNews id ls (cond b [] (input c f)) → IsAnnounced id ls reported) → AreAnnounced (cond b f (with_input c (with_literals_known c f))) reported
+      go : (b : Bool) → ((id : ℕ) (ls : List ℕ) → IsNews id ls (cond b [] (announced_input c f)) → IsAnnounced id ls reported) → AreAnnounced (cond b f (with_input c (with_literals_known c f))) reported
       go true w = a
       go false w = input_announced c (with_literals_known c f) (λ t e. w f.next_id (canonical c) (input_news c f t (sym (known_set (canonical c) (map variable c) f) ∙ e))) (known_announced (map variable c) f a)
   effect_announced (AtClause r c hs) f n w a =
@@ -281,7 +281,7 @@ module _ (reported : List Notice) where
 ready_announced : (steps : List Step) → AreAnnounced (stored_after steps) (notices_after steps) → AreAnnounced (ready_after steps) (all_notices_after steps)
 ready_announced steps a =
     let reported : List Notice = notices_after steps in
-    let waiting : List Notice = notices_over (stored_after steps) (delayed (stored_after steps)) in
+    let waiting : List Notice = notices_of (stored_after steps) (delayed_announcement (stored_after steps)) in
     settled_announced (reported ++ waiting) (stored_after steps) (reported_more (stored_after steps) reported (reported ++ waiting) (λ id ls t. announced_front id ls reported waiting t) a)
 
 pub identified : IdsAreAnnounced
@@ -289,7 +289,7 @@ identified [] = record { clauses = tt; units = tt; last = λ id e. absurd cc; co
 identified (step ∷ earlier) =
     let f : Stored = ready_after earlier in
     let reported : List Notice = all_notices_after earlier in
-    let more : List Notice = notices_over f (announced f step) in
+    let more : List Notice = notices_of f (announced f step) in
     effect_announced (reported ++ more) step f (settled_none (stored_after earlier)) (λ id ls n. reported_after id ls reported more (news_reported f id ls (announced f step) n))
     (reported_more f reported (reported ++ more) (λ id ls t. announced_front id ls reported more t) (ready_announced earlier (identified earlier)))
 
@@ -303,7 +303,7 @@ conflict_named steps id i j e = go f.conflict refl e
     reported : List Notice
     reported = notices_after steps
 
-    go : (x : Option (ℕ × ℕ)) → f.conflict ≡ x → delayed_by f.next_id x ≡ announcements.AtClause id false [] (i ∷ j ∷ []) ∷ [] → (l : ℕ) × IsAnnounced i (l ∷ []) reported × IsAnnounced j (negated l ∷ []) reported
+    go : (x : Option (ℕ × ℕ)) → f.conflict ≡ x → delayed_empty_clause f.next_id x ≡ announcements.AtClause id false [] (i ∷ j ∷ []) ∷ [] → (l : ℕ) × IsAnnounced i (l ∷ []) reported × IsAnnounced j (negated l ∷ []) reported
     go None s k = absurd cc
     go (Some ids) s k =
         let a = identified steps in
@@ -318,20 +318,20 @@ abbrev NamesPart : List Notice → List ℕ → List ℕ → Type 0
 NamesPart reported clause ids = (id : ℕ) × (part : List ℕ) × (ids ≡ id ∷ []) × (is_subset_of part clause ≡ true) × IsAnnounced id part reported
 
 -- the last irredundant clause was announced under its id, if it is a part of the clause
-last_named : (f : Stored) (reported : List Notice) → AreAnnounced f reported → (clause : List ℕ) (last : Last) → f.last ≡ last → IsStrictSubset (last_literals last f) clause → NamesPart reported clause (option_to_list (last_id last))
+last_named : (f : Stored) (reported : List Notice) → AreAnnounced f reported → (clause : List ℕ) (last : LastIrredundant) → f.last ≡ last → IsStrictSubset (last_literals last f) clause → NamesPart reported clause (option_to_list (last_id last))
 last_named f reported a clause NoneYet is s = absurd s
 last_named f reported a clause (Empty id) is s = (id, [], refl, s.0, a.last id is)
-last_named f reported a clause (UnitClause id) is s = go (unit_numbered id f.units) refl s
+last_named f reported a clause (UnitClause id) is s = go (unit_with_id id f.units) refl s
   where
-    go : (x : Option (List ℕ)) → unit_numbered id f.units ≡ x → IsStrictSubset x clause → NamesPart reported clause (id ∷ [])
+    go : (x : Option (List ℕ)) → unit_with_id id f.units ≡ x → IsStrictSubset x clause → NamesPart reported clause (id ∷ [])
     go None e k = absurd k
     go (Some ls) e k =
         let u = unit_of id ls f.units e in
         let this = one_each (λ w. IsAnnounced w.id (w.literal ∷ []) reported) u.unit f.units a.units u.stored in
         (id, ls, refl, k.0, subst (λ x. IsAnnounced x ls reported) u.id_is (subst (λ x. IsAnnounced u.unit.id x reported) u.literals_are this))
-last_named f reported a clause (LongClause id) is s = go (clause_numbered id f.clauses) refl s
+last_named f reported a clause (LongClause id) is s = go (clause_with_id id f.clauses) refl s
   where
-    go : (x : Option (List ℕ)) → clause_numbered id f.clauses ≡ x → IsStrictSubset x clause → NamesPart reported clause (id ∷ [])
+    go : (x : Option (List ℕ)) → clause_with_id id f.clauses ≡ x → IsStrictSubset x clause → NamesPart reported clause (id ∷ [])
     go None e k = absurd k
     go (Some ls) e k =
         let c = signed id ls f.clauses e in

@@ -12,9 +12,9 @@ use Rattle.sat_checker.specs.Stored.{StoredUnit}
 use Rattle.sat_checker.specs.Storing.{unit_id}
 use Rattle.sat_checker.specs.inner.Marks.{NoRepeats, IsIncreasing}
 use Rattle.sat_checker.specs.inner.WalkNotes.{WalkNotes}
-use Rattle.sat_checker.specs.inner.Reasons.{named, Explains}
+use Rattle.sat_checker.specs.inner.Reasons.{clauses_by_hashes, ExplainsConflict}
 use Rattle.sat_checker.specs.inner.SlotView.{Slot}
-use Rattle.sat_checker.specs.announcements.Needed.{ConflictCauses, conflict_causes, needed_units, conflict_ids, or_else, true_unit}
+use Rattle.sat_checker.specs.announcements.Needed.{ConflictCauses, conflict_causes, needed_units, conflict_ids, or_else, satisfying_unit}
 use Rattle.sat_checker.specs.announcements.Promises.{IsOneOf}
 use Rattle.sat_checker.proofs.lemmas.sets.Canonical.{same_increasing, among_from_contains, contains_from_among}
 use Rattle.sat_checker.proofs.lemmas.sets.Distinct.{sorted_increasing}
@@ -30,14 +30,14 @@ use Rattle.sat_checker.proofs.lemmas.announcements.Noting.{ground_same}
 
 -- the notes explain the same for the units in any order
 pub explained_units : {E : Type 0} (r : Result Bool E) (ss : List Slot) (passed : WalkNotes) (value : List StoredUnit) (assigned clause hashes : List ℕ) → ((l : ℕ) → is_among assigned l ≡ is_among (map (λ u. u.literal) value) l)
-    → IfOk r (λ b. b ≡ true → list_any (is_among assigned) clause ≡ false → is_tautology clause ≡ false → Explains ss passed (conflict_causes (map negated clause ++ assigned) (named hashes ss)))
-    → IfOk r (λ b. b ≡ true → list_any (is_among (map (λ u. u.literal) value)) clause ≡ false → is_tautology clause ≡ false → Explains ss passed (conflict_causes (map negated clause ++ map (λ u. u.literal) value) (named hashes ss)))
+    → IfOk r (λ b. b ≡ true → list_any (is_among assigned) clause ≡ false → is_tautology clause ≡ false → ExplainsConflict ss passed (conflict_causes (map negated clause ++ assigned) (clauses_by_hashes hashes ss)))
+    → IfOk r (λ b. b ≡ true → list_any (is_among (map (λ u. u.literal) value)) clause ≡ false → is_tautology clause ≡ false → ExplainsConflict ss passed (conflict_causes (map negated clause ++ map (λ u. u.literal) value) (clauses_by_hashes hashes ss)))
 explained_units (Err e) ss passed value assigned clause hashes same h = tt
 explained_units (Ok b) ss passed value assigned clause hashes same h = λ t n s.
     let units : List ℕ = map (λ u. u.literal) value in
     let front : (l : ℕ) → is_among (map negated clause ++ assigned) l ≡ is_among (map negated clause ++ units) l = λ l.
     among-append (map negated clause) assigned l ∙ ap (λ d. is_among (map negated clause) l || d) (same l) ∙ sym (among-append (map negated clause) units l) in
-    subst (Explains ss passed) (ground_same (named hashes ss) (map negated clause ++ assigned) (map negated clause ++ units) front) (h t (same_any assigned units clause same ∙ n) s)
+    subst (ExplainsConflict ss passed) (ground_same (clauses_by_hashes hashes ss) (map negated clause ++ assigned) (map negated clause ++ units) front) (h t (same_any assigned units clause same ∙ n) s)
 
 -- the ids with the id of one literal added, unless the literal is denied or has none
 abbrev pub unless_denied : Bool → Option ℕ → List ℕ → List ℕ
@@ -74,11 +74,11 @@ all_taken denied units ls i ids all l h = sym (append-nil ids) ∙ ap (λ xs. id
 
 -- the id of the first literal that is a unit
 module _ (units : List StoredUnit) (ls : List ℕ) (i : ℕ) (inside : i < length ls) where
-  pub true_here : (id : ℕ) → unit_id (get_or ls i 0) units ≡ Some id → true_unit (drop i ls) units ≡ Some id
-  true_here id e = ap (λ xs. true_unit xs units) (drop_more ls i 0 inside) ∙ ap (λ o. or_else o (true_unit (drop (i + 1) ls) units)) e
+  pub true_here : (id : ℕ) → unit_id (get_or ls i 0) units ≡ Some id → satisfying_unit (drop i ls) units ≡ Some id
+  true_here id e = ap (λ xs. satisfying_unit xs units) (drop_more ls i 0 inside) ∙ ap (λ o. or_else o (satisfying_unit (drop (i + 1) ls) units)) e
 
-  pub true_later : unit_id (get_or ls i 0) units ≡ None → true_unit (drop i ls) units ≡ true_unit (drop (i + 1) ls) units
-  true_later e = ap (λ xs. true_unit xs units) (drop_more ls i 0 inside) ∙ ap (λ o. or_else o (true_unit (drop (i + 1) ls) units)) e
+  pub true_later : unit_id (get_or ls i 0) units ≡ None → satisfying_unit (drop i ls) units ≡ satisfying_unit (drop (i + 1) ls) units
+  true_later e = ap (λ xs. satisfying_unit xs units) (drop_more ls i 0 inside) ∙ ap (λ o. or_else o (satisfying_unit (drop (i + 1) ls) units)) e
 
 pub ruleset finding_true = (true_here, true_later)
 

@@ -5,7 +5,7 @@ use Rattle.sat_base.specs.values.Literals.{negated}
 use Rattle.sat_base.specs.steps.Steps.{Redundant, Simplified, Satisfied, Step, SolverVarName, UserVarName, AddClause, AtClause, UnitClauses, DeleteClause}
 use Rattle.sat_checker.specs.LiteralSets.{is_tautology, canonical, same_literals}
 use Rattle.sat_checker.specs.Stored.{StoredClause, Stored, is_unit}
-use Rattle.sat_checker.specs.Storing.{with_count, with_stored_clause, clause_with, without_count, unless_gone, without_clause, with_unit, with_contradiction, with_new_unit, with_conflict_settled, settled_by, with_set, with_canonical, with_stored, with_input, with_units, with_literals_known}
+use Rattle.sat_checker.specs.Storing.{with_count, with_stored_clause, clause_with, without_count, unless_removed, without_clause, with_unit, with_contradiction, with_new_unit, with_conflict_settled, settled_by, with_sorted_set, with_canonical, with_stored, with_input, with_units, with_literals_known}
 use Rattle.sat_checker.specs.Accepts.{effect, stored_after, ready_after}
 use Rattle.sat_checker.specs.listeners.AnnouncingView as announcing
 use Rattle.sat_checker.proofs.lemmas.meaning.Clauses.{same}
@@ -36,7 +36,7 @@ long_without r ls (c ∷ cs) h = go (long_without r ls cs h.1) (same_literals c.
     less true = h.0
     less false = h.0
 
-    go : EachLong (without_clause r ls cs) → (b : Bool) → EachLong (cond b (unless_gone (without_count r c) ++ cs) (c ∷ without_clause r ls cs))
+    go : EachLong (without_clause r ls cs) → (b : Bool) → EachLong (cond b (unless_removed (without_count r c) ++ cs) (c ∷ without_clause r ls cs))
     go ih true = long_unless (without_count r c) _ cs (less r) h.1
     go ih false = (h.0, ih)
 
@@ -52,7 +52,7 @@ long_units : (ls : List ℕ) (f : Stored) → EachLong f.clauses → EachLong (w
 long_units [] f h = h
 long_units (l ∷ ls) f h = long_units ls (with_unit l f) (long_unit l f h)
 
-long_set : (r : Bool) (ls : List ℕ) (f : Stored) → EachLong f.clauses → EachLong (with_set r ls f).clauses
+long_set : (r : Bool) (ls : List ℕ) (f : Stored) → EachLong f.clauses → EachLong (with_sorted_set r ls f).clauses
 long_set r [] f h = h
 long_set r (l ∷ []) f h = long_unit l f h
 long_set r (l ∷ m ∷ ls) f h = long_with r f.next_id (l ∷ m ∷ ls) f.clauses (omega arith) h
@@ -102,5 +102,5 @@ no_unit l (c ∷ cs) h = go (no_unit l cs h.1) (same_literals c.literals (l ∷ 
     go ih true e = absurd (let n : length c.literals ≡ 1 = ap length (same c.literals (l ∷ []) e) in let m : 2 ≤ length c.literals = h.0 in omega arith)
     go ih false e = ih
 
-pub after_any : (steps : List Step) → announcing.AreLong (ready_after steps)
+pub after_any : (steps : List Step) → announcing.HasNoStoredUnitClause (ready_after steps)
 after_any steps l = no_unit l (ready_after steps).clauses (long_settled (stored_after steps) (long_after steps))

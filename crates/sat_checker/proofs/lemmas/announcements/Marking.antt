@@ -5,12 +5,12 @@ use Rattle.std.proofs.lemmas.List.{drop_more, reverse-append}
 use Rattle.sat_base.specs.values.Literals.{negated}
 use Rattle.std.specs.List.{AllByRecursion}
 use Rattle.sat_checker.specs.Looks.{total_length}
-use Rattle.sat_checker.specs.announcements.Following.{followed_back}
+use Rattle.sat_checker.specs.announcements.Following.{with_causes}
 use Rattle.sat_checker.specs.declared.rup.passed.Reason as noted
 use Rattle.sat_checker.specs.LiteralSets.{is_among}
 use Rattle.sat_checker.specs.Stored.{StoredClause}
 use Rattle.sat_checker.specs.announcements.Needed.{ConflictCauses, negations_except, with_cause}
-use Rattle.sat_checker.specs.inner.NeededView.{IsFollowed}
+use Rattle.sat_checker.specs.inner.NeededView.{MarksCauses}
 use Rattle.sat_checker.specs.inner.AssumedRoom.{AssumesOnce, LiteralsAndRoom, with_room}
 use Rattle.sat_checker.specs.inner.WalkNotes.{WalkNotes}
 use Rattle.sat_checker.specs.inner.SlotView.{Slot, literals_at}
@@ -74,18 +74,18 @@ drop_whole (x ∷ xs) = drop_whole xs
 pub none_left : (xs : List ℕ) → drop (length xs - 0) xs ≡ []
 none_left xs = let e : length xs - 0 ≡ length xs = omega arith in ap (λ n. drop n xs) e ∙ drop_whole xs
 
-pub begins : (ss : List Slot) (place : ℕ) (needed : Needed) (marked : List ℕ) → marked ≡ [] → ((m : ℕ) → is_among needed.marked.literals m ≡ (is_among (map negated (literals_at ss place)) m || is_among marked m)) → needed.ids.items ≡ (clause_at ss place).id ∷ [] → IsFollowed needed (conflict_at ss (Some place))
+pub begins : (ss : List Slot) (place : ℕ) (needed : Needed) (marked : List ℕ) → marked ≡ [] → ((m : ℕ) → is_among needed.marked.literals m ≡ (is_among (map negated (literals_at ss place)) m || is_among marked m)) → needed.ids.items ≡ (clause_at ss place).id ∷ [] → MarksCauses needed (conflict_at ss (Some place))
 begins ss place needed marked e h k = record {
   marked = λ m. h m ∙ ap (λ xs. is_among (map negated (literals_at ss place)) m || is_among xs m) e ∙ or_none (is_among (map negated (literals_at ss place)) m);
   ids = k;
 }
 
-module _ (old new : Needed) (c : StoredClause) (l : ℕ) (g : ConflictCauses) (f : IsFollowed old g) where
-  pub not_needed : is_among old.marked.literals l ≡ false → IsFollowed old (with_cause l c g)
-  not_needed n = subst (λ b. IsFollowed old (cond b (record { literals = negations_except l c.literals ++ g.literals; clauses = c ∷ g.clauses }) g)) (sym (sym (f.marked l) ∙ n)) f
+module _ (old new : Needed) (c : StoredClause) (l : ℕ) (g : ConflictCauses) (f : MarksCauses old g) where
+  pub not_needed : is_among old.marked.literals l ≡ false → MarksCauses old (with_cause l c g)
+  not_needed n = subst (λ b. MarksCauses old (cond b (record { literals = negations_except l c.literals ++ g.literals; clauses = c ∷ g.clauses }) g)) (sym (sym (f.marked l) ∙ n)) f
 
-  pub is_needed : is_among old.marked.literals l ≡ true → ((m : ℕ) → is_among new.marked.literals m ≡ (is_among (negations_except l c.literals) m || is_among old.marked.literals m)) → new.ids.items ≡ old.ids.items ++ c.id ∷ [] → IsFollowed new (with_cause l c g)
-  is_needed t h k = subst (λ b. IsFollowed new (cond b (record { literals = negations_except l c.literals ++ g.literals; clauses = c ∷ g.clauses }) g)) (sym (sym (f.marked l) ∙ t)) (record {
+  pub is_needed : is_among old.marked.literals l ≡ true → ((m : ℕ) → is_among new.marked.literals m ≡ (is_among (negations_except l c.literals) m || is_among old.marked.literals m)) → new.ids.items ≡ old.ids.items ++ c.id ∷ [] → MarksCauses new (with_cause l c g)
+  is_needed t h k = subst (λ b. MarksCauses new (cond b (record { literals = negations_except l c.literals ++ g.literals; clauses = c ∷ g.clauses }) g)) (sym (sym (f.marked l) ∙ t)) (record {
     marked = λ m. h m ∙ ap (λ b. is_among (negations_except l c.literals) m || b) (f.marked m) ∙ sym (among-append (negations_except l c.literals) g.literals m);
     ids = k ∙ ap (λ xs. xs ++ c.id ∷ []) f.ids ∙ sym (reverse_more c.id (map (λ x. x.id) g.clauses));
   })
@@ -105,8 +105,8 @@ module _ (ss : List Slot) (rs : List noted.Reason) (k n : ℕ) (r : noted.Reason
   from_here : drop k rs ≡ r ∷ drop n rs
   from_here = drop_more rs k r inside ∙ ap (λ x. x ∷ drop (k + 1) rs) there ∙ ap (λ i. r ∷ drop i rs) next
 
-  pub back_next : (needed : Needed) (g : ConflictCauses) → IsFollowed needed (with_cause r.lit (clause_at ss r.place) (followed_back (map (reason_in ss) (drop n rs)) g)) → IsFollowed needed (followed_back (map (reason_in ss) (drop k rs)) g)
-  back_next needed g h = subst (λ xs. IsFollowed needed (followed_back (map (reason_in ss) xs) g)) (sym from_here) h
+  pub back_next : (needed : Needed) (g : ConflictCauses) → MarksCauses needed (with_cause r.lit (clause_at ss r.place) (with_causes (map (reason_in ss) (drop n rs)) g)) → MarksCauses needed (with_causes (map (reason_in ss) (drop k rs)) g)
+  back_next needed g h = subst (λ xs. MarksCauses needed (with_causes (map (reason_in ss) xs) g)) (sym from_here) h
 
   pub read_next : (old looks new base : ℕ) → looks ≤ old + base + total_length (map (λ x. literals_at ss x.place) (drop n rs)) → new ≤ looks + length (literals_at ss r.place) → new ≤ old + base + total_length (map (λ x. literals_at ss x.place) (drop k rs))
   read_next old looks new base h l =

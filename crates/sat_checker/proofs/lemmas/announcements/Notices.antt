@@ -1,20 +1,20 @@
 -- Worked examples of announcements, proved by computing.
 use Rattle.std.proofs.Common.{ℕ, refl, inr}
-use Rattle.sat_checker.specs.Accepts.{MayGetName}
+use Rattle.sat_checker.specs.Accepts.{CanGetName}
 use Rattle.sat_checker.specs.Stored.{nothing_stored}
-use Rattle.sat_checker.specs.announcements.Rows.{RefutedAnnounced, RefutedAtZeroAnnounced, NamedTwiceAnnounced, CollidingAnnounced, Contradiction, ConflictAndUnitAnnounced}
+use Rattle.sat_checker.specs.announcements.Rows.{RefutedAnnounced, RefutedAtWidthZeroAnnounced, HashGivenTwiceAnnounced, CollidingAnnounced, Contradiction, ConflictAndUnitAnnounced}
 
 -- before the first step, variable 0 may get any name
-pub first_name : (name : ℕ) → MayGetName nothing_stored 0 name
+pub first_name : (name : ℕ) → CanGetName nothing_stored 0 name
 first_name name = record { free = λ w e. cc; nameless = refl; not_hidden = λ e. cc }
 
 pub refuted_reported : RefutedAnnounced
 refuted_reported = refl
 
-pub refuted_at_zero : RefutedAtZeroAnnounced
+pub refuted_at_zero : RefutedAtWidthZeroAnnounced
 refuted_at_zero = refl
 
-pub named_twice : NamedTwiceAnnounced
+pub named_twice : HashGivenTwiceAnnounced
 named_twice = refl
 
 pub colliding : CollidingAnnounced

@@ -6,12 +6,12 @@ use Rattle.sat_base.specs.values.Literals.{variable, negated}
 use Rattle.sat_checker.specs.LiteralSets.{is_among, mentions, is_tautology, canonical}
 use Rattle.sat_checker.specs.inner.Marks.{IsIncreasing, NoRepeats}
 use Rattle.sat_checker.specs.Propagation.{UnitInTurn, tautology, unit_true, conflict, clauses_in}
-use Rattle.sat_checker.specs.Stored.{StoredClause, StoredUnit, Stored, unit_literals, hash_by, bucket}
+use Rattle.sat_checker.specs.Stored.{StoredClause, StoredUnit, Stored, unit_literals, clause_hash_by, bucket}
 use Rattle.sat_checker.specs.Storing.{unit_id}
 use Rattle.sat_checker.specs.Accepts.{VariablesDistinct, PassesByHashes}
-use Rattle.sat_checker.specs.inner.Walk.{ClauseState, falsified, becomes_unit, neither, clause_state, walk, walk_on, and_then, walk_buckets, if_conflict}
-use Rattle.sat_checker.specs.announcements.Needed.{ConflictCauses, causes_by, conflict_causes, clauses_named, needed_units, conflict_ids, or_else, true_unit, unit_alone, propagations}
-use Rattle.sat_checker.specs.announcements.Promises.{IsOneOf, RestsOn, TautologiesRestOnNothing}
+use Rattle.sat_checker.specs.inner.Walk.{ClauseState, falsified, becomes_unit, neither, clause_state, walk, walk_clause, and_then, walk_buckets, if_conflict}
+use Rattle.sat_checker.specs.announcements.Needed.{ConflictCauses, causes_by, conflict_causes, clauses_of_hashes, needed_units, conflict_ids, or_else, satisfying_unit, only_unit_or, propagations}
+use Rattle.sat_checker.specs.announcements.Promises.{IsOneOf, FollowsByPropagation, TautologiesNeedNoIds}
 use Rattle.sat_checker.proofs.lemmas.sets.Order.{among-append}
 use Rattle.sat_checker.proofs.lemmas.sets.Canonical.{canonical_among}
 use Rattle.sat_checker.proofs.lemmas.sets.Marks.{once}
@@ -160,19 +160,19 @@ pub record TrueUnit (us : List StoredUnit) (ls : List ℕ) (id : ℕ) : Type 0 w
   pub within : is_among ls literal ≡ true
   pub found : UnitOf us literal id
 
-pub true_found : (ls : List ℕ) (us : List StoredUnit) (id : ℕ) → true_unit ls us ≡ Some id → TrueUnit us ls id
+pub true_found : (ls : List ℕ) (us : List StoredUnit) (id : ℕ) → satisfying_unit ls us ≡ Some id → TrueUnit us ls id
 true_found [] us id e = absurd cc
 true_found (l ∷ ls) us id e = go (true_found ls us id) (unit_id l us) refl e
   where
-    go : (true_unit ls us ≡ Some id → TrueUnit us ls id) → (x : Option ℕ) → unit_id l us ≡ x → or_else x (true_unit ls us) ≡ Some id → TrueUnit us (l ∷ ls) id
+    go : (satisfying_unit ls us ≡ Some id → TrueUnit us ls id) → (x : Option ℕ) → unit_id l us ≡ x → or_else x (satisfying_unit ls us) ≡ Some id → TrueUnit us (l ∷ ls) id
     go ih None s k = let t = ih k in record { literal = t.literal; within = or_right (eqb l t.literal) (is_among ls t.literal) t.within; found = t.found }
     go ih (Some i) s k = record { literal = l; within = or_left (eqb l l) (is_among ls l) (eq-eqb l l refl); found = unit_found l id us (s ∙ k) }
 
-pub true_missing : (ls : List ℕ) (us : List StoredUnit) → true_unit ls us ≡ None → (m : ℕ) → is_among ls m ≡ true → is_among (literals_in us) m ≡ false
+pub true_missing : (ls : List ℕ) (us : List StoredUnit) → satisfying_unit ls us ≡ None → (m : ℕ) → is_among ls m ≡ true → is_among (literals_in us) m ≡ false
 true_missing [] us e m h = absurd (true≢false (sym h))
 true_missing (l ∷ ls) us e m h = go (true_missing ls us) (unit_id l us) refl e (or_cases (eqb l m) (is_among ls m) h)
   where
-    go : (true_unit ls us ≡ None → (n : ℕ) → is_among ls n ≡ true → is_among (literals_in us) n ≡ false) → (x : Option ℕ) → unit_id l us ≡ x → or_else x (true_unit ls us) ≡ None → (eqb l m ≡ true) ⊎ (is_among ls m ≡ true) → is_among (literals_in us) m ≡ false
+    go : (satisfying_unit ls us ≡ None → (n : ℕ) → is_among ls n ≡ true → is_among (literals_in us) n ≡ false) → (x : Option ℕ) → unit_id l us ≡ x → or_else x (satisfying_unit ls us) ≡ None → (eqb l m ≡ true) ⊎ (is_among ls m ≡ true) → is_among (literals_in us) m ≡ false
     go ih None s k (inl t) = subst (λ x. is_among (literals_in us) x ≡ false) (eqb-true l m t) (unit_missing l us s)
     go ih None s k (inr t) = ih k m t
     go ih (Some i) s k c = absurd cc
@@ -190,17 +190,17 @@ literals_both : (xs ys : List StoredClause) → literals_of (xs ++ ys) ≡ liter
 literals_both [] ys = refl
 literals_both (x ∷ xs) ys = ap (λ zs. x.literals ∷ zs) (literals_both xs ys)
 
-named_clauses : (hashes : List ℕ) (f : Stored) → clauses_in (map (bucket f) hashes) ≡ literals_of (clauses_named hashes f)
+named_clauses : (hashes : List ℕ) (f : Stored) → clauses_in (map (bucket f) hashes) ≡ literals_of (clauses_of_hashes hashes f)
 named_clauses [] f = refl
 named_clauses (h ∷ hs) f =
-    let p : List ℕ → Bool = λ c. eqb (hash_by f.solver_names f.width c) h in
+    let p : List ℕ → Bool = λ c. eqb (clause_hash_by f.solver_names f.width c) h in
     ap (λ xs. xs ++ clauses_in (map (bucket f) hs)) (filter_literals p f.clauses)
     ∙ ap (λ ys. literals_of (filter (λ c. p c.literals) f.clauses) ++ ys) (named_clauses hs f)
-    ∙ sym (literals_both (filter (λ c. p c.literals) f.clauses) (clauses_named hs f))
+    ∙ sym (literals_both (filter (λ c. p c.literals) f.clauses) (clauses_of_hashes hs f))
 
 walk_both : (xs ys : List (List ℕ)) (assumed : List ℕ) → walk assumed (xs ++ ys) ≡ and_then (walk assumed xs) (λ more. walk more ys)
 walk_both [] ys assumed = refl
-walk_both (c ∷ cs) ys assumed = go (walk_both cs ys) (walk_on (clause_state assumed c) assumed)
+walk_both (c ∷ cs) ys assumed = go (walk_both cs ys) (walk_clause (clause_state assumed c) assumed)
   where
     go : ((m : List ℕ) → walk m (cs ++ ys) ≡ and_then (walk m cs) (λ more. walk more ys)) → (o : Option (List ℕ)) → and_then o (λ m. walk m (cs ++ ys)) ≡ and_then (and_then o (λ m. walk m cs)) (λ more. walk more ys)
     go ih None = refl
@@ -226,7 +226,7 @@ sets_once p (c ∷ cs) h = go (sets_once p cs h.1) (p c.literals)
 
 buckets_sets : (hashes : List ℕ) (f : Stored) → Sorted f → AllByRecursion (AllByRecursion NoRepeats) (map (bucket f) hashes)
 buckets_sets [] f s = tt
-buckets_sets (h ∷ hs) f s = (sets_once (λ c. eqb (hash_by f.solver_names f.width c) h) f.clauses s.sets, buckets_sets hs f s)
+buckets_sets (h ∷ hs) f s = (sets_once (λ c. eqb (clause_hash_by f.solver_names f.width c) h) f.clauses s.sets, buckets_sets hs f s)
 
 -- the needed clauses are stored
 pub one_of_few : (p : StoredClause → Bool) (c : StoredClause) (cs : List StoredClause) → IsOneOf c (filter p cs) → IsOneOf c cs
@@ -241,11 +241,11 @@ one_of_both : (c : StoredClause) (xs ys : List StoredClause) → IsOneOf c (xs +
 one_of_both c [] ys h = inr h
 one_of_both c (x ∷ xs) ys h = elim h [ inl e ↦ inl (inl e) | inr k ↦ elim (one_of_both c xs ys k) [ inl m ↦ inl (inr m) | inr n ↦ inr n ] ]
 
-pub named_stored : (hashes : List ℕ) (f : Stored) (c : StoredClause) → IsOneOf c (clauses_named hashes f) → IsOneOf c f.clauses
+pub named_stored : (hashes : List ℕ) (f : Stored) (c : StoredClause) → IsOneOf c (clauses_of_hashes hashes f) → IsOneOf c f.clauses
 named_stored [] f c h = absurd h
 named_stored (k ∷ ks) f c h =
-    elim (one_of_both c (filter (λ d. eqb (hash_by f.solver_names f.width d.literals) k) f.clauses) (clauses_named ks f) h) [
-      | inl m ↦ one_of_few (λ d. eqb (hash_by f.solver_names f.width d.literals) k) c f.clauses m
+    elim (one_of_both c (filter (λ d. eqb (clause_hash_by f.solver_names f.width d.literals) k) f.clauses) (clauses_of_hashes ks f) h) [
+      | inl m ↦ one_of_few (λ d. eqb (clause_hash_by f.solver_names f.width d.literals) k) c f.clauses m
       | inr m ↦ named_stored ks f c m
     ]
 
@@ -294,12 +294,12 @@ each_imp P Q (u ∷ us) w h = (w u h.0, each_imp P Q us w h.1)
 
 -- if no unit satisfies the clause and the walk reaches a conflict, the clause follows from its causes
 module _ (f : Stored) (clause hashes : List ℕ) (sorted : Sorted f) (apart : VariablesDistinct (unit_literals f)) where
-  rests_on_conflict : ((m : ℕ) → is_among clause m ≡ true → is_among (unit_literals f) m ≡ false) → walk (map negated clause ++ unit_literals f) (literals_of (clauses_named hashes f)) ≡ None
-      → RestsOn f clause (conflict_ids (map negated clause) (conflict_causes (map negated clause ++ unit_literals f) (clauses_named hashes f)) f.units)
+  rests_on_conflict : ((m : ℕ) → is_among clause m ≡ true → is_among (unit_literals f) m ≡ false) → walk (map negated clause ++ unit_literals f) (literals_of (clauses_of_hashes hashes f)) ≡ None
+      → FollowsByPropagation f clause (conflict_ids (map negated clause) (conflict_causes (map negated clause ++ unit_literals f) (clauses_of_hashes hashes f)) f.units)
   rests_on_conflict none e =
       let denied : List ℕ = map negated clause in
       let assumed : List ℕ = denied ++ unit_literals f in
-      let g : ConflictCauses = conflict_causes assumed (clauses_named hashes f) in
+      let g : ConflictCauses = conflict_causes assumed (clauses_of_hashes hashes f) in
       let p : StoredUnit → Bool = λ u. is_among g.literals u.literal && not (is_among denied u.literal) in
       let needed : List StoredUnit = needed_units denied g f.units in
       let open_units : AreOpen denied needed = few_each p (λ u. (is_among denied u.literal ≡ false) × (is_among denied (negated u.literal) ≡ false)) f.units
@@ -324,12 +324,12 @@ module _ (f : Stored) (clause hashes : List ℕ) (sorted : Sorted f) (apart : Va
         clauses = g.clauses;
         are = refl;
         units_stored = few_each p (λ u. IsOneOf u f.units) f.units (one_of_itself p f.units);
-        clauses_stored = grounds_among (λ c. IsOneOf c f.clauses) (clauses_named hashes f) assumed (named_stored hashes f);
+        clauses_stored = grounds_among (λ c. IsOneOf c f.clauses) (clauses_of_hashes hashes f) assumed (named_stored hashes f);
         increasing = few_increasing p f.units sorted.increasing;
-        conflict = units_run needed denied (literals_of g.clauses) open_units (few_apart p f.units apart) (grounds_run (clauses_named hashes f) assumed (pushed needed denied) e (record { within = within; enough = enough }));
+        conflict = units_run needed denied (literals_of g.clauses) open_units (few_apart p f.units apart) (grounds_run (clauses_of_hashes hashes f) assumed (pushed needed denied) e (record { within = within; enough = enough }));
       }
 
-  pub rests_on_unit : (id : ℕ) → true_unit (canonical clause) f.units ≡ Some id → RestsOn f clause (id ∷ [])
+  pub rests_on_unit : (id : ℕ) → satisfying_unit (canonical clause) f.units ≡ Some id → FollowsByPropagation f clause (id ∷ [])
   rests_on_unit id e =
       let t = true_found (canonical clause) f.units id e in
       let m : is_among clause t.found.unit.literal ≡ true = subst (λ x. is_among clause x ≡ true) (sym t.found.literal_is) (sym (canonical_among clause t.literal) ∙ t.within) in
@@ -344,25 +344,25 @@ module _ (f : Stored) (clause hashes : List ℕ) (sorted : Sorted f) (apart : Va
       }
 
   -- a clause that passes because of a conflict makes the walk reach one
-  pub met : ((m : ℕ) → is_among clause m ≡ true → is_among (unit_literals f) m ≡ false) → is_tautology clause ≡ false → PassesByHashes f clause hashes → walk (map negated clause ++ unit_literals f) (literals_of (clauses_named hashes f)) ≡ None
-  met none n (tautology t) = absurd (both_ways (is_tautology clause) n t)
-  met none n (unit_true t) = absurd (both_ways (list_any (is_among (unit_literals f)) clause) (any_none (is_among (unit_literals f)) clause none) t)
-  met none n (conflict k) =
+  pub reached : ((m : ℕ) → is_among clause m ≡ true → is_among (unit_literals f) m ≡ false) → is_tautology clause ≡ false → PassesByHashes f clause hashes → walk (map negated clause ++ unit_literals f) (literals_of (clauses_of_hashes hashes f)) ≡ None
+  reached none n (tautology t) = absurd (both_ways (is_tautology clause) n t)
+  reached none n (unit_true t) = absurd (both_ways (list_any (is_among (unit_literals f)) clause) (any_none (is_among (unit_literals f)) clause none) t)
+  reached none n (conflict k) =
       let assumed : List ℕ = map negated clause ++ unit_literals f in
       subst (λ cs. walk assumed cs ≡ None) (named_clauses hashes f)
       (walk_joined (map (bucket f) hashes) assumed (walk_from_rule assumed assumed (map (bucket f) hashes) (record { each = λ l h. h }) (buckets_sets hashes f sorted) k))
 
-  pub rests_on : PassesByHashes f clause hashes → is_tautology clause ≡ false → RestsOn f clause (propagations f clause hashes)
-  rests_on passes n = subst (λ b. RestsOn f clause (cond b [] (unit_alone (true_unit (canonical clause) f.units) ids))) (sym n) (go (true_unit (canonical clause) f.units) refl)
+  pub rests_on : PassesByHashes f clause hashes → is_tautology clause ≡ false → FollowsByPropagation f clause (propagations f clause hashes)
+  rests_on passes n = subst (λ b. FollowsByPropagation f clause (cond b [] (only_unit_or (satisfying_unit (canonical clause) f.units) ids))) (sym n) (go (satisfying_unit (canonical clause) f.units) refl)
     where
       ids : List ℕ
-      ids = conflict_ids (map negated clause) (conflict_causes (map negated clause ++ unit_literals f) (clauses_named hashes f)) f.units
+      ids = conflict_ids (map negated clause) (conflict_causes (map negated clause ++ unit_literals f) (clauses_of_hashes hashes f)) f.units
 
-      go : (x : Option ℕ) → true_unit (canonical clause) f.units ≡ x → RestsOn f clause (unit_alone x ids)
+      go : (x : Option ℕ) → satisfying_unit (canonical clause) f.units ≡ x → FollowsByPropagation f clause (only_unit_or x ids)
       go (Some id) e = rests_on_unit id e
       go None e =
           let none : (m : ℕ) → is_among clause m ≡ true → is_among (unit_literals f) m ≡ false = λ m k. true_missing (canonical clause) f.units e m (canonical_among clause m ∙ k) in
-          rests_on_conflict none (met none n passes)
+          rests_on_conflict none (reached none n passes)
 
-pub tautologies : TautologiesRestOnNothing
+pub tautologies : TautologiesNeedNoIds
 tautologies f clause hashes t = rw t refl

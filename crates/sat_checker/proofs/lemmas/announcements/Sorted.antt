@@ -6,7 +6,7 @@ use Rattle.sat_base.specs.steps.Steps.{Redundant, Simplified, Satisfied, Step, S
 use Rattle.sat_checker.specs.LiteralSets.{is_tautology, canonical, same_literals}
 use Rattle.sat_checker.specs.inner.Marks.{IsIncreasing}
 use Rattle.sat_checker.specs.Stored.{StoredClause, StoredUnit, Stored, is_unit}
-use Rattle.sat_checker.specs.Storing.{with_count, with_stored_clause, clause_with, without_count, unless_gone, without_clause, with_unit, with_contradiction, with_new_unit, with_conflict_settled, settled_by, with_long, with_set, with_canonical, with_stored, with_input, with_units, with_literals_known}
+use Rattle.sat_checker.specs.Storing.{with_count, with_stored_clause, clause_with, without_count, unless_removed, without_clause, with_unit, with_contradiction, with_new_unit, with_conflict_settled, settled_by, with_long_clause, with_sorted_set, with_canonical, with_stored, with_input, with_units, with_literals_known}
 use Rattle.sat_checker.specs.Accepts.{effect, stored_after, ready_after}
 use Rattle.sat_checker.proofs.lemmas.sets.Canonical.{canonical_increasing}
 use Rattle.sat_checker.proofs.lemmas.meaning.Orderly.{below_more, increasing_push}
@@ -52,7 +52,7 @@ sets_without r ls (c ∷ cs) h = go (sets_without r ls cs h.1) (same_literals c.
     less true = h.0
     less false = h.0
 
-    go : AreSets (without_clause r ls cs) → (b : Bool) → AreSets (cond b (unless_gone (without_count r c) ++ cs) (c ∷ without_clause r ls cs))
+    go : AreSets (without_clause r ls cs) → (b : Bool) → AreSets (cond b (unless_removed (without_count r c) ++ cs) (c ∷ without_clause r ls cs))
     go ih true = sets_unless (without_count r c) _ cs (less r) h.1
     go ih false = (h.0, ih)
 
@@ -83,13 +83,13 @@ pub sorted_units : (ls : List ℕ) (f : Stored) → Sorted f → Sorted (with_un
 sorted_units [] f s = s
 sorted_units (l ∷ ls) f s = sorted_units ls (with_unit l f) (sorted_unit l f s)
 
-sorted_set : (r : Bool) (ls : List ℕ) (f : Stored) → IsIncreasing ls → Sorted f → Sorted (with_set r ls f)
-sorted_set r [] f i s = aside f (with_set r [] f) refl refl (λ k h. omega arith) s
+sorted_set : (r : Bool) (ls : List ℕ) (f : Stored) → IsIncreasing ls → Sorted f → Sorted (with_sorted_set r ls f)
+sorted_set r [] f i s = aside f (with_sorted_set r [] f) refl refl (λ k h. omega arith) s
 sorted_set r (l ∷ []) f i s = sorted_unit l f s
 sorted_set r (l ∷ m ∷ ls) f i s = record {
   sets = sets_with r f.next_id (l ∷ m ∷ ls) f.clauses i s.sets;
   increasing = s.increasing;
-  below = below_more f.next_id (with_long r (l ∷ m ∷ ls) f).next_id (raised (is_some (clause_with (l ∷ m ∷ ls) f.clauses))) (unit_ids f.units) s.below;
+  below = below_more f.next_id (with_long_clause r (l ∷ m ∷ ls) f).next_id (raised (is_some (clause_with (l ∷ m ∷ ls) f.clauses))) (unit_ids f.units) s.below;
 }
   where
     raised : (b : Bool) (k : ℕ) → k < f.next_id → k < cond b f.next_id (f.next_id + 1)
@@ -98,7 +98,7 @@ sorted_set r (l ∷ m ∷ ls) f i s = record {
 
 sorted_canonical : (r : Bool) (ls : List ℕ) (f : Stored) → IsIncreasing ls → Sorted f → Sorted (with_canonical r ls f)
 sorted_canonical true ls f i s = sorted_set true ls f i s
-sorted_canonical false ls f i s = aside (with_set false ls f) (with_canonical false ls f) refl refl (λ k h. h) (sorted_set false ls f i s)
+sorted_canonical false ls f i s = aside (with_sorted_set false ls f) (with_canonical false ls f) refl refl (λ k h. h) (sorted_set false ls f i s)
 
 sorted_stored : (r : Bool) (c : List ℕ) (f : Stored) → Sorted f → Sorted (with_stored r c f)
 sorted_stored r c f s = go (is_tautology c)

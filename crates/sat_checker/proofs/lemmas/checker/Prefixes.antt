@@ -4,13 +4,13 @@ use Rattle.std.specs.Prelude.{nat_eq, ◌||◌}
 use Rattle.std.proofs.lemmas.List.{append-nil}
 use Rattle.std.proofs.lemmas.Bool.Decides.{nat_tests}
 use Rattle.sat_base.specs.text.Text.{is_blank, Token, Scan, scan}
-use Rattle.sat_base.specs.text.Position.{Stage, Begun, stage_end, stage_after, Position, Fresh, Leading, Comment, Between, Within, HeaderBetween, HeaderWithin, Spoilt, Over, IsPosition, remaining_scan, unfinished_token, after_LF, lines_after, after_header_word, following_blank, ended_by_blank, prepend_tokens}
+use Rattle.sat_base.specs.text.Position.{HeaderStage, Begun, token_of_stage, stage_after, Position, Fresh, Leading, Comment, Between, Within, HeaderBetween, HeaderWithin, WrongHeader, Over, IsValidPosition, remaining_scan, unfinished_token, position_after_LF, lines_after, position_after_word, position_after_blank, token_ended_by_blank, prepend_tokens}
 use Rattle.sat_base.specs.text.Tokenizing.{HasNoNumberOrLetter}
-use Rattle.sat_base.specs.dimacs.Dimacs.{PartialClause, TokenEffect, GoesOn, Ends, Fails, Dimacs, token_effect, after_token_effect, clauses_of, dimacs, has_blank, up_to_last_blank}
+use Rattle.sat_base.specs.dimacs.Dimacs.{PartialClause, TokenEffect, Continues, EndsClause, Fails, Dimacs, token_effect, after_token_effect, clauses_of, dimacs, has_blank, up_to_last_blank}
 use Rattle.sat_base.proofs.lemmas.text.Positions.{Solid-more, start, LF_left, fresh_leads, blank_left, leading_comment, leading_end, leading_header, leading_late_header, leading_word, comment_more, between_word, within_more, header_between_word, header_within_more, spoilt_more, over_more, end_left}
 use Rattle.sat_base.proofs.lemmas.text.TextRuns.{QuietTokens, of_header}
 use Rattle.sat_base.proofs.lemmas.dimacs.Collected.{clauses_of_cons, dimacs_is, quiet_clauses}
-use Rattle.sat_checker.specs.DimacsView.{AreFirst, AreRead}
+use Rattle.sat_checker.specs.DimacsView.{AreFirstClauses, AreClausesRead}
 use Rattle.sat_checker.proofs.lemmas.checker.Texts.{no_clauses}
 
 -- POSITIONS IN A TEXT
@@ -20,31 +20,31 @@ record Stepped (spot : Position) (n b : ℕ) : Type 0 where
   gives : List (ℕ × Token)
   next : Position
   lines : ℕ
-  good : IsPosition next
+  good : IsValidPosition next
   leaves : (rest : List ℕ) → remaining_scan spot n (b ∷ rest) ≡ prepend_tokens gives (remaining_scan next lines rest)
 
-LF_good : (spot : Position) → IsPosition (after_LF spot)
+LF_good : (spot : Position) → IsValidPosition (position_after_LF spot)
 LF_good (Fresh may) = tt
 LF_good e = tt
 
-LF_quiet : (spot : Position) (n : ℕ) → unfinished_token (after_LF spot) n ≡ []
+LF_quiet : (spot : Position) (n : ℕ) → unfinished_token (position_after_LF spot) n ≡ []
 LF_quiet (Fresh may) n = refl
 LF_quiet e n = refl
 
-header_good : (o : Option Stage) → IsPosition (after_header_word o)
+header_good : (o : Option HeaderStage) → IsValidPosition (position_after_word o)
 header_good None = tt
 header_good (Some stage) = tt
 
-header_quiet : (o : Option Stage) (n : ℕ) → QuietTokens (unfinished_token (after_header_word o) n)
+header_quiet : (o : Option HeaderStage) (n : ℕ) → QuietTokens (unfinished_token (position_after_word o) n)
 header_quiet None n = inl refl
-header_quiet (Some stage) n = inr (n + 1, stage_end stage, of_header stage, refl)
+header_quiet (Some stage) n = inr (n + 1, token_of_stage stage, of_header stage, refl)
 
-blank_good : (spot : Position) → IsPosition (following_blank spot)
+blank_good : (spot : Position) → IsValidPosition (position_after_blank spot)
 blank_good (HeaderWithin stage x w) = header_good (stage_after stage (x ∷ w))
 blank_good e = tt
 
-blank_quiet : (spot : Position) (n : ℕ) → QuietTokens (unfinished_token (following_blank spot) n)
-blank_quiet (HeaderBetween stage) n = inr (n + 1, stage_end stage, of_header stage, refl)
+blank_quiet : (spot : Position) (n : ℕ) → QuietTokens (unfinished_token (position_after_blank spot) n)
+blank_quiet (HeaderBetween stage) n = inr (n + 1, token_of_stage stage, of_header stage, refl)
 blank_quiet (HeaderWithin stage x w) n = header_quiet (stage_after stage (x ∷ w)) n
 blank_quiet e n = inl refl
 
@@ -53,13 +53,13 @@ record Blanked (spot : Position) (n b : ℕ) : Type 0 where
   step : Stepped spot n b
   quiet : QuietTokens (unfinished_token step.next step.lines)
 
-by_blank : (spot : Position) (n b : ℕ) (is_LF : Bool) → nat_eq b 10 ≡ is_LF → is_blank b ≡ true → IsPosition spot → Blanked spot n b
+by_blank : (spot : Position) (n b : ℕ) (is_LF : Bool) → nat_eq b 10 ≡ is_LF → is_blank b ≡ true → IsValidPosition spot → Blanked spot n b
 by_blank spot n b true e f g =
     let ten : b ≡ 10 = grind (arith, nat_tests) in
     record {
       step = record {
         gives = unfinished_token spot n;
-        next = after_LF spot;
+        next = position_after_LF spot;
         lines = lines_after spot n;
         good = LF_good spot;
         leaves = λ rest. ap (λ (k : ℕ). remaining_scan spot n (k ∷ rest)) ten ∙ LF_left spot n rest g;
@@ -68,8 +68,8 @@ by_blank spot n b true e f g =
     }
 by_blank spot n b false e f g = record {
   step = record {
-    gives = ended_by_blank spot n;
-    next = following_blank spot;
+    gives = token_ended_by_blank spot n;
+    next = position_after_blank spot;
     lines = n;
     good = blank_good spot;
     leaves = λ rest. blank_left spot n b rest g e f;
@@ -78,7 +78,7 @@ by_blank spot n b false e f g = record {
 }
 
 -- a byte that completes no token
-leads : (spot next : Position) (n b : ℕ) → IsPosition next → ((rest : List ℕ) → remaining_scan spot n (b ∷ rest) ≡ remaining_scan next n rest) → Stepped spot n b
+leads : (spot next : Position) (n b : ℕ) → IsValidPosition next → ((rest : List ℕ) → remaining_scan spot n (b ∷ rest) ≡ remaining_scan next n rest) → Stepped spot n b
 leads spot next n b good h = record { gives = []; next = next; lines = n; good = good; leaves = h }
 
 same_byte : (b c : ℕ) → nat_eq b c ≡ true → b ≡ c
@@ -86,7 +86,7 @@ same_byte b c e = grind (arith, nat_tests)
 
 at_header : (may : Bool) (n b : ℕ) → b ≡ 112 → Stepped (Leading may) n b
 at_header true n b e = leads (Leading true) (HeaderWithin Begun 112 []) n b (refl, tt) (λ rest. ap (λ (k : ℕ). remaining_scan (Leading true) n (k ∷ rest)) e ∙ leading_header n rest)
-at_header false n b e = leads (Leading false) Spoilt n b tt (λ rest. ap (λ (k : ℕ). remaining_scan (Leading false) n (k ∷ rest)) e ∙ leading_late_header n rest)
+at_header false n b e = leads (Leading false) WrongHeader n b tt (λ rest. ap (λ (k : ℕ). remaining_scan (Leading false) n (k ∷ rest)) e ∙ leading_late_header n rest)
 
 at_line : (may : Bool) (n b : ℕ) (percent comment header : Bool) → nat_eq b 37 ≡ percent → nat_eq b 99 ≡ comment → nat_eq b 112 ≡ header → nat_eq b 10 ≡ false → is_blank b ≡ false → Stepped (Leading may) n b
 at_line may n b true comment header p c h e f =
@@ -99,7 +99,7 @@ at_line may n b false false false p c h e f = leads (Leading may) (Within b []) 
 freshly : (may : Bool) (n b : ℕ) → nat_eq b 10 ≡ false → Stepped (Leading may) n b → Stepped (Fresh may) n b
 freshly may n b e s = record { gives = s.gives; next = s.next; lines = s.lines; good = s.good; leaves = λ rest. fresh_leads may n b rest e ∙ s.leaves rest }
 
-by_byte : (spot : Position) (n b : ℕ) → nat_eq b 10 ≡ false → is_blank b ≡ false → IsPosition spot → Stepped spot n b
+by_byte : (spot : Position) (n b : ℕ) → nat_eq b 10 ≡ false → is_blank b ≡ false → IsValidPosition spot → Stepped spot n b
 by_byte (Fresh may) n b e f g = freshly may n b e (at_line may n b (nat_eq b 37) (nat_eq b 99) (nat_eq b 112) refl refl refl e f)
 by_byte (Leading may) n b e f g = at_line may n b (nat_eq b 37) (nat_eq b 99) (nat_eq b 112) refl refl refl e f
 by_byte (Comment may) n b e f g = leads (Comment may) (Comment may) n b tt (λ rest. comment_more may n b rest e)
@@ -108,14 +108,14 @@ by_byte (Within x w) n b e f g = leads (Within x w) (Within x (w ++ b ∷ [])) n
 by_byte (HeaderBetween stage) n b e f g = leads (HeaderBetween stage) (HeaderWithin stage b []) n b (f, tt) (λ rest. header_between_word stage n b rest e)
 by_byte (HeaderWithin stage x w) n b e f g =
     leads (HeaderWithin stage x w) (HeaderWithin stage x (w ++ b ∷ [])) n b (Solid-more (x ∷ w) b g f) (λ rest. header_within_more stage x w n b rest e)
-by_byte Spoilt n b e f g = leads Spoilt Spoilt n b tt (λ rest. spoilt_more n b rest e)
+by_byte WrongHeader n b e f g = leads WrongHeader WrongHeader n b tt (λ rest. spoilt_more n b rest e)
 by_byte Over n b e f g = leads Over Over n b tt (λ rest. over_more n b rest)
 
 no_LF : (b : ℕ) (is_LF : Bool) → nat_eq b 10 ≡ is_LF → is_blank b ≡ false → nat_eq b 10 ≡ false
 no_LF b true e f = grind (arith, nat_tests)
 no_LF b false e f = e
 
-step_if : (spot : Position) (n b : ℕ) (blank : Bool) → is_blank b ≡ blank → IsPosition spot → Stepped spot n b
+step_if : (spot : Position) (n b : ℕ) (blank : Bool) → is_blank b ≡ blank → IsValidPosition spot → Stepped spot n b
 step_if spot n b true e g = (by_blank spot n b (nat_eq b 10) refl e g).step
 step_if spot n b false e g = by_byte spot n b (no_LF b (nat_eq b 10) refl e) e g
 
@@ -124,13 +124,13 @@ record Reached (spot : Position) (n : ℕ) (text : List ℕ) : Type 0 where
   gives : List (ℕ × Token)
   next : Position
   lines : ℕ
-  good : IsPosition next
+  good : IsValidPosition next
   leaves : (rest : List ℕ) → remaining_scan spot n (text ++ rest) ≡ prepend_tokens gives (remaining_scan next lines rest)
 
 onto_both : (xs ys : List (ℕ × Token)) (s : Scan) → prepend_tokens xs (prepend_tokens ys s) ≡ prepend_tokens (xs ++ ys) s
 onto_both xs ys s = ap (λ (ts : List (ℕ × Token)). record { tokens = ts; last = s.last }) (sym (append_assoc xs ys s.tokens))
 
-reach : (text : List ℕ) (spot : Position) (n : ℕ) → IsPosition spot → Reached spot n text
+reach : (text : List ℕ) (spot : Position) (n : ℕ) → IsValidPosition spot → Reached spot n text
 reach [] spot n g = record { gives = []; next = spot; lines = n; good = g; leaves = λ rest. refl }
 reach (b ∷ bs) spot n g =
     let s = step_if spot n b (is_blank b) refl g in
@@ -150,7 +150,7 @@ record Rests (text : List ℕ) : Type 0 where
   scans : (rest : List ℕ) → scan (text ++ rest) ≡ prepend_tokens gives (left_of rest)
   quiet : HasNoNumberOrLetter (left_of [])
 
-quiet_at : (spot : Position) (n : ℕ) → IsPosition spot → QuietTokens (unfinished_token spot n) → HasNoNumberOrLetter (remaining_scan spot n [])
+quiet_at : (spot : Position) (n : ℕ) → IsValidPosition spot → QuietTokens (unfinished_token spot n) → HasNoNumberOrLetter (remaining_scan spot n [])
 quiet_at spot n g q = subst QuietTokens (sym (ap (λ (s : Scan). s.tokens) (end_left spot n g))) q
 
 rests : (front : List ℕ) (b : ℕ) → is_blank b ≡ true → Rests (front ++ b ∷ [])
@@ -177,19 +177,19 @@ turned : (hand : PartialClause) (t : ℕ × Token) (ts : List (ℕ × Token)) (k
 turned hand t ts k e last = ap (λ (d : Dimacs). d.clauses) (clauses_of_cons hand last t ts ∙ ap (λ (j : TokenEffect). after_token_effect j (λ h. clauses_of h last ts)) e)
 
 keeps_turn : (hand : PartialClause) (t : ℕ × Token) (ts : List (ℕ × Token)) → ((h : PartialClause) → Keeps h ts) → (k : TokenEffect) → token_effect hand t.0 t.1 ≡ k → Keeps hand (t ∷ ts)
-keeps_turn hand t ts later (GoesOn h) e =
+keeps_turn hand t ts later (Continues h) e =
     let k = later h in
     record {
       clauses = k.clauses;
-      more = λ last us. let m = k.more last us in (m.0, turned hand t (ts ++ us) (GoesOn h) e last ∙ m.1);
-      quiet = λ s q. turned hand t (ts ++ s.tokens) (GoesOn h) e s.last ∙ k.quiet s q;
+      more = λ last us. let m = k.more last us in (m.0, turned hand t (ts ++ us) (Continues h) e last ∙ m.1);
+      quiet = λ s q. turned hand t (ts ++ s.tokens) (Continues h) e s.last ∙ k.quiet s q;
     }
-keeps_turn hand t ts later (Ends c) e =
+keeps_turn hand t ts later (EndsClause c) e =
     let k = later None in
     record {
       clauses = c ∷ k.clauses;
-      more = λ last us. let m = k.more last us in (m.0, turned hand t (ts ++ us) (Ends c) e last ∙ ap (λ (cs : List (List ℕ)). c ∷ cs) m.1);
-      quiet = λ s q. turned hand t (ts ++ s.tokens) (Ends c) e s.last ∙ ap (λ (cs : List (List ℕ)). c ∷ cs) (k.quiet s q);
+      more = λ last us. let m = k.more last us in (m.0, turned hand t (ts ++ us) (EndsClause c) e last ∙ ap (λ (cs : List (List ℕ)). c ∷ cs) m.1);
+      quiet = λ s q. turned hand t (ts ++ s.tokens) (EndsClause c) e s.last ∙ ap (λ (cs : List (List ℕ)). c ∷ cs) (k.quiet s q);
     }
 keeps_turn hand t ts later (Fails ending) e = record {
   clauses = [];
@@ -205,7 +205,7 @@ keeps [] hand = record {
 }
 keeps (t ∷ ts) hand = keeps_turn hand t ts (λ h. keeps ts h) (token_effect hand t.0 t.1) refl
 
-after_rest : (text rest : List ℕ) → Rests text → AreFirst (dimacs text).clauses (text ++ rest)
+after_rest : (text rest : List ℕ) → Rests text → AreFirstClauses (dimacs text).clauses (text ++ rest)
 after_rest text rest r =
     let k = keeps r.gives None in
     let m = k.more (r.left_of rest).last (r.left_of rest).tokens in
@@ -251,18 +251,18 @@ unsettled : (text : List ℕ) → (more : List ℕ) × (text ≡ up_to_last_blan
 unsettled [] = ([], refl)
 unsettled (b ∷ bs) = unsettled_if b bs (has_blank (b ∷ bs)) refl (unsettled bs)
 
-first_if : (text rest : List ℕ) (blank : Bool) → has_blank text ≡ blank → AreFirst (dimacs (up_to_last_blank text)).clauses (up_to_last_blank text ++ rest)
+first_if : (text rest : List ℕ) (blank : Bool) → has_blank text ≡ blank → AreFirstClauses (dimacs (up_to_last_blank text)).clauses (up_to_last_blank text ++ rest)
 first_if text rest true e =
     let c = cuts text e in
-    subst (λ (s : List ℕ). AreFirst (dimacs s).clauses (s ++ rest)) (sym c.cut) (after_rest (c.front ++ c.byte ∷ []) rest (rests c.front c.byte c.blank))
-first_if text rest false e = subst (λ (s : List ℕ). AreFirst (dimacs s).clauses (s ++ rest)) (sym (settled_none text e)) ((dimacs rest).clauses, ap (λ (cs : List (List ℕ)). cs ++ (dimacs rest).clauses) (sym no_clauses))
+    subst (λ (s : List ℕ). AreFirstClauses (dimacs s).clauses (s ++ rest)) (sym c.cut) (after_rest (c.front ++ c.byte ∷ []) rest (rests c.front c.byte c.blank))
+first_if text rest false e = subst (λ (s : List ℕ). AreFirstClauses (dimacs s).clauses (s ++ rest)) (sym (settled_none text e)) ((dimacs rest).clauses, ap (λ (cs : List (List ℕ)). cs ++ (dimacs rest).clauses) (sym no_clauses))
 
 -- the clauses of the words that have ended stay the first, whatever follows
-pub settled_first : (text rest : List ℕ) → AreFirst (dimacs (up_to_last_blank text)).clauses (text ++ rest)
+pub settled_first : (text rest : List ℕ) → AreFirstClauses (dimacs (up_to_last_blank text)).clauses (text ++ rest)
 settled_first text rest =
     let u = unsettled text in
-    subst (λ (s : List ℕ). AreFirst (dimacs (up_to_last_blank text)).clauses s) (sym (ap (λ (s : List ℕ). s ++ rest) u.1 ∙ append_assoc (up_to_last_blank text) u.0 rest)) (first_if text (u.0 ++ rest) (has_blank text) refl)
+    subst (λ (s : List ℕ). AreFirstClauses (dimacs (up_to_last_blank text)).clauses s) (sym (ap (λ (s : List ℕ). s ++ rest) u.1 ∙ append_assoc (up_to_last_blank text) u.0 rest)) (first_if text (u.0 ++ rest) (has_blank text) refl)
 
-pub read_first : (text : List ℕ) (clauses : List (List ℕ)) → AreRead text clauses → AreFirst clauses text
-read_first text clauses (inl f) = subst (λ (s : List ℕ). AreFirst clauses s) (sym f.2) (subst (λ (cs : List (List ℕ)). AreFirst cs (f.0 ++ f.1)) (sym f.3) (settled_first f.0 f.1))
+pub read_first : (text : List ℕ) (clauses : List (List ℕ)) → AreClausesRead text clauses → AreFirstClauses clauses text
+read_first text clauses (inl f) = subst (λ (s : List ℕ). AreFirstClauses clauses s) (sym f.2) (subst (λ (cs : List (List ℕ)). AreFirstClauses cs (f.0 ++ f.1)) (sym f.3) (settled_first f.0 f.1))
 read_first text clauses (inr e) = ([], sym e ∙ sym (append-nil clauses))

@@ -10,8 +10,8 @@ use Rattle.sat_base.specs.declared.steps.error.StepError.{StepError}
 use Rattle.sat_base.specs.declared.steps.error.StepError.TheVariants as unread_by
 use Rattle.sat_base.specs.declared.steps.reader.StepReader.{StepReader}
 use Rattle.sat_base.specs.declared.steps.reader.Buffers.{Buffers}
-use Rattle.sat_base.specs.device.Device.{Reader, IsOver, ReadFails, most_reads, piece_size}
-use Rattle.sat_base.specs.device.Reading.{Source, ConsumesWithReads, ConsumesBytes, ConsumesAndFails, AllTaken, AtEnd, giving, new_source}
+use Rattle.sat_base.specs.device.Device.{Reader, HasFoundEnd, ReadFails, max_reads, max_read_size}
+use Rattle.sat_base.specs.device.Reading.{Source, ConsumesWithReads, ConsumesBytes, ConsumesAndFails, IsFullyConsumed, AtEnd, with_result_value, new_source}
 use Rattle.sat_base.specs.steps.Formats.{Format, Items, IsProperPrefix}
 use Rattle.sat_base.specs.steps.StepReading.{reader_source, AnswersUnlessFailed, AdvanceEffect}
 use Rattle.sat_base.specs.steps.StepReading as reading
@@ -20,10 +20,10 @@ use Rattle.sat_base.specs.steps.StepText.{tag_of, SpellsStep, SpellsSteps}
 use Rattle.sat_base.proofs.lemmas.device.ReadLemmas.{passes_none, passes_more, faults_later}
 use Rattle.sat_checker.specs.Accepts.{ready_after}
 use Rattle.sat_checker.specs.Looks.{most_looks}
-use Rattle.sat_checker.specs.CheckerView.{CheckerView, has_failed, looks_of, IsSettled, HasAccepted, FailsBeforeStep, AnswersStep}
-use Rattle.sat_checker.specs.inner.DimacsPieces.{with_flag}
-use Rattle.sat_checker.specs.ProofView.{taken_after, most_bytes, most_looks_after, GaveSteps, StopsWithinStep, ReadsProofPart, HasAcceptedUnfailed, FoundNoEnd, AnswersProof}
-use Rattle.sat_checker.specs.inner.ProofSteps.{CountsReads, CheckerAtSource, at_source, TriesStep, StepsOn, TakesStepsBeforeEnd, read_error, is_final, bytes_left}
+use Rattle.sat_checker.specs.CheckerView.{CheckerView, checker_has_failed, looks_of, HasNoPendingConflict, HasAccepted, FailsBeforeStep, StepResultAfter}
+use Rattle.sat_checker.specs.inner.DimacsPieces.{with_failed_flag}
+use Rattle.sat_checker.specs.ProofView.{steps_after, most_bytes, most_looks_after, GaveSteps, StopsWithinStep, ReadsProofPart, HasAcceptedUnfailed, FoundNoEnd, ProofResultAfter}
+use Rattle.sat_checker.specs.inner.ProofSteps.{CountsReads, CheckerAtSource, at_source, ConsumesStep, NextStepResultAfter, AcceptsStepsBeforeEnd, read_error, is_step_out_of_memory, bytes_left}
 use Rattle.sat_checker.specs.announcements.Announcements.{Notice}
 use Rattle.sat_checker.specs.declared.processing.ProcessingError.{ProcessingError}
 use Rattle.sat_checker.proofs.lemmas.listeners.Heard.{heard_some}
@@ -46,16 +46,16 @@ all_one : {A : Type 0} (P : A → Type 0) (xs : List A) (x : A) → AllByRecursi
 all_one P [] x h k = (k, tt)
 all_one P (y ∷ ys) x h k = (h.0, all_one P ys x h.1 k)
 
-pub taken_one : (xs : List Step) (x : Step) (earlier : List Step) → taken_after (xs ++ x ∷ []) earlier ≡ x ∷ taken_after xs earlier
+pub taken_one : (xs : List Step) (x : Step) (earlier : List Step) → steps_after (xs ++ x ∷ []) earlier ≡ x ∷ steps_after xs earlier
 taken_one [] x earlier = refl
 taken_one (y ∷ ys) x earlier = taken_one ys x (y ∷ earlier)
 
-pub looks_one : (xs : List Step) (x : Step) (earlier : List Step) → most_looks_after (xs ++ x ∷ []) earlier ≡ most_looks_after xs earlier + most_looks (ready_after (taken_after xs earlier)) x
+pub looks_one : (xs : List Step) (x : Step) (earlier : List Step) → most_looks_after (xs ++ x ∷ []) earlier ≡ most_looks_after xs earlier + most_looks (ready_after (steps_after xs earlier)) x
 looks_one [] x earlier = added (most_looks (ready_after earlier) x)
   where
     added : (n : ℕ) → n + 0 ≡ 0 + n
     added n = omega arith
-looks_one (y ∷ ys) x earlier = apart (most_looks (ready_after earlier) y) (most_looks_after (ys ++ x ∷ []) (y ∷ earlier)) (most_looks_after ys (y ∷ earlier)) (most_looks (ready_after (taken_after ys (y ∷ earlier))) x) (looks_one ys x (y ∷ earlier))
+looks_one (y ∷ ys) x earlier = apart (most_looks (ready_after earlier) y) (most_looks_after (ys ++ x ∷ []) (y ∷ earlier)) (most_looks_after ys (y ∷ earlier)) (most_looks (ready_after (steps_after ys (y ∷ earlier))) x) (looks_one ys x (y ∷ earlier))
   where
     apart : (a b c d : ℕ) → b ≡ c + d → a + b ≡ a + c + d
     apart a b c d e = omega arith
@@ -76,11 +76,11 @@ some_byte step text h = let e : length text ≡ length h.0 + 1 = ap length h.1 �
     more : (b : ℕ) (bs : List ℕ) → length (b ∷ bs) ≡ length bs + 1
     more b bs = omega arith
 
-pub step_takes : (s t : Source) (step : Step) (text : List ℕ) → ConsumesBytes s t text → SpellsStep step text → t.reads ≤ most_reads → bytes_left t < bytes_left s
-step_takes s t step text p h k = less_left most_reads s.reads t.reads (length s.waiting) (length t.waiting) (length text) (length p.fresh) p.room (flowed s.waiting p.fresh text t.waiting p.flows) (some_byte step text h) k
+pub step_takes : (s t : Source) (step : Step) (text : List ℕ) → ConsumesBytes s t text → SpellsStep step text → t.reads ≤ max_reads → bytes_left t < bytes_left s
+step_takes s t step text p h k = less_left max_reads s.reads t.reads (length s.waiting) (length t.waiting) (length text) (length p.fresh) p.room (flowed s.waiting p.fresh text t.waiting p.flows) (some_byte step text h) k
 
-pub none_read : (s : Source) → s ≡ new_source s.reader → s.reads ≤ most_reads
-none_read s e = let z : s.reads ≡ 0 = ap (λ (t : Source). t.reads) e in small s.reads most_reads z
+pub none_read : (s : Source) → s ≡ new_source s.reader → s.reads ≤ max_reads
+none_read s e = let z : s.reads ≡ 0 = ap (λ (t : Source). t.reads) e in small s.reads max_reads z
   where
     small : (n m : ℕ) → n ≡ 0 → n ≤ m
     small n m e = omega arith
@@ -150,10 +150,10 @@ few_of n rc tc tr m rg tg fresh h e k g = let l : length tg ≡ length rg + leng
 few_calls : (rc tc tr m : ℕ) → tc + 0 ≡ rc + tr → tr ≤ m → tc ≤ rc + m
 few_calls rc tc tr m e h = omega arith
 
-few_bytes : (r : ℕ) (fresh bytes : List ℕ) → length fresh + piece_size * 0 ≤ piece_size * r → r ≤ most_reads → fresh ≡ bytes → length bytes ≤ most_bytes
+few_bytes : (r : ℕ) (fresh bytes : List ℕ) → length fresh + max_read_size * 0 ≤ max_read_size * r → r ≤ max_reads → fresh ≡ bytes → length bytes ≤ most_bytes
 few_bytes r fresh bytes h k e = let l : length fresh ≡ length bytes = ap length e in omega arith
 
-gave_steps : (n : ℕ) (r : Reader) (t : Source) (steps : List Step) (text more : List ℕ) → n ≤ 1 → t.reads ≤ most_reads → ConsumesWithReads n (new_source r) t (text ++ more) → SpellsSteps steps text → GaveSteps r t.reader steps (more ++ t.waiting)
+gave_steps : (n : ℕ) (r : Reader) (t : Source) (steps : List Step) (text more : List ℕ) → n ≤ 1 → t.reads ≤ max_reads → ConsumesWithReads n (new_source r) t (text ++ more) → SpellsSteps steps text → GaveSteps r t.reader steps (more ++ t.waiting)
 gave_steps n r t steps text more h b p spelt =
     let fresh : p.fresh ≡ text ++ (more ++ t.waiting) = p.flows ∙ append_assoc text more t.waiting in
     record {
@@ -165,11 +165,11 @@ gave_steps n r t steps text more h b p spelt =
         loans = p.loans;
       };
       few = few_of n r.calls t.reader.calls t.reads 0 r.given t.reader.given p.fresh h p.calls p.few p.gave;
-      reads = few_calls r.calls t.reader.calls t.reads most_reads p.calls b;
+      reads = few_calls r.calls t.reader.calls t.reads max_reads p.calls b;
       bytes = few_bytes t.reads p.fresh (text ++ (more ++ t.waiting)) p.room b fresh;
     }
 
-faulted_steps : (r : Reader) (t : Source) (steps : List Step) (text more : List ℕ) → t.reads ≤ most_reads → ConsumesAndFails (new_source r) t (text ++ more) → SpellsSteps steps text → GaveSteps r t.reader steps more
+faulted_steps : (r : Reader) (t : Source) (steps : List Step) (text more : List ℕ) → t.reads ≤ max_reads → ConsumesAndFails (new_source r) t (text ++ more) → SpellsSteps steps text → GaveSteps r t.reader steps more
 faulted_steps r t steps text more b p spelt = record {
   text = text;
   spelt = spelt;
@@ -179,16 +179,16 @@ faulted_steps r t steps text more b p spelt = record {
     loans = p.loans;
   };
   few = few_of 1 r.calls t.reader.calls t.reads 0 r.given t.reader.given p.fresh (omega arith) p.calls p.few p.gave;
-  reads = few_calls r.calls t.reader.calls t.reads most_reads p.calls b;
+  reads = few_calls r.calls t.reader.calls t.reads max_reads p.calls b;
   bytes = few_bytes t.reads p.fresh (text ++ more) p.room b p.flows;
 }
 
 read_out : (rc tc tr m : ℕ) → tc + 0 ≡ rc + tr → m ≤ tr → tr ≤ m → tc ≡ rc + m
 read_out rc tc tr m e h k = omega arith
 
-read_fails : (r : Reader) (t : Source) (text : List ℕ) → t.reads ≤ most_reads → ConsumesAndFails (new_source r) t text → ReadFails r t.reader
+read_fails : (r : Reader) (t : Source) (text : List ℕ) → t.reads ≤ max_reads → ConsumesAndFails (new_source r) t text → ReadFails r t.reader
 read_fails r t text b p = (
-  elim p.cause [ inl h ↦ inl (h.0, h.1) | inr h ↦ inr (h.0, read_out r.calls t.reader.calls t.reads most_reads p.calls h.1 b) ],
+  elim p.cause [ inl h ↦ inl (h.0, h.1) | inr h ↦ inr (h.0, read_out r.calls t.reader.calls t.reads max_reads p.calls h.1 b) ],
   few_of 1 r.calls t.reader.calls t.reads 0 r.given t.reader.given p.fresh (omega arith) p.calls p.few p.gave,
 )
 
@@ -208,23 +208,23 @@ none_waits : (known : Option (List ℕ)) (ws : List ℕ) → ws ≡ [] → IsAtE
 none_waits None ws e h = tt
 none_waits (Some xs) ws e h = sym (ap (λ (z : List ℕ). z ++ xs) e) ∙ h
 
-module _ {L : Type 0} (Hears : L → Notice → Result Unit ProcessingError → L → Type 0) (before : List Notice) (begun : L) where
+module _ {L : Type 0} (Receives : L → Notice → Result Unit ProcessingError → L → Type 0) (before : List Notice) (begun : L) where
   -- clearing the flag of a checker that has not failed changes nothing
-  unfailed : (c : CheckerView L) (steps : List Step) → has_failed c ≡ false → HasAccepted Hears before begun c steps → HasAcceptedUnfailed Hears before begun (with_flag false c) steps
+  unfailed : (c : CheckerView L) (steps : List Step) → checker_has_failed c ≡ false → HasAccepted Receives before begun c steps → HasAcceptedUnfailed Receives before begun (with_failed_flag false c) steps
   unfailed c steps h s = (record { kernel = record { accepted = s.kernel.accepted; records = s.kernel.records; variables = s.kernel.variables; kept = λ e. s.kernel.kept h }; heard = λ e. s.heard h }, refl)
 
-  pub failed_now : (c : CheckerView L) (steps : List Step) → has_failed c ≡ false → HasAccepted Hears before begun c steps → FailsBeforeStep Hears before begun (with_flag true c) steps
+  pub failed_now : (c : CheckerView L) (steps : List Step) → checker_has_failed c ≡ false → HasAccepted Receives before begun c steps → FailsBeforeStep Receives before begun (with_failed_flag true c) steps
   failed_now c steps h s = record {
     fails = record {
       valid = record { kernel = record { accepted = s.kernel.accepted; records = s.kernel.records; variables = s.kernel.variables; kept = λ e. absurd (true≢false e) }; heard = λ e. absurd (true≢false e) };
       failed = refl;
     };
-    heard = heard_some Hears c.kernel.state.formula.status.conflict steps before begun c.listeners (s.heard h);
+    heard = heard_some Receives c.kernel.state.formula.status.conflict steps before begun c.listeners (s.heard h);
   }
 
   pub unread_answer : {R : Type 0} (seen : R → Reader) (c : CheckerView L) (s t : StepReader R Buffers) (e : StepError) (step : Step) (earlier : List Step)
-      → has_failed c ≡ false → reading.has_reader_failed s ≡ false → AdvanceEffect seen s t (giving step (Err e)) → HasAccepted Hears before begun c earlier
-      → StepsOn Hears before begun (Err (read_error e)) (at_source c (reader_source seen s)) (at_source (with_flag (is_final e) c) (reader_source seen t)) earlier
+      → checker_has_failed c ≡ false → reading.has_reader_failed s ≡ false → AdvanceEffect seen s t (with_result_value step (Err e)) → HasAccepted Receives before begun c earlier
+      → NextStepResultAfter Receives before begun (Err (read_error e)) (at_source c (reader_source seen s)) (at_source (with_failed_flag (is_step_out_of_memory e) c) (reader_source seen t)) earlier
   unread_answer seen c s t unread_by.Ends step earlier h k n valid = ([], n.answer, live_none, record { goes_on = unfailed c earlier h valid; looks = refl })
   unread_answer seen c s t unread_by.Cut step earlier h k n valid = let a = n.answer in (a.0 ∷ a.1, a.2, a.3, record { goes_on = unfailed c earlier h valid; looks = refl })
   unread_answer seen c s t unread_by.BadByte step earlier h k n valid = let a = n.answer in (a.0, a.1, a.2, a.3, a.4, record { goes_on = unfailed c earlier h valid; looks = refl })
@@ -233,25 +233,25 @@ module _ {L : Type 0} (Hears : L → Notice → Result Unit ProcessingError → 
       let a = n.answer in inl (record { tag = a.0; more = a.1; passes = a.2.0; none = a.2.1; begins = a.3; looks = refl }, failed_now c earlier h valid)
   unread_answer seen c s t unread_by.HasFailed step earlier h k n valid = absurd (true≢false (sym n.was ∙ k))
 
-  tried_looks : (a b c : CheckerAtSource L) (earlier xs : List Step) (x : Step) → TakesStepsBeforeEnd Hears before begun a b earlier xs → TriesStep b c (taken_after xs earlier) x → looks_of c.checker ≤ looks_of a.checker + most_looks_after (xs ++ x ∷ []) earlier
+  tried_looks : (a b c : CheckerAtSource L) (earlier xs : List Step) (x : Step) → AcceptsStepsBeforeEnd Receives before begun a b earlier xs → ConsumesStep b c (steps_after xs earlier) x → looks_of c.checker ≤ looks_of a.checker + most_looks_after (xs ++ x ∷ []) earlier
   tried_looks a b c earlier xs x p t = looks_more (looks_of a.checker) (looks_of b.checker) (looks_of c.checker) _ _ _ p.looks t.looks (looks_one xs x earlier)
 
-  pub passed_none : (a : CheckerAtSource L) (earlier : List Step) → has_failed a.checker ≡ false → HasAccepted Hears before begun a.checker earlier → TakesStepsBeforeEnd Hears before begun a a earlier []
+  pub passed_none : (a : CheckerAtSource L) (earlier : List Step) → checker_has_failed a.checker ≡ false → HasAccepted Receives before begun a.checker earlier → AcceptsStepsBeforeEnd Receives before begun a a earlier []
   passed_none a earlier h s = record { text = []; passes = passes_none a.source; spelt = refl; unended = tt; goes_on = (s, h); looks = omega arith }
 
-  pub passed_one : (a b c : CheckerAtSource L) (earlier xs : List Step) (x : Step) → TakesStepsBeforeEnd Hears before begun a b earlier xs → TriesStep b c (taken_after xs earlier) x → (x ≢ End) → HasAcceptedUnfailed Hears before begun c.checker (x ∷ taken_after xs earlier) → TakesStepsBeforeEnd Hears before begun a c earlier (xs ++ x ∷ [])
+  pub passed_one : (a b c : CheckerAtSource L) (earlier xs : List Step) (x : Step) → AcceptsStepsBeforeEnd Receives before begun a b earlier xs → ConsumesStep b c (steps_after xs earlier) x → (x ≢ End) → HasAcceptedUnfailed Receives before begun c.checker (x ∷ steps_after xs earlier) → AcceptsStepsBeforeEnd Receives before begun a c earlier (xs ++ x ∷ [])
   passed_one a b c earlier xs x p t n g = record {
     text = p.text ++ t.text;
     passes = passes_more a.source b.source c.source p.text t.text p.passes t.passes;
     spelt = items_one SpellsStep xs x p.text t.text p.spelt t.spelt;
     unended = all_one (λ step. step ≢ End) xs x p.unended n;
-    goes_on = subst (HasAcceptedUnfailed Hears before begun c.checker) (sym (taken_one xs x earlier)) g;
+    goes_on = subst (HasAcceptedUnfailed Receives before begun c.checker) (sym (taken_one xs x earlier)) g;
     looks = tried_looks a b c earlier xs x p t;
   }
 
   -- the steps before the last one, the last one, and the bytes after it were read
-  went_tried : (a b c : CheckerAtSource L) (earlier xs : List Step) (x : Step) → a.source ≡ new_source a.source.reader → has_failed a.checker ≡ false → c.source.reads ≤ most_reads
-      → TakesStepsBeforeEnd Hears before begun a b earlier xs → TriesStep b c (taken_after xs earlier) x → ReadsProofPart a.checker c.checker a.source.reader c.source.reader earlier xs (x ∷ []) ([] ++ c.source.waiting)
+  went_tried : (a b c : CheckerAtSource L) (earlier xs : List Step) (x : Step) → a.source ≡ new_source a.source.reader → checker_has_failed a.checker ≡ false → c.source.reads ≤ max_reads
+      → AcceptsStepsBeforeEnd Receives before begun a b earlier xs → ConsumesStep b c (steps_after xs earlier) x → ReadsProofPart a.checker c.checker a.source.reader c.source.reader earlier xs (x ∷ []) ([] ++ c.source.waiting)
   went_tried a b c earlier xs x e h k p t =
       let both : ConsumesBytes a.source c.source (p.text ++ t.text) = passes_more a.source b.source c.source p.text t.text p.passes t.passes in
       record {
@@ -264,8 +264,8 @@ module _ {L : Type 0} (Hears : L → Notice → Result Unit ProcessingError → 
       }
 
   -- the steps and bytes that form no complete step were read
-  went_waiting : (n : ℕ) (a b c : CheckerAtSource L) (earlier xs : List Step) (more : List ℕ) → n ≤ 1 → a.source ≡ new_source a.source.reader → has_failed a.checker ≡ false → c.source.reads ≤ most_reads
-      → looks_of c.checker ≡ looks_of b.checker → TakesStepsBeforeEnd Hears before begun a b earlier xs → ConsumesWithReads n b.source c.source more → ReadsProofPart a.checker c.checker a.source.reader c.source.reader earlier xs [] (more ++ c.source.waiting)
+  went_waiting : (n : ℕ) (a b c : CheckerAtSource L) (earlier xs : List Step) (more : List ℕ) → n ≤ 1 → a.source ≡ new_source a.source.reader → checker_has_failed a.checker ≡ false → c.source.reads ≤ max_reads
+      → looks_of c.checker ≡ looks_of b.checker → AcceptsStepsBeforeEnd Receives before begun a b earlier xs → ConsumesWithReads n b.source c.source more → ReadsProofPart a.checker c.checker a.source.reader c.source.reader earlier xs [] (more ++ c.source.waiting)
   went_waiting n a b c earlier xs more m e h k l p w = record {
     well = h;
     steps = gave_steps n a.source.reader c.source (xs ++ []) p.text more m k
@@ -275,8 +275,8 @@ module _ {L : Type 0} (Hears : L → Notice → Result Unit ProcessingError → 
     looks = looks_still (looks_of a.checker) (looks_of b.checker) (looks_of c.checker) _ _ p.looks l (none_following xs earlier);
   }
 
-  went_faulted : (a b c : CheckerAtSource L) (earlier xs : List Step) (more : List ℕ) → a.source ≡ new_source a.source.reader → has_failed a.checker ≡ false → c.source.reads ≤ most_reads
-      → looks_of c.checker ≡ looks_of b.checker → TakesStepsBeforeEnd Hears before begun a b earlier xs → ConsumesAndFails b.source c.source more → ReadsProofPart a.checker c.checker a.source.reader c.source.reader earlier xs [] more
+  went_faulted : (a b c : CheckerAtSource L) (earlier xs : List Step) (more : List ℕ) → a.source ≡ new_source a.source.reader → checker_has_failed a.checker ≡ false → c.source.reads ≤ max_reads
+      → looks_of c.checker ≡ looks_of b.checker → AcceptsStepsBeforeEnd Receives before begun a b earlier xs → ConsumesAndFails b.source c.source more → ReadsProofPart a.checker c.checker a.source.reader c.source.reader earlier xs [] more
   went_faulted a b c earlier xs more e h k l p w = record {
     well = h;
     steps = faulted_steps a.source.reader c.source (xs ++ []) p.text more k
@@ -287,12 +287,12 @@ module _ {L : Type 0} (Hears : L → Notice → Result Unit ProcessingError → 
   }
 
   -- no read failed
-  kept_by : (n : ℕ) (a b c : CheckerAtSource L) (earlier xs : List Step) (more : List ℕ) → TakesStepsBeforeEnd Hears before begun a b earlier xs → ConsumesWithReads n b.source c.source more → c.source.reader.failures ≡ a.source.reader.failures
+  kept_by : (n : ℕ) (a b c : CheckerAtSource L) (earlier xs : List Step) (more : List ℕ) → AcceptsStepsBeforeEnd Receives before begun a b earlier xs → ConsumesWithReads n b.source c.source more → c.source.reader.failures ≡ a.source.reader.failures
   kept_by n a b c earlier xs more p w = w.failures ∙ p.passes.failures
 
   -- the result if an error follows accepted steps
-  pub stops : (a b c : CheckerAtSource L) (e : CheckerError) (earlier xs : List Step) → a.source ≡ new_source a.source.reader → has_failed a.checker ≡ false → c.source.reads ≤ most_reads
-      → TakesStepsBeforeEnd Hears before begun a b earlier xs → StepsOn Hears before begun (Err e) b c (taken_after xs earlier) → AnswersProof Hears before begun (Err e) a.checker c.checker a.source.reader c.source.reader earlier
+  pub stops : (a b c : CheckerAtSource L) (e : CheckerError) (earlier xs : List Step) → a.source ≡ new_source a.source.reader → checker_has_failed a.checker ≡ false → c.source.reads ≤ max_reads
+      → AcceptsStepsBeforeEnd Receives before begun a b earlier xs → NextStepResultAfter Receives before begun (Err e) b c (steps_after xs earlier) → ProofResultAfter Receives before begun (Err e) a.checker c.checker a.source.reader c.source.reader earlier
   stops a b c errors.CheckFailed earlier xs e h k p s =
       (xs, s.0, [] ++ c.source.waiting, went_tried a b c earlier xs s.0 e h k p s.1, kept_by 0 a b c earlier xs _ p s.1.passes, s.2, s.3)
   stops a b c errors.CounterEnd earlier xs e h k p s =
@@ -323,7 +323,7 @@ module _ {L : Type 0} (Hears : L → Notice → Result Unit ProcessingError → 
     s.3.goes_on,
   )
     where
-      over : (s : Source) → AllTaken s → IsOver s.reader
+      over : (s : Source) → IsFullyConsumed s → HasFoundEnd s.reader
       over s t = record { ends = t.ended; over = none_waits s.reader.to_come s.waiting t.waiting t.over }
   stops a b c errors.ParseError earlier xs e h k p s = (
     xs,
@@ -344,24 +344,24 @@ module _ {L : Type 0} (Hears : L → Notice → Result Unit ProcessingError → 
   stops a b c errors.HasFailed earlier xs e h k p s = absurd s
 
   -- no unit conflict is pending after an end
-  settled_end : (steps : List Step) (c : CheckerView L) → has_failed c ≡ false → HasAccepted Hears before begun c (End ∷ steps) → IsSettled c
+  settled_end : (steps : List Step) (c : CheckerView L) → checker_has_failed c ≡ false → HasAccepted Receives before begun c (End ∷ steps) → HasNoPendingConflict c
   settled_end steps c h s = let k = s.kernel.kept h in none_pending c.kernel (End ∷ steps) k (end_settled steps)
 
   -- the result if the end follows accepted steps
-  pub finishes : (a b c : CheckerAtSource L) (earlier xs : List Step) (x : Step) → a.source ≡ new_source a.source.reader → has_failed a.checker ≡ false → c.source.reads ≤ most_reads
-      → TakesStepsBeforeEnd Hears before begun a b earlier xs → TriesStep b c (taken_after xs earlier) x → x ≡ End → HasAcceptedUnfailed Hears before begun c.checker (x ∷ taken_after xs earlier) → AnswersProof Hears before begun (Ok tt) a.checker c.checker a.source.reader c.source.reader earlier
+  pub finishes : (a b c : CheckerAtSource L) (earlier xs : List Step) (x : Step) → a.source ≡ new_source a.source.reader → checker_has_failed a.checker ≡ false → c.source.reads ≤ max_reads
+      → AcceptsStepsBeforeEnd Receives before begun a b earlier xs → ConsumesStep b c (steps_after xs earlier) x → x ≡ End → HasAcceptedUnfailed Receives before begun c.checker (x ∷ steps_after xs earlier) → ProofResultAfter Receives before begun (Ok tt) a.checker c.checker a.source.reader c.source.reader earlier
   finishes a b c earlier xs x e h k p t is g =
-      let on : HasAcceptedUnfailed Hears before begun c.checker (End ∷ taken_after xs earlier) = subst (λ (z : Step). HasAcceptedUnfailed Hears before begun c.checker (z ∷ taken_after xs earlier)) is g in (
+      let on : HasAcceptedUnfailed Receives before begun c.checker (End ∷ steps_after xs earlier) = subst (λ (z : Step). HasAcceptedUnfailed Receives before begun c.checker (z ∷ steps_after xs earlier)) is g in (
         xs,
         [] ++ c.source.waiting,
         subst (λ (z : Step). ReadsProofPart a.checker c.checker a.source.reader c.source.reader earlier xs (z ∷ []) ([] ++ c.source.waiting)) is (went_tried a b c earlier xs x e h k p t),
         kept_by 0 a b c earlier xs _ p t.passes,
         on,
-        settled_end (taken_after xs earlier) c.checker on.1 on.0,
+        settled_end (steps_after xs earlier) c.checker on.1 on.0,
       )
 
   -- the result if a step was read and not accepted
-  pub step_stops : (a b : CheckerAtSource L) (e : CheckerError) (earlier : List Step) (x : Step) → has_failed a.checker ≡ false → TriesStep a b earlier x → AnswersStep Hears before begun (Err e) a.checker x b.checker earlier → StepsOn Hears before begun (Err e) a b earlier
+  pub step_stops : (a b : CheckerAtSource L) (e : CheckerError) (earlier : List Step) (x : Step) → checker_has_failed a.checker ≡ false → ConsumesStep a b earlier x → StepResultAfter Receives before begun (Err e) a.checker x b.checker earlier → NextStepResultAfter Receives before begun (Err e) a b earlier
   step_stops a b errors.CheckFailed earlier x h t k = (x, t, k.1, k.2)
   step_stops a b errors.CounterEnd earlier x h t k = (x, t, k.1, k.2)
   step_stops a b errors.OutOfMemory earlier x h t k = inr (x, t, k.1)

@@ -3,7 +3,7 @@ use Rattle.std.proofs.Common.{◌≡◌, Bool, true, false, List, [], ◌∷◌,
 use Rattle.sat_base.specs.steps.Steps.{Step}
 use Rattle.sat_checker.specs.Accepts.{stored_after, ready_after}
 use Rattle.sat_checker.specs.Contents.{contents, count_in, empty_state, contents_after, contents_of}
-use Rattle.sat_checker.specs.Invariants.{ContentsOfSteps}
+use Rattle.sat_checker.specs.Invariants.{ContentsAfterSteps}
 use Rattle.sat_checker.proofs.lemmas.contents.Views.{contents_follow, contents_are_settled}
 use Rattle.sat_checker.proofs.lemmas.invariants.Counted.{tidy_clauses}
 
@@ -16,5 +16,5 @@ stored [] = λ i. record { state = record empty_state { counts = λ r set. none_
 stored (step ∷ earlier) =
     contents_follow (ready_after earlier) step (tidy_clauses earlier).once ∙ ap (contents_after step) (contents_are_settled (stored_after earlier) ∙ stored earlier)
 
-pub contents_of_steps : ContentsOfSteps
+pub contents_of_steps : ContentsAfterSteps
 contents_of_steps steps = contents_are_settled (stored_after steps) ∙ stored steps

@@ -4,11 +4,11 @@ use Rattle.std.proofs.lemmas.Bool.{eqb-true}
 use Rattle.sat_base.specs.values.Literals.{variable, negated}
 use Rattle.sat_base.specs.steps.Steps.{Redundant, Simplified, Satisfied, Step, SolverVarName, UserVarName, DeleteVar, AddClause, AtClause, UnitClauses, DeleteClause}
 use Rattle.sat_checker.specs.LiteralSets.{is_among, is_tautology, canonical}
-use Rattle.sat_checker.specs.Stored.{StoredUnit, unknown, Stored, is_unit}
-use Rattle.sat_checker.specs.Storing.{with_contradiction, with_new_unit, with_unit, with_units, settled_by, with_conflict_settled, with_set, with_canonical, with_stored, with_input, with_literals_known}
+use Rattle.sat_checker.specs.Stored.{StoredUnit, initial_variable, Stored, is_unit}
+use Rattle.sat_checker.specs.Storing.{with_contradiction, with_new_unit, with_unit, with_units, settled_by, with_conflict_settled, with_sorted_set, with_canonical, with_stored, with_input, with_literals_known}
 use Rattle.sat_checker.specs.Accepts.{effect}
-use Rattle.sat_checker.specs.Contents.{ProofState, Contents, stored_state, contents, unit_more, units_more, set_more, clause_more, literals_known, contents_after}
-use Rattle.sat_checker.specs.Invariants.{EachOnce, ContentsFollow, ContentsAreSettled}
+use Rattle.sat_checker.specs.Contents.{ProofState, Contents, stored_state, contents, with_unit_in_state, with_units_in_state, with_set_in_state, with_clause_in_state, with_literals_known_in_state, contents_after}
+use Rattle.sat_checker.specs.Invariants.{AreDistinctSets, EffectChangesContents, SettlingKeepsContents}
 use Rattle.sat_checker.proofs.lemmas.contents.Counts.{count_more, count_less}
 
 among_push : (us : List StoredUnit) (id l m : ℕ) → is_among (map (λ u. u.literal) (us ++ (record { id = id; literal = l }) ∷ [])) m ≡ (eqb l m || is_among (map (λ u. u.literal) us) m)
@@ -24,7 +24,7 @@ among_push (u ∷ us) id l m = ap (λ b. eqb u.literal m || b) (among_push us id
 abbrev pub onto : (ProofState → ProofState) → Contents → Contents
 onto change c = record c { state = change c.state }
 
-pub view_unit : (l : ℕ) (f : Stored) → contents (with_unit l f) ≡ onto (unit_more l) (contents f)
+pub view_unit : (l : ℕ) (f : Stored) → contents (with_unit l f) ≡ onto (with_unit_in_state l) (contents f)
 view_unit l f = go (is_unit f l) (is_unit f (negated l))
   where
     units : is_unit (with_new_unit l f) ≡ (λ m. eqb l m || is_unit f m)
@@ -35,25 +35,25 @@ view_unit l f = go (is_unit f l) (is_unit f (negated l))
     go false true = refl
     go false false = ap (λ us. onto (λ s. record s { units = us }) (contents f)) units
 
-pub view_units : (ls : List ℕ) (f : Stored) → contents (with_units ls f) ≡ onto (units_more ls) (contents f)
+pub view_units : (ls : List ℕ) (f : Stored) → contents (with_units ls f) ≡ onto (with_units_in_state ls) (contents f)
 view_units [] f = refl
-view_units (l ∷ ls) f = view_units ls (with_unit l f) ∙ ap (onto (units_more ls)) (view_unit l f)
+view_units (l ∷ ls) f = view_units ls (with_unit l f) ∙ ap (onto (with_units_in_state ls)) (view_unit l f)
 
-view_set : (r : Bool) (set : List ℕ) (f : Stored) → contents (with_set r set f) ≡ onto (set_more r set) (contents f)
+view_set : (r : Bool) (set : List ℕ) (f : Stored) → contents (with_sorted_set r set f) ≡ onto (with_set_in_state r set) (contents f)
 view_set r [] f = refl
 view_set r (l ∷ []) f = view_unit l f
 view_set r (l ∷ m ∷ ls) f = λ i. onto (λ s. record s { counts = λ q other. count_more r q f.next_id (l ∷ m ∷ ls) other f.clauses i }) (contents f)
 
--- storing a clause changes the contents as `clause_more` says
-view_stored : (r : Bool) (clause : List ℕ) (f : Stored) → contents (with_stored r clause f) ≡ onto (clause_more r clause) (contents f)
+-- storing a clause changes the contents as `with_clause_in_state` says
+view_stored : (r : Bool) (clause : List ℕ) (f : Stored) → contents (with_stored r clause f) ≡ onto (with_clause_in_state r clause) (contents f)
 view_stored true clause f = go (is_tautology clause)
   where
-    go : (b : Bool) → contents (cond b f (with_canonical true (canonical clause) f)) ≡ onto (λ s. cond b s (set_more true (canonical clause) s)) (contents f)
+    go : (b : Bool) → contents (cond b f (with_canonical true (canonical clause) f)) ≡ onto (λ s. cond b s (with_set_in_state true (canonical clause) s)) (contents f)
     go true = refl
     go false = view_set true (canonical clause) f
 view_stored false clause f = go (is_tautology clause)
   where
-    go : (b : Bool) → contents (cond b f (with_canonical false (canonical clause) f)) ≡ onto (λ s. cond b s (set_more false (canonical clause) s)) (contents f)
+    go : (b : Bool) → contents (cond b f (with_canonical false (canonical clause) f)) ≡ onto (λ s. cond b s (with_set_in_state false (canonical clause) s)) (contents f)
     go true = refl
     go false = view_set false (canonical clause) f
 
@@ -79,13 +79,13 @@ among_left (u ∷ us) v m = go (eqb (variable u.literal) v) refl (eqb u.literal 
         ap (λ b. b || is_among (map (λ w. w.literal) (filter (λ w. not (eqb (variable w.literal) v)) us)) m) y ∙ sym (ap (λ b. not b) e)
     go false x false y ih = ap (λ b. b || is_among (map (λ w. w.literal) (filter (λ w. not (eqb (variable w.literal) v)) us)) m) y ∙ ih
 
-view_changed : (step : Step) (f : Stored) → EachOnce f.clauses → contents (effect step f) ≡ contents_after step (contents f)
+view_changed : (step : Step) (f : Stored) → AreDistinctSets f.clauses → contents (effect step f) ≡ contents_after step (contents f)
 view_changed (SolverVarName v None) f h = refl
 view_changed (UserVarName v (Some name)) f h = refl
-view_changed (DeleteVar v) f h = λ i. record { state = record (stored_state f) { variables = λ w. cond (eqb w v) unknown (f.variables w); units = λ m. among_left f.units v m i }; ended = f.ended; var_deleted = true }
+view_changed (DeleteVar v) f h = λ i. record { state = record (stored_state f) { variables = λ w. cond (eqb w v) initial_variable (f.variables w); units = λ m. among_left f.units v m i }; ended = f.ended; var_deleted = true }
 view_changed (AddClause clause) f h = go f.unsat
   where
-    go : (b : Bool) → contents (cond b f (with_input clause (with_literals_known clause f))) ≡ onto (λ s. cond b s (clause_more false clause (literals_known clause s))) (contents f)
+    go : (b : Bool) → contents (cond b f (with_input clause (with_literals_known clause f))) ≡ onto (λ s. cond b s (with_clause_in_state false clause (with_literals_known_in_state clause s))) (contents f)
     go true = refl
     go false = view_stored false clause (with_literals_known clause f)
 view_changed (AtClause r clause hashes) f h = view_stored r clause (with_literals_known clause f)
@@ -102,8 +102,8 @@ view_settled f = go f.conflict
     go None = refl
     go (Some units) = refl
 
-pub contents_follow : ContentsFollow
+pub contents_follow : EffectChangesContents
 contents_follow f step h = view_changed step f h
 
-pub contents_are_settled : ContentsAreSettled
+pub contents_are_settled : SettlingKeepsContents
 contents_are_settled f = view_settled f

@@ -7,12 +7,12 @@ use Rattle.std.specs.List.{AllByRecursion}
 use Rattle.std.specs.Option.{option_eq}
 use Rattle.sat_checker.specs.LiteralSets.{is_subset_of}
 use Rattle.sat_checker.specs.Stored.{Stored, StoredUnit, NoneYet}
-use Rattle.sat_checker.specs.Storing.{unit_id, unit_numbered, clause_numbered, last_literals}
+use Rattle.sat_checker.specs.Storing.{unit_id, unit_with_id, clause_with_id, last_literals}
 use Rattle.sat_checker.specs.Accepts.{IsStrictSubset}
 use Rattle.sat_checker.specs.inner.Marks.{IsIncreasing}
-use Rattle.sat_checker.specs.inner.SlotView.{Slot, slot_ids, live}
-use Rattle.sat_checker.specs.inner.StoreView.{PlacesIds, AreIdsInOrder, KeepsIds}
-use Rattle.sat_checker.specs.inner.FormulaView.{StoredStatus, IsIdOfUnit, LastUnitIsPut, AreNumbered, RepresentsFormula, last_in}
+use Rattle.sat_checker.specs.inner.SlotView.{Slot, slot_ids, live_clauses}
+use Rattle.sat_checker.specs.inner.StoreView.{AppendsNewId, AreIdsInOrder, PreservesIdOrder}
+use Rattle.sat_checker.specs.inner.FormulaView.{StoredStatus, IsIdOfUnit, LastUnitHasId, AreNumbered, RepresentsFormula, last_in}
 use Rattle.sat_checker.specs.declared.state.status.LastClause.{LastClause}
 use Rattle.sat_checker.specs.declared.state.status.LastClause.TheVariants as code
 use Rattle.sat_checker.specs.declared.formula.Formula.{Formula}
@@ -25,7 +25,7 @@ unit_ids = map (λ u. u.id)
 pub numbered_none : (is : List ℕ) (last : LastClause) → is ≡ [] → last_in last ≡ NoneYet → AreNumbered is [] last 0
 numbered_none is last e n = subst (λ js. AreNumbered js [] last 0) (sym e) (record { of_clauses = record { increasing = tt; below = tt }; of_units = record { increasing = tt; below = tt }; put = none last n })
   where
-    none : (last : LastClause) → last_in last ≡ NoneYet → LastUnitIsPut last [] 0
+    none : (last : LastClause) → last_in last ≡ NoneYet → LastUnitHasId last [] 0
     none code.NoneYet n = tt
     none (code.Empty id) n = tt
     none (code.Single id l) n = absurd cc
@@ -38,7 +38,7 @@ ids_more is n m l h = record { increasing = h.increasing; below = below_more n m
 ids_push : (is : List ℕ) (n : ℕ) → AreIdsInOrder is n → AreIdsInOrder (is ++ n ∷ []) (n + 1)
 ids_push is n h = record { increasing = increasing_push is n h.increasing h.below; below = below_push is n h.below }
 
-put_more : (last : LastClause) (us : List StoredUnit) (n m : ℕ) → n ≤ m → LastUnitIsPut last us n → LastUnitIsPut last us m
+put_more : (last : LastClause) (us : List StoredUnit) (n m : ℕ) → n ≤ m → LastUnitHasId last us n → LastUnitHasId last us m
 put_more (code.Single id k) us n m l h = (let b : id < n = h.0 in omega (arith, l, b), h.1)
 put_more e us n m l h = tt
 
@@ -53,7 +53,7 @@ numbered_clause is us last n h = record {
   put = put_more last us n (n + 1) (omega arith) h.put;
 }
 
-pub numbered_placed : (old new : List Slot) (us : List StoredUnit) (last : LastClause) (n : ℕ) (is_new there : Bool) → PlacesIds old new n is_new → is_new ≡ not there → AreNumbered (slot_ids old) us last n → AreNumbered (slot_ids new) us last (cond there n (n + 1))
+pub numbered_placed : (old new : List Slot) (us : List StoredUnit) (last : LastClause) (n : ℕ) (is_new there : Bool) → AppendsNewId old new n is_new → is_new ≡ not there → AreNumbered (slot_ids old) us last n → AreNumbered (slot_ids new) us last (cond there n (n + 1))
 numbered_placed old new us last n is_new there k e h = go there (k ∙ ap (λ b. cond b (slot_ids old ++ n ∷ []) (slot_ids old)) e)
   where
     go : (there : Bool) → slot_ids new ≡ cond (not there) (slot_ids old ++ n ∷ []) (slot_ids old) → AreNumbered (slot_ids new) us last (cond there n (n + 1))
@@ -61,14 +61,14 @@ numbered_placed old new us last n is_new there k e h = go there (k ∙ ap (λ b.
     go false i = subst (λ is. AreNumbered is us last (n + 1)) (sym i) (numbered_clause (slot_ids old) us last n h)
 
 -- clauses are removed
-pub numbered_kept : (old new : List Slot) (us : List StoredUnit) (last : LastClause) (n : ℕ) → KeepsIds old new → AreNumbered (slot_ids old) us last n → AreNumbered (slot_ids new) us last n
+pub numbered_kept : (old new : List Slot) (us : List StoredUnit) (last : LastClause) (n : ℕ) → PreservesIdOrder old new → AreNumbered (slot_ids old) us last n → AreNumbered (slot_ids new) us last n
 numbered_kept old new us last n k h = record { of_clauses = k n h.of_clauses; of_units = h.of_units; put = h.put }
 
 -- a unit gets the next id
 abbrev unit_of : ℕ → ℕ → StoredUnit
 unit_of id l = record { id = id; literal = l }
 
-put_unit : (last : LastClause) (us : List StoredUnit) (n l : ℕ) → LastUnitIsPut last us n → LastUnitIsPut last (us ++ unit_of n l ∷ []) (n + 1)
+put_unit : (last : LastClause) (us : List StoredUnit) (n l : ℕ) → LastUnitHasId last us n → LastUnitHasId last (us ++ unit_of n l ∷ []) (n + 1)
 put_unit (code.Single id k) us n l h = (omega (arith, below), following us h.1)
   where
     below : id < n
@@ -112,7 +112,7 @@ module _ (test : StoredUnit → Bool) where
       go true ih = (id_left (λ m. u.id < m) us h.0, ih)
       go false ih = ih
 
-  put_left : (last : LastClause) (us : List StoredUnit) (n : ℕ) → LastUnitIsPut last us n → LastUnitIsPut last (filter test us) n
+  put_left : (last : LastClause) (us : List StoredUnit) (n : ℕ) → LastUnitHasId last us n → LastUnitHasId last (filter test us) n
   put_left (code.Single id l) us n h = (h.0, each_left (IsIdOfUnit id l) us h.1)
   put_left e us n h = tt
 
@@ -156,29 +156,29 @@ unit_noted is us last n l id e h = record {
 }
 
 -- the unit with this id
-unit_there : (id l : ℕ) (us : List StoredUnit) → AllByRecursion (IsIdOfUnit id l) us → unit_id l us ≡ Some id → unit_numbered id us ≡ Some (l ∷ [])
+unit_there : (id l : ℕ) (us : List StoredUnit) → AllByRecursion (IsIdOfUnit id l) us → unit_id l us ≡ Some id → unit_with_id id us ≡ Some (l ∷ [])
 unit_there id l [] h e = absurd cc
 unit_there id l (u ∷ us) h e = go (eqb u.literal l) refl (unit_there id l us h.1) e
   where
-    go : (b : Bool) → eqb u.literal l ≡ b → (unit_id l us ≡ Some id → unit_numbered id us ≡ Some (l ∷ [])) → cond b (Some u.id) (unit_id l us) ≡ Some id → cond (eqb u.id id) (Some (u.literal ∷ [])) (unit_numbered id us) ≡ Some (l ∷ [])
-    go true s ih e = let k : u.id ≡ id = cc in ap (λ b. cond b (Some (u.literal ∷ [])) (unit_numbered id us)) (eq-eqb u.id id k) ∙ ap (λ x. Some (x ∷ [])) (eqb-true u.literal l s)
-    go false s ih e = ap (λ b. cond b (Some (u.literal ∷ [])) (unit_numbered id us)) (ne_eqb u.id id (λ q. eqb-false u.literal l s (h.0.0 q))) ∙ ih e
+    go : (b : Bool) → eqb u.literal l ≡ b → (unit_id l us ≡ Some id → unit_with_id id us ≡ Some (l ∷ [])) → cond b (Some u.id) (unit_id l us) ≡ Some id → cond (eqb u.id id) (Some (u.literal ∷ [])) (unit_with_id id us) ≡ Some (l ∷ [])
+    go true s ih e = let k : u.id ≡ id = cc in ap (λ b. cond b (Some (u.literal ∷ [])) (unit_with_id id us)) (eq-eqb u.id id k) ∙ ap (λ x. Some (x ∷ [])) (eqb-true u.literal l s)
+    go false s ih e = ap (λ b. cond b (Some (u.literal ∷ [])) (unit_with_id id us)) (ne_eqb u.id id (λ q. eqb-false u.literal l s (h.0.0 q))) ∙ ih e
 
-unit_past : (b id : ℕ) (us : List StoredUnit) → id ≤ b → AllByRecursion (λ m. b < m) (unit_ids us) → unit_numbered id us ≡ None
+unit_past : (b id : ℕ) (us : List StoredUnit) → id ≤ b → AllByRecursion (λ m. b < m) (unit_ids us) → unit_with_id id us ≡ None
 unit_past b id [] l h = refl
-unit_past b id (u ∷ us) l h = ap (λ d. cond d (Some (u.literal ∷ [])) (unit_numbered id us)) (ne_eqb u.id id (λ q. let k : b < u.id = h.0 in omega (arith, k, l, q))) ∙ unit_past b id us l h.1
+unit_past b id (u ∷ us) l h = ap (λ d. cond d (Some (u.literal ∷ [])) (unit_with_id id us)) (ne_eqb u.id id (λ q. let k : b < u.id = h.0 in omega (arith, k, l, q))) ∙ unit_past b id us l h.1
 
-unit_gone : (id l : ℕ) (us : List StoredUnit) → IsIncreasing (unit_ids us) → AllByRecursion (IsIdOfUnit id l) us → (unit_id l us ≡ Some id → ⊥) → unit_numbered id us ≡ None
+unit_gone : (id l : ℕ) (us : List StoredUnit) → IsIncreasing (unit_ids us) → AllByRecursion (IsIdOfUnit id l) us → (unit_id l us ≡ Some id → ⊥) → unit_with_id id us ≡ None
 unit_gone id l [] i h n = refl
 unit_gone id l (u ∷ us) i h n = go (eqb u.literal l) refl (unit_gone id l us i.1 h.1) n
   where
-    go : (b : Bool) → eqb u.literal l ≡ b → ((unit_id l us ≡ Some id → ⊥) → unit_numbered id us ≡ None) → (cond b (Some u.id) (unit_id l us) ≡ Some id → ⊥) → cond (eqb u.id id) (Some (u.literal ∷ [])) (unit_numbered id us) ≡ None
-    go true s ih n = ap (λ b. cond b (Some (u.literal ∷ [])) (unit_numbered id us)) (ne_eqb u.id id (λ q. n (ap Some q))) ∙ unit_past u.id id us (h.0.1 (eqb-true u.literal l s)) i.0
-    go false s ih n = ap (λ b. cond b (Some (u.literal ∷ [])) (unit_numbered id us)) (ne_eqb u.id id (λ q. eqb-false u.literal l s (h.0.0 q))) ∙ ih n
+    go : (b : Bool) → eqb u.literal l ≡ b → ((unit_id l us ≡ Some id → ⊥) → unit_with_id id us ≡ None) → (cond b (Some u.id) (unit_id l us) ≡ Some id → ⊥) → cond (eqb u.id id) (Some (u.literal ∷ [])) (unit_with_id id us) ≡ None
+    go true s ih n = ap (λ b. cond b (Some (u.literal ∷ [])) (unit_with_id id us)) (ne_eqb u.id id (λ q. n (ap Some q))) ∙ unit_past u.id id us (h.0.1 (eqb-true u.literal l s)) i.0
+    go false s ih n = ap (λ b. cond b (Some (u.literal ∷ [])) (unit_with_id id us)) (ne_eqb u.id id (λ q. eqb-false u.literal l s (h.0.0 q))) ∙ ih n
 
-pub id_met : (o : Option ℕ) (id : ℕ) → false ≡ not (option_eq eqb o (Some id)) → o ≡ Some id
-id_met None id e = absurd (true≢false (sym e))
-id_met (Some x) id e = go (eqb x id) refl e
+pub id_reached : (o : Option ℕ) (id : ℕ) → false ≡ not (option_eq eqb o (Some id)) → o ≡ Some id
+id_reached None id e = absurd (true≢false (sym e))
+id_reached (Some x) id e = go (eqb x id) refl e
   where
     go : (b : Bool) → eqb x id ≡ b → false ≡ not b → Some x ≡ Some id
     go true h e = ap Some (eqb-true x id h)
@@ -193,8 +193,8 @@ module _ (F : Formula) (f : Stored) (k : RepresentsFormula F f) where
   last_is : (last : LastClause) → F.status.last ≡ last → last_literals f.last f ≡ last_literals (last_in last) f
   last_is last e = ap (λ (s : StoredStatus). last_literals s.last f) (sym k.status) ∙ ap (λ x. last_literals (last_in x) f) e
 
-  put_is : (last : LastClause) → F.status.last ≡ last → LastUnitIsPut last f.units f.next_id
-  put_is last e = subst (λ x. LastUnitIsPut x f.units f.next_id) e k.numbered.put
+  put_is : (last : LastClause) → F.status.last ≡ last → LastUnitHasId last f.units f.next_id
+  put_is last e = subst (λ x. LastUnitHasId x f.units f.next_id) e k.numbered.put
 
   pub single_is : (id l : ℕ) → F.status.last ≡ code.Single id l → unit_id l F.units.units ≡ Some id → last_literals f.last f ≡ Some (l ∷ [])
   single_is id l e u = last_is (code.Single id l) e ∙ unit_there id l f.units (put_is (code.Single id l) e).1 (ap (unit_id l) (sym k.units) ∙ u)
@@ -202,8 +202,8 @@ module _ (F : Formula) (f : Stored) (k : RepresentsFormula F f) where
   pub single_none : (id l : ℕ) → F.status.last ≡ code.Single id l → (unit_id l F.units.units ≡ Some id → ⊥) → last_literals f.last f ≡ None
   single_none id l e n = last_is (code.Single id l) e ∙ unit_gone id l f.units k.numbered.of_units.increasing (put_is (code.Single id l) e).1 (λ u. n (ap (unit_id l) k.units ∙ u))
 
-  pub long_is : (id : ℕ) → F.status.last ≡ code.Long id → last_literals f.last f ≡ clause_numbered id (live F.store.clauses)
-  long_is id e = last_is (code.Long id) e ∙ ap (clause_numbered id) (sym k.clauses.clauses)
+  pub long_is : (id : ℕ) → F.status.last ≡ code.Long id → last_literals f.last f ≡ clause_with_id id (live_clauses F.store.clauses)
+  long_is id e = last_is (code.Long id) e ∙ ap (clause_with_id id) (sym k.clauses.clauses)
 
 pub strict_same : (b : Bool) (x y : Option (List ℕ)) (ls : List ℕ) → x ≡ y → MatchBool b (IsStrictSubset y ls) (IsStrictSubset y ls → ⊥) → MatchBool b (IsStrictSubset x ls) (IsStrictSubset x ls → ⊥)
 strict_same b x y ls e m = subst (λ z. MatchBool b (IsStrictSubset z ls) (IsStrictSubset z ls → ⊥)) (sym e) m

@@ -5,13 +5,13 @@ use Rattle.std.specs.Prelude.{MatchResult}
 use Rattle.sat_base.specs.values.Literals.{negated}
 use Rattle.sat_checker.specs.LiteralSets.{is_among, same_literals, is_tautology, canonical}
 use Rattle.sat_checker.specs.Counters.{CountExhausted, CountersExhausted}
-use Rattle.sat_checker.specs.Stored.{Stored, StoredClause, StoredUnit, Last, UnitClause, LongClause, is_unit}
-use Rattle.sat_checker.specs.Storing.{with_count, new_clause, with_stored_clause, clause_with, irredundant_count, redundant_count, unit_id, unit_at, long_at, with_unit, with_contradiction, with_new_unit, with_set, with_canonical, with_stored, with_input}
-use Rattle.sat_checker.specs.inner.AssumedRoom.{HasClauseRoom, RoomStays, with_room}
+use Rattle.sat_checker.specs.Stored.{Stored, StoredClause, StoredUnit, LastIrredundant, UnitClause, LongClause, is_unit}
+use Rattle.sat_checker.specs.Storing.{with_count, new_clause, with_stored_clause, clause_with, irredundant_count, redundant_count, unit_id, last_unit_or, last_long_or, with_unit, with_contradiction, with_new_unit, with_sorted_set, with_canonical, with_stored, with_input}
+use Rattle.sat_checker.specs.inner.AssumedRoom.{HasClauseRoom, RoomIsKept, with_room}
 use Rattle.sat_checker.specs.inner.SlotView.{slot_ids}
-use Rattle.sat_checker.specs.inner.StoreView.{RepresentsClauses, StoreEffect, PlacesIds, store_count_in, id_in}
+use Rattle.sat_checker.specs.inner.StoreView.{RepresentsClauses, StoreEffect, AppendsNewId, store_count_in, id_in}
 use Rattle.sat_checker.specs.inner.UnitView.{UnitsAndRoom}
-use Rattle.sat_checker.specs.inner.FormulaView.{StoredStatus, status_of, status_in_code, AreNumbered, RepresentsFormula, StoredOrExhausted}
+use Rattle.sat_checker.specs.inner.FormulaView.{StoredStatus, status_of, status_in_code, AreNumbered, RepresentsFormula, ChangeResult}
 use Rattle.sat_checker.specs.declared.store.Placed.{Placed}
 use Rattle.sat_checker.specs.declared.store.Store.{Store}
 use Rattle.sat_checker.specs.declared.store.StoreError.{StoreError}
@@ -24,19 +24,19 @@ use Rattle.sat_checker.proofs.lemmas.state.Rooms.{stored_stays, stored_with}
 use Rattle.sat_checker.proofs.lemmas.formula.Numbering.{numbered_more, numbered_placed, numbered_unit, unit_noted}
 
 -- a unit is found under its id
-unit_there : (l id : ℕ) (us : List StoredUnit) (otherwise : Last) → unit_id l us ≡ Some id → unit_at l us otherwise ≡ UnitClause id
+unit_there : (l id : ℕ) (us : List StoredUnit) (otherwise : LastIrredundant) → unit_id l us ≡ Some id → last_unit_or l us otherwise ≡ UnitClause id
 unit_there l id [] otherwise e = cc
 unit_there l id (u ∷ us) otherwise e = go (eqb u.literal l) (unit_there l id us otherwise) e
   where
-    go : (b : Bool) → (unit_id l us ≡ Some id → unit_at l us otherwise ≡ UnitClause id) → cond b (Some u.id) (unit_id l us) ≡ Some id → cond b (UnitClause u.id) (unit_at l us otherwise) ≡ UnitClause id
+    go : (b : Bool) → (unit_id l us ≡ Some id → last_unit_or l us otherwise ≡ UnitClause id) → cond b (Some u.id) (unit_id l us) ≡ Some id → cond b (UnitClause u.id) (last_unit_or l us otherwise) ≡ UnitClause id
     go true ih e = cc
     go false ih e = ih e
 
-unit_none : (l : ℕ) (us : List StoredUnit) (otherwise : Last) → unit_id l us ≡ None → unit_at l us otherwise ≡ otherwise
+unit_none : (l : ℕ) (us : List StoredUnit) (otherwise : LastIrredundant) → unit_id l us ≡ None → last_unit_or l us otherwise ≡ otherwise
 unit_none l [] otherwise e = refl
 unit_none l (u ∷ us) otherwise e = go (eqb u.literal l) (unit_none l us otherwise) e
   where
-    go : (b : Bool) → (unit_id l us ≡ None → unit_at l us otherwise ≡ otherwise) → cond b (Some u.id) (unit_id l us) ≡ None → cond b (UnitClause u.id) (unit_at l us otherwise) ≡ otherwise
+    go : (b : Bool) → (unit_id l us ≡ None → last_unit_or l us otherwise ≡ otherwise) → cond b (Some u.id) (unit_id l us) ≡ None → cond b (UnitClause u.id) (last_unit_or l us otherwise) ≡ otherwise
     go true ih e = absurd cc
     go false ih e = ih e
 
@@ -80,16 +80,16 @@ itself : (ls : List ℕ) → same_literals ls ls ≡ true
 itself [] = refl
 itself (x ∷ xs) = let e : eqb x x ≡ true = eq-eqb x x refl in rw e (itself xs)
 
-long_there : (r : Bool) (n : ℕ) (ls : List ℕ) (cs : List StoredClause) (otherwise : Last) → long_at (clause_with ls (with_stored_clause r n ls cs)) otherwise ≡ LongClause (id_in (clause_with ls cs) n)
-long_there true n ls [] otherwise = ap (λ b. long_at (cond b (Some (new_clause true n ls)) None) otherwise) (itself ls)
-long_there false n ls [] otherwise = ap (λ b. long_at (cond b (Some (new_clause false n ls)) None) otherwise) (itself ls)
+long_there : (r : Bool) (n : ℕ) (ls : List ℕ) (cs : List StoredClause) (otherwise : LastIrredundant) → last_long_or (clause_with ls (with_stored_clause r n ls cs)) otherwise ≡ LongClause (id_in (clause_with ls cs) n)
+long_there true n ls [] otherwise = ap (λ b. last_long_or (cond b (Some (new_clause true n ls)) None) otherwise) (itself ls)
+long_there false n ls [] otherwise = ap (λ b. last_long_or (cond b (Some (new_clause false n ls)) None) otherwise) (itself ls)
 long_there r n ls (c ∷ cs) otherwise = go r (same_literals c.literals ls) refl (long_there r n ls cs otherwise)
   where
-    go : (r : Bool) (b : Bool) → same_literals c.literals ls ≡ b → long_at (clause_with ls (with_stored_clause r n ls cs)) otherwise ≡ LongClause (id_in (clause_with ls cs) n)
-        → long_at (clause_with ls (cond b (with_count r c ∷ cs) (c ∷ with_stored_clause r n ls cs))) otherwise ≡ LongClause (id_in (cond b (Some c) (clause_with ls cs)) n)
-    go true true e ih = ap (λ b. long_at (cond b (Some (with_count true c)) (clause_with ls cs)) otherwise) e
-    go false true e ih = ap (λ b. long_at (cond b (Some (with_count false c)) (clause_with ls cs)) otherwise) e
-    go r false e ih = ap (λ b. long_at (cond b (Some c) (clause_with ls (with_stored_clause r n ls cs))) otherwise) e ∙ ih
+    go : (r : Bool) (b : Bool) → same_literals c.literals ls ≡ b → last_long_or (clause_with ls (with_stored_clause r n ls cs)) otherwise ≡ LongClause (id_in (clause_with ls cs) n)
+        → last_long_or (clause_with ls (cond b (with_count r c ∷ cs) (c ∷ with_stored_clause r n ls cs))) otherwise ≡ LongClause (id_in (cond b (Some c) (clause_with ls cs)) n)
+    go true true e ih = ap (λ b. last_long_or (cond b (Some (with_count true c)) (clause_with ls cs)) otherwise) e
+    go false true e ih = ap (λ b. last_long_or (cond b (Some (with_count false c)) (clause_with ls cs)) otherwise) e
+    go r false e ih = ap (λ b. last_long_or (cond b (Some c) (clause_with ls (with_stored_clause r n ls cs))) otherwise) e ∙ ih
 
 -- storing a clause adds one count
 count_more : (r : Bool) (n : ℕ) (ls : List ℕ) (cs : List StoredClause) → store_count_in r (clause_with ls (with_stored_clause r n ls cs)) ≡ store_count_in r (clause_with ls cs) + 1
@@ -125,7 +125,7 @@ unit_stored F f l id units status k a b u s =
       units = ap (λ (w : UnitsAndRoom). w.units) u ∙ ap (λ us. us ++ (record { id = id; literal = l }) ∷ []) k.units ∙ ap (λ n. f.units ++ (record { id = n; literal = l }) ∷ []) (s.0 ∙ next_of F f k);
       status = ap status_in_code s.1 ∙ ap (λ (t : StoredStatus). record t { next_id = t.next_id + 1 }) k.status;
       numbered = subst (λ x. AreNumbered (slot_ids F.store.clauses) (with_new_unit l f).units x (f.next_id + 1)) (sym (ap (λ (t : Status). t.last) s.1)) (numbered_unit (slot_ids F.store.clauses) f.units F.status.last f.next_id l k.numbered);
-      room = stored_stays F.units.room units.room f.clauses (subst (RoomStays F.units.room) (sym (ap (λ (w : UnitsAndRoom). w.room) u)) (room_stays l F.units.room)) k.room;
+      room = stored_stays F.units.room units.room f.clauses (subst (RoomIsKept F.units.room) (sym (ap (λ (w : UnitsAndRoom). w.room) u)) (room_stays l F.units.room)) k.room;
       marks = k.marks;
     })
 
@@ -146,11 +146,11 @@ module _ (F : Formula) (store : Store) (f : Stored) (x y : ℕ) (ls : List ℕ) 
   kept_so : (r : Bool) → RepresentsClauses store (record f { clauses = with_stored_clause r F.status.next_id all f.clauses }) → RepresentsClauses store (record f { clauses = with_stored_clause r f.next_id all f.clauses })
   kept_so r h = subst (λ n. RepresentsClauses store (record f { clauses = with_stored_clause r n all f.clauses })) (next_of F f k) h
 
-  numbered_so : PlacesIds F.store.clauses store.clauses F.status.next_id p.is_new → p.is_new ≡ not (is_some there) → AreNumbered (slot_ids store.clauses) f.units F.status.last (cond (is_some there) f.next_id (f.next_id + 1))
+  numbered_so : AppendsNewId F.store.clauses store.clauses F.status.next_id p.is_new → p.is_new ≡ not (is_some there) → AreNumbered (slot_ids store.clauses) f.units F.status.last (cond (is_some there) f.next_id (f.next_id + 1))
   numbered_so h e =
-      numbered_placed F.store.clauses store.clauses f.units F.status.last f.next_id p.is_new (is_some there) (subst (λ n. PlacesIds F.store.clauses store.clauses n p.is_new) (next_of F f k) h) e k.numbered
+      numbered_placed F.store.clauses store.clauses f.units F.status.last f.next_id p.is_new (is_some there) (subst (λ n. AppendsNewId F.store.clauses store.clauses n p.is_new) (next_of F f k) h) e k.numbered
 
-  long_done : (r : Bool) (status : Status) → HasClauseRoom F.units.room all × HasClauseRoom F.marks.room all → StoreEffect store f F.status.next_id r all p.id p.is_new → PlacesIds F.store.clauses store.clauses F.status.next_id p.is_new
+  long_done : (r : Bool) (status : Status) → HasClauseRoom F.units.room all × HasClauseRoom F.marks.room all → StoreEffect store f F.status.next_id r all p.id p.is_new → AppendsNewId F.store.clauses store.clauses F.status.next_id p.is_new
       → status ≡ record (noted r p F.status) { next_id = cond p.is_new ((noted r p F.status).next_id + 1) (noted r p F.status).next_id }
       → RepresentsFormula (record F { store = store; status = status }) (with_canonical r all f)
   long_done true status roomy s h e = record {
@@ -196,27 +196,27 @@ abbrev pub Takes : {T : Type 0} → Result T StoreError → Status → Bool → 
 Takes result old needed new =
     MatchResult result (λ x. new ≡ record old { next_id = cond needed (old.next_id + 1) old.next_id }) (λ e. (e ≡ CounterEnd) × (needed ≡ true) × (2 ^ 64 ≤ old.next_id + 1))
 
-pub long_stored : {T : Type 0} (result : Result T StoreError) (F : Formula) (store : Store) (was status : Status) (f : Stored) (r : Bool) (ls : List ℕ) (p : Placed) → 2 ≤ length ls → RepresentsFormula F f → HasClauseRoom F.units.room ls × HasClauseRoom F.marks.room ls → StoreEffect store f F.status.next_id r ls p.id p.is_new → PlacesIds F.store.clauses store.clauses F.status.next_id p.is_new
-    → was ≡ noted r p F.status → Takes result was p.is_new status → StoredOrExhausted result (RepresentsFormula (record F { store = store; status = status }) (with_canonical r ls f)) (with_canonical r ls f)
+pub long_stored : {T : Type 0} (result : Result T StoreError) (F : Formula) (store : Store) (was status : Status) (f : Stored) (r : Bool) (ls : List ℕ) (p : Placed) → 2 ≤ length ls → RepresentsFormula F f → HasClauseRoom F.units.room ls × HasClauseRoom F.marks.room ls → StoreEffect store f F.status.next_id r ls p.id p.is_new → AppendsNewId F.store.clauses store.clauses F.status.next_id p.is_new
+    → was ≡ noted r p F.status → Takes result was p.is_new status → ChangeResult result (RepresentsFormula (record F { store = store; status = status }) (with_canonical r ls f)) (with_canonical r ls f)
 long_stored result F store was status f r [] p l k q s h w m = absurd (omega arith)
 long_stored result F store was status f r (x ∷ []) p l k q s h w m = absurd (omega arith)
 long_stored {T = T} result F store was status f r (x ∷ y ∷ ls) p l k q s h w m = go result (subst (λ t. Takes result t p.is_new status) w m)
   where
-    go : (result : Result T StoreError) → Takes result (noted r p F.status) p.is_new status → StoredOrExhausted result (RepresentsFormula (record F { store = store; status = status }) (with_canonical r (x ∷ y ∷ ls) f)) (with_canonical r (x ∷ y ∷ ls) f)
+    go : (result : Result T StoreError) → Takes result (noted r p F.status) p.is_new status → ChangeResult result (RepresentsFormula (record F { store = store; status = status }) (with_canonical r (x ∷ y ∷ ls) f)) (with_canonical r (x ∷ y ∷ ls) f)
     go (Ok v) m = long_done F store f x y ls p k r status q s h m
     go (Err e) m =
-        subst (λ d. StoredOrExhausted {T = T} (Err d) (RepresentsFormula (record F { store = store; status = status }) (with_canonical r (x ∷ y ∷ ls) f)) (with_canonical r (x ∷ y ∷ ls) f)) (sym m.0) (long_spent F store f x y ls p k r s.new_is m.1 m.2)
+        subst (λ d. ChangeResult {T = T} (Err d) (RepresentsFormula (record F { store = store; status = status }) (with_canonical r (x ∷ y ∷ ls) f)) (with_canonical r (x ∷ y ∷ ls) f)) (sym m.0) (long_spent F store f x y ls p k r s.new_is m.1 m.2)
 
 long_fails : (e : StoreError) (T K : Type 0) (F : Formula) (f : Stored) (r : Bool) (ls : List ℕ) → 2 ≤ length ls → RepresentsFormula F f
-    → (e ≡ CounterEnd → 2 ^ 64 ≤ store_count_in r (clause_with ls f.clauses) + 1) → StoredOrExhausted {T = T} (Err e) K (with_canonical r ls f)
+    → (e ≡ CounterEnd → 2 ^ 64 ≤ store_count_in r (clause_with ls f.clauses) + 1) → ChangeResult {T = T} (Err e) K (with_canonical r ls f)
 long_fails e T K F f r [] l k h = absurd (omega arith)
 long_fails e T K F f r (x ∷ []) l k h = absurd (omega arith)
 long_fails OutOfMemory T K F f r (x ∷ y ∷ ls) l k h = tt
 long_fails CounterEnd T K F f r (x ∷ y ∷ ls) l k h = count_spent F F.store f x y ls (record { id = 0; is_new = true; irredundant = 0 }) k r (h refl)
 
 pub long_refused : {T : Type 0} (result : Result T StoreError) (d e : StoreError) → result ≡ Err d → d ≡ e → (K : Type 0) (F : Formula) (f : Stored) (r : Bool) (ls : List ℕ) → 2 ≤ length ls → RepresentsFormula F f
-    → (e ≡ CounterEnd → 2 ^ 64 ≤ store_count_in r (clause_with ls f.clauses) + 1) → StoredOrExhausted result K (with_canonical r ls f)
-long_refused {T = T} result d e i s K F f r ls l k h = subst (λ x. StoredOrExhausted x K (with_canonical r ls f)) (sym (i ∙ ap Err s)) (long_fails e T K F f r ls l k h)
+    → (e ≡ CounterEnd → 2 ^ 64 ≤ store_count_in r (clause_with ls f.clauses) + 1) → ChangeResult result K (with_canonical r ls f)
+long_refused {T = T} result d e i s K F f r ls l k h = subst (λ x. ChangeResult x K (with_canonical r ls f)) (sym (i ∙ ap Err s)) (long_fails e T K F f r ls l k h)
 
 -- the next id does not decrease
 next_unit : (l : ℕ) (f : Stored) → f.next_id ≤ (with_unit l f).next_id
@@ -227,7 +227,7 @@ next_unit l f = go (is_unit f l) (is_unit f (negated l))
     go false true = omega arith
     go false false = omega arith
 
-next_set : (r : Bool) (ls : List ℕ) (f : Stored) → f.next_id ≤ (with_set r ls f).next_id
+next_set : (r : Bool) (ls : List ℕ) (f : Stored) → f.next_id ≤ (with_sorted_set r ls f).next_id
 next_set r [] f = omega arith
 next_set r (l ∷ []) f = next_unit l f
 next_set r (l ∷ m ∷ ls) f = go (is_some (clause_with (l ∷ m ∷ ls) f.clauses))
@@ -253,13 +253,13 @@ next_input n m true l e = let h : m ≡ n = eqb-true m n (sym e) in omega arith
 next_input n m false l e = let h : (m ≡ n → ⊥) = eqb-false m n (sym e) in omega arith
 
 pub input_stored : {T : Type 0} (result : Result T StoreError) (F G : Formula) (status : Status) (f : Stored) (c : List ℕ) (b : Bool) → RepresentsFormula F f → RepresentsFormula G (with_stored false c f) → b ≡ eqb G.status.next_id F.status.next_id
-    → Takes result G.status b status → StoredOrExhausted result (RepresentsFormula (record G { status = status }) (with_input c f)) (with_input c f)
+    → Takes result G.status b status → ChangeResult result (RepresentsFormula (record G { status = status }) (with_input c f)) (with_input c f)
 input_stored {T = T} result F G status f c b k g e m = go result m
   where
     same : cond b ((with_stored false c f).next_id + 1) (with_stored false c f).next_id ≡ max (with_stored false c f).next_id (f.next_id + 1)
     same = next_input f.next_id (with_stored false c f).next_id b (next_stored false c f) (e ∙ ap (λ n. eqb n F.status.next_id) (next_of G (with_stored false c f) g) ∙ ap (eqb (with_stored false c f).next_id) (next_of F f k))
 
-    go : (result : Result T StoreError) → Takes result G.status b status → StoredOrExhausted result (RepresentsFormula (record G { status = status }) (with_input c f)) (with_input c f)
+    go : (result : Result T StoreError) → Takes result G.status b status → ChangeResult result (RepresentsFormula (record G { status = status }) (with_input c f)) (with_input c f)
     go (Ok v) m = record {
       clauses = g.clauses;
       units = g.units;
@@ -271,7 +271,7 @@ input_stored {T = T} result F G status f c b k g e m = go result m
       marks = g.marks;
     }
     go (Err e) m =
-        subst (λ d. StoredOrExhausted {T = T} (Err d) (RepresentsFormula (record G { status = status }) (with_input c f)) (with_input c f)) (sym m.0)
+        subst (λ d. ChangeResult {T = T} (Err d) (RepresentsFormula (record G { status = status }) (with_input c f)) (with_input c f)) (sym m.0)
         (inl (let a = next_of G (with_stored false c f) g in let t = ap (λ x. cond x ((with_stored false c f).next_id + 1) (with_stored false c f).next_id) m.1 in omega (arith, a, t, same, m.2)))
 
 -- cases by the number of literals

@@ -4,14 +4,14 @@ use Rattle.sat_base.specs.values.Literals.{negated}
 use Rattle.sat_base.specs.steps.Steps.{Redundant, Simplified, Satisfied, Step, SolverVarName, UserVarName, AddClause, AtClause, UnitClauses, DeleteClause}
 use Rattle.sat_checker.specs.LiteralSets.{is_tautology, canonical}
 use Rattle.sat_checker.specs.Stored.{StoredClause, Stored, is_unit}
-use Rattle.sat_checker.specs.Storing.{with_unit, with_units, with_contradiction, with_new_unit, settled_by, with_conflict_settled, with_canonical, with_set, without_clause, with_stored, with_input, with_literals_known}
+use Rattle.sat_checker.specs.Storing.{with_unit, with_units, with_contradiction, with_new_unit, settled_by, with_conflict_settled, with_canonical, with_sorted_set, without_clause, with_stored, with_input, with_literals_known}
 use Rattle.sat_checker.specs.Accepts.{effect, stored_after, ready_after}
-use Rattle.sat_checker.specs.Invariants.{EachOnce, EachCounted}
+use Rattle.sat_checker.specs.Invariants.{AreDistinctSets, HaveCounts}
 use Rattle.sat_checker.proofs.lemmas.contents.Counts.{once_more, once_less, counted_more, counted_less}
 
 pub record TidyClauses (cs : List StoredClause) : Type 0 where
-  pub once : EachOnce cs
-  pub counted : EachCounted cs
+  pub once : AreDistinctSets cs
+  pub counted : HaveCounts cs
 
 tidy_unit : (l : ℕ) (f : Stored) → TidyClauses f.clauses → TidyClauses (with_unit l f).clauses
 tidy_unit l f h = go (is_unit f l) (is_unit f (negated l))
@@ -25,7 +25,7 @@ tidy_units : (ls : List ℕ) (f : Stored) → TidyClauses f.clauses → TidyClau
 tidy_units [] f h = h
 tidy_units (l ∷ ls) f h = tidy_units ls (with_unit l f) (tidy_unit l f h)
 
-tidy_set : (r : Bool) (set : List ℕ) (f : Stored) → TidyClauses f.clauses → TidyClauses (with_set r set f).clauses
+tidy_set : (r : Bool) (set : List ℕ) (f : Stored) → TidyClauses f.clauses → TidyClauses (with_sorted_set r set f).clauses
 tidy_set r [] f h = h
 tidy_set r (l ∷ []) f h = tidy_unit l f h
 tidy_set r (l ∷ m ∷ ls) f h = record { once = once_more r f.next_id (l ∷ m ∷ ls) f.clauses h.once; counted = counted_more r f.next_id (l ∷ m ∷ ls) f.clauses h.counted }

@@ -4,7 +4,7 @@ use Rattle.std.specs.List.{AllByRecursion}
 use Rattle.sat_base.specs.values.Literals.{negated}
 use Rattle.sat_checker.specs.LiteralSets.{is_tautology, canonical, same_literals}
 use Rattle.sat_checker.specs.Stored.{StoredClause, StoredUnit, Stored, is_unit, unit_literals, long_clauses}
-use Rattle.sat_checker.specs.Storing.{with_count, with_stored_clause, without_count, unless_gone, without_clause, with_unit, with_contradiction, with_new_unit, with_units, with_set, with_canonical, with_stored}
+use Rattle.sat_checker.specs.Storing.{with_count, with_stored_clause, without_count, unless_removed, without_clause, with_unit, with_contradiction, with_new_unit, with_units, with_sorted_set, with_canonical, with_stored}
 use Rattle.sat_checker.proofs.lemmas.meaning.Clauses.{literals_of}
 
 module _ (P : List ℕ → Type 0) where
@@ -27,7 +27,7 @@ module _ (P : List ℕ → Type 0) where
       left_over true false = (h.0, h.1)
       left_over false false = (h.0, h.1)
 
-      go : (r : Bool) → AllByRecursion P (literals_of (without_clause r ls cs)) → (b : Bool) → AllByRecursion P (literals_of (cond b (unless_gone (without_count r c) ++ cs) (c ∷ without_clause r ls cs)))
+      go : (r : Bool) → AllByRecursion P (literals_of (without_clause r ls cs)) → (b : Bool) → AllByRecursion P (literals_of (cond b (unless_removed (without_count r c) ++ cs) (c ∷ without_clause r ls cs)))
       go r ih true = left_over r (eqb (without_count r c).irredundant 0 && eqb (without_count r c).redundant 0)
       go r ih false = (h.0, ih)
 
@@ -43,7 +43,7 @@ module _ (P : List ℕ → Type 0) where
   each_units [] f h = h
   each_units (l ∷ ls) f h = each_units ls (with_unit l f) (each_unit l f h)
 
-  each_set : (r : Bool) (set : List ℕ) (f : Stored) → AllByRecursion P (long_clauses f) → (2 ≤ length set → P set) → AllByRecursion P (long_clauses (with_set r set f))
+  each_set : (r : Bool) (set : List ℕ) (f : Stored) → AllByRecursion P (long_clauses f) → (2 ≤ length set → P set) → AllByRecursion P (long_clauses (with_sorted_set r set f))
   each_set r [] f h p = h
   each_set r (l ∷ []) f h p = each_unit l f h
   each_set r (l ∷ m ∷ ls) f h p = each_with r f.next_id (l ∷ m ∷ ls) f.clauses h (p (omega arith))
@@ -76,7 +76,7 @@ module _ (K : ℕ → Type 0) where
   units_units [] f h k = h
   units_units (l ∷ ls) f h k = units_units ls (with_unit l f) (units_unit l f h k.0) k.1
 
-  units_set : (r : Bool) (set : List ℕ) (f : Stored) → AllByRecursion K (unit_literals f) → AllByRecursion K set → AllByRecursion K (unit_literals (with_set r set f))
+  units_set : (r : Bool) (set : List ℕ) (f : Stored) → AllByRecursion K (unit_literals f) → AllByRecursion K set → AllByRecursion K (unit_literals (with_sorted_set r set f))
   units_set r [] f h k = h
   units_set r (l ∷ []) f h k = units_unit l f h k.0
   units_set r (l ∷ m ∷ ls) f h k = h

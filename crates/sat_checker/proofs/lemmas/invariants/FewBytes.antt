@@ -3,14 +3,14 @@ use Rattle.std.proofs.Common.{ℕ, ◌+◌, ◌^◌, ◌<◌, ◌≤◌, ◌≡�
 use Rattle.std.specs.List.{AllByRecursion}
 use Rattle.sat_base.specs.values.Literals.{negated}
 use Rattle.sat_base.specs.steps.Formats.{Items}
-use Rattle.sat_base.specs.steps.Numbers.{IsNumber}
+use Rattle.sat_base.specs.steps.Numbers.{SpellsNumber}
 use Rattle.sat_base.specs.steps.Steps.{Redundant, Simplified, Satisfied, Step, SolverVarName, UserVarName, AddClause, AtClause, UnitClauses, DeleteClause}
-use Rattle.sat_base.specs.steps.StepText.{IsLiteral, IsHash, AreLiterals, SpellsFields, SpellsStep, SpellsSteps, tag_of}
+use Rattle.sat_base.specs.steps.StepText.{SpellsLiteral, SpellsHash, SpellsLiterals, SpellsFields, SpellsStep, SpellsSteps, tag_of}
 use Rattle.sat_checker.specs.LiteralSets.{is_tautology, canonical, same_literals}
 use Rattle.sat_checker.specs.Stored.{StoredClause, Stored, is_unit}
-use Rattle.sat_checker.specs.Storing.{with_count, with_stored_clause, clause_with, irredundant_count, redundant_count, without_count, unless_gone, without_clause, with_unit, with_units, with_contradiction, with_new_unit, settled_by, with_conflict_settled, with_set, with_canonical, with_stored, with_input, with_literals_known}
+use Rattle.sat_checker.specs.Storing.{with_count, with_stored_clause, clause_with, irredundant_count, redundant_count, without_count, unless_removed, without_clause, with_unit, with_units, with_contradiction, with_new_unit, settled_by, with_conflict_settled, with_sorted_set, with_canonical, with_stored, with_input, with_literals_known}
 use Rattle.sat_checker.specs.Accepts.{effect, stored_after}
-use Rattle.sat_checker.specs.ProofView.{most_bytes, taken_after}
+use Rattle.sat_checker.specs.ProofView.{most_bytes, steps_after}
 use Rattle.sat_checker.specs.Counters.{CountersExhausted}
 use Rattle.sat_checker.specs.FewBytes.{IdsWithinBytes, CountersNeverExhausted}
 use Rattle.sat_checker.proofs.lemmas.checker.Proofs.{taken_one}
@@ -28,7 +28,7 @@ units_more : (ls : List ℕ) (f : Stored) → (with_units ls f).next_id ≤ f.ne
 units_more [] f = omega arith
 units_more (l ∷ ls) f = let a = unit_more l f in let b = units_more ls (with_unit l f) in omega arith
 
-set_more : (r : Bool) (ls : List ℕ) (f : Stored) → (with_set r ls f).next_id ≤ f.next_id + 1
+set_more : (r : Bool) (ls : List ℕ) (f : Stored) → (with_sorted_set r ls f).next_id ≤ f.next_id + 1
 set_more r [] f = omega arith
 set_more r (l ∷ []) f = unit_more l f
 set_more r (l ∷ m ∷ ls) f = go (is_some (clause_with (l ∷ m ∷ ls) f.clauses))
@@ -134,7 +134,7 @@ within_without r ls (c ∷ cs) n h = go r (within_without r ls cs n h.1) (same_l
     left_over true false = ((h.0.0, let a = h.0.1 in omega arith), h.1)
     left_over false false = ((let a = h.0.0 in omega arith, h.0.1), h.1)
 
-    go : (r : Bool) → CountsWithin n (without_clause r ls cs) → (b : Bool) → CountsWithin n (cond b (unless_gone (without_count r c) ++ cs) (c ∷ without_clause r ls cs))
+    go : (r : Bool) → CountsWithin n (without_clause r ls cs) → (b : Bool) → CountsWithin n (cond b (unless_removed (without_count r c) ++ cs) (c ∷ without_clause r ls cs))
     go r ih true = left_over r (eqb (without_count r c).irredundant 0 && eqb (without_count r c).redundant 0)
     go r ih false = (h.0, ih)
 
@@ -154,7 +154,7 @@ module _ (n : ℕ) where
   within_units m [] f h = h
   within_units m (l ∷ ls) f h = within_units m ls (with_unit l f) (within_unit m l f h)
 
-  within_set : (r : Bool) (set : List ℕ) (f : Stored) → CountsWithin n f.clauses → CountsWithin (n + 1) (with_set r set f).clauses
+  within_set : (r : Bool) (set : List ℕ) (f : Stored) → CountsWithin n f.clauses → CountsWithin (n + 1) (with_sorted_set r set f).clauses
   within_set r [] f h = still f h
   within_set r (l ∷ []) f h = within_unit (n + 1) l f (still f h)
   within_set r (l ∷ m ∷ ls) f h = within_with r f.next_id (l ∷ m ∷ ls) f.clauses n h
@@ -205,14 +205,14 @@ redundant_within n ls (c ∷ cs) h = go (same_literals c.literals ls) (redundant
     go false ih = ih
 
 -- BYTES
-number_takes : (n : ℕ) (bytes : List ℕ) → IsNumber n bytes → 1 ≤ length bytes
+number_takes : (n : ℕ) (bytes : List ℕ) → SpellsNumber n bytes → 1 ≤ length bytes
 number_takes n [] h = absurd h
 number_takes n (b ∷ bs) h = omega arith
 
-pair_takes : (u : ℕ × ℕ) (bytes : List ℕ) → (a : List ℕ) × (b : List ℕ) × IsLiteral u.0 a × IsHash u.1 b × (bytes ≡ a ++ b) → 1 ≤ length bytes
+pair_takes : (u : ℕ × ℕ) (bytes : List ℕ) → (a : List ℕ) × (b : List ℕ) × SpellsLiteral u.0 a × SpellsHash u.1 b × (bytes ≡ a ++ b) → 1 ≤ length bytes
 pair_takes u bytes h = let a = number_takes u.0 h.0 h.2.0 in let e : length bytes ≡ length h.0 + length h.1 = ap length h.4 ∙ length-append h.0 h.1 in omega arith
 
-units_take : (us : List (ℕ × ℕ)) (bytes : List ℕ) → Items (λ u b. (c : List ℕ) × (d : List ℕ) × IsLiteral u.0 c × IsHash u.1 d × (b ≡ c ++ d)) us bytes → length us ≤ length bytes
+units_take : (us : List (ℕ × ℕ)) (bytes : List ℕ) → Items (λ u b. (c : List ℕ) × (d : List ℕ) × SpellsLiteral u.0 c × SpellsHash u.1 d × (b ≡ c ++ d)) us bytes → length us ≤ length bytes
 units_take [] bytes h = omega arith
 units_take (u ∷ us) bytes h =
     let a = pair_takes u h.0 h.2 in
@@ -220,7 +220,7 @@ units_take (u ∷ us) bytes h =
     let e : length bytes ≡ length h.0 + length h.1 = ap length h.4 ∙ length-append h.0 h.1 in
     omega arith
 
-list_takes : (ls fields : List ℕ) → AreLiterals ls fields → 1 ≤ length fields
+list_takes : (ls fields : List ℕ) → SpellsLiterals ls fields → 1 ≤ length fields
 list_takes ls fields h = let a = number_takes (length ls) h.0 h.2.0 in let e : length fields ≡ length h.0 + length h.1 = ap length h.4 ∙ length-append h.0 h.1 in omega arith
 
 none_needed : (fields : List ℕ) → 0 ≤ length fields
@@ -263,20 +263,20 @@ one_within step f bytes n s w =
           (within_effect n step (with_conflict_settled f) (subst (CountsWithin n) (sym (settled_clauses f)) w.counts));
     }
 
-all_within : (steps earlier : List Step) (text : List ℕ) (n : ℕ) → SpellsSteps steps text → Within (stored_after earlier) n → Within (stored_after (taken_after steps earlier)) (n + length text)
+all_within : (steps earlier : List Step) (text : List ℕ) (n : ℕ) → SpellsSteps steps text → Within (stored_after earlier) n → Within (stored_after (steps_after steps earlier)) (n + length text)
 all_within [] earlier text n s w = subst (Within (stored_after earlier)) (none n (length text) (ap length s)) w
   where
     none : (n m : ℕ) → m ≡ 0 → n ≡ n + m
     none n m e = omega arith
 all_within (step ∷ steps) earlier text n s w =
-    subst (Within (stored_after (taken_after steps (step ∷ earlier)))) (sum n (length s.0) (length s.1) ∙ ap (λ m. n + m) (sym (ap length s.4 ∙ length-append s.0 s.1)))
+    subst (Within (stored_after (steps_after steps (step ∷ earlier)))) (sum n (length s.0) (length s.1) ∙ ap (λ m. n + m) (sym (ap length s.4 ∙ length-append s.0 s.1)))
     (all_within steps (step ∷ earlier) s.1 (n + length s.0) s.3 (one_within step (stored_after earlier) s.0 n s.2 w))
   where
     sum : (a b c : ℕ) → a + b + c ≡ a + (b + c)
     sum a b c = omega arith
 
-within_bytes : (steps : List Step) (text : List ℕ) → SpellsSteps steps text → Within (stored_after (taken_after steps [])) (length text)
-within_bytes steps text s = subst (Within (stored_after (taken_after steps []))) (none_before (length text)) (all_within steps [] text 0 s (record { ids = omega arith; counts = tt }))
+within_bytes : (steps : List Step) (text : List ℕ) → SpellsSteps steps text → Within (stored_after (steps_after steps [])) (length text)
+within_bytes steps text s = subst (Within (stored_after (steps_after steps []))) (none_before (length text)) (all_within steps [] text 0 s (record { ids = omega arith; counts = tt }))
   where
     none_before : (n : ℕ) → 0 + n ≡ n
     none_before n = omega arith
@@ -313,11 +313,11 @@ none_is_spent steps step text s l spent = elim spent [
   | inl h ↦ (
       let k = front_of steps (step ∷ []) text s in
       let w = within_bytes steps k.bytes k.spelt in
-      let f : Stored = stored_after (taken_after steps []) in
+      let f : Stored = stored_after (steps_after steps []) in
       not_spent (with_conflict_settled f) (length k.bytes) w.ids (subst (CountsWithin (length k.bytes)) (sym (settled_clauses f)) w.counts) (let e = k.shorter in omega arith) h
       )
   | inr h ↦ (
-      let g : Stored = effect step (with_conflict_settled (stored_after (taken_after steps []))) in
+      let g : Stored = effect step (with_conflict_settled (stored_after (steps_after steps []))) in
       let w : Within g (length text) = subst (λ z. Within (stored_after z) (length text)) (taken_one steps step []) (within_bytes (steps ++ step ∷ []) text s) in
       not_spent g (length text) (let i = w.ids in let a = settled_least g in omega arith) w.counts l h.1
       )

@@ -5,10 +5,10 @@ use Rattle.std.specs.List.{AllByRecursion, list_any}
 use Rattle.sat_base.specs.values.Literals.{variable}
 use Rattle.sat_base.specs.steps.Steps.{Redundant, Simplified, Satisfied, Step, SolverVarName, UserVarName, DeleteVar, AddClause, AtClause, UnitClauses, DeleteClause, ChangeHashBits, Model, Assumptions, FailedAssumptions, End}
 use Rattle.sat_checker.specs.LiteralSets.{is_among, mentions, canonical}
-use Rattle.sat_checker.specs.Stored.{StoredClause, StoredUnit, unknown, Stored, unit_literals, long_clauses, is_known}
+use Rattle.sat_checker.specs.Stored.{StoredClause, StoredUnit, initial_variable, Stored, unit_literals, long_clauses, is_known}
 use Rattle.sat_checker.specs.Storing.{settled_by, with_conflict_settled, with_stored, with_input, with_units, with_literals_known, without_variable}
-use Rattle.sat_checker.specs.Accepts.{MayBeDeleted, Accepts, AcceptsAll, effect, stored_after, ready_after}
-use Rattle.sat_checker.specs.Invariants.{AllKnown}
+use Rattle.sat_checker.specs.Accepts.{CanBeDeleted, Accepts, AcceptsAll, effect, stored_after, ready_after}
+use Rattle.sat_checker.specs.Invariants.{VariablesAreKnown}
 use Rattle.sat_checker.proofs.lemmas.sets.Members.{canonical_each, each_member, each_weaker}
 use Rattle.sat_checker.proofs.lemmas.meaning.Clauses.{literals_of}
 use Rattle.sat_checker.proofs.lemmas.meaning.Names.{stored_same, units_same, known_stays}
@@ -45,7 +45,7 @@ variable_among (m ∷ ms) l h = elim (or_cases (eqb m l) (is_among ms l) h) [
 ]
 
 -- the variables of these literals are known once they are made known
-learned : (f : Stored) (ls : List ℕ) → AllKnown (with_literals_known ls f) ls
+learned : (f : Stored) (ls : List ℕ) → VariablesAreKnown (with_literals_known ls f) ls
 learned f ls = each_member (λ l. is_known (variable l) (with_literals_known ls f) ≡ true) ls
     (λ l k. ap (λ b. (cond b (record (f.variables (variable l)) { known = true }) (f.variables (variable l))).known) (variable_among ls l k))
 
@@ -64,49 +64,49 @@ knows_learned : (f : Stored) (ls : List ℕ) → KnowsAll f → KnowsAll (with_l
 knows_learned f ls k = knows_more (known_in f) (known_in (with_literals_known ls f)) (long_clauses f) (unit_literals f) f.assumed (known_more f ls) k
 
 -- `KnowsAll` still holds after a clause with known variables is stored
-knows_stored : (f : Stored) (r : Bool) (clause : List ℕ) → KnowsAll f → AllKnown f clause → KnowsAll (with_stored r clause f)
+knows_stored : (f : Stored) (r : Bool) (clause : List ℕ) → KnowsAll f → VariablesAreKnown f clause → KnowsAll (with_stored r clause f)
 knows_stored f r clause k known =
     let s = stored_same r clause f in
-    let set : AllKnown f (canonical clause) = canonical_each (λ l. is_known (variable l) f ≡ true) clause known in
+    let set : VariablesAreKnown f (canonical clause) = canonical_each (λ l. is_known (variable l) f ≡ true) clause known in
     knows_same f (with_stored r clause f) (long_clauses (with_stored r clause f)) (unit_literals (with_stored r clause f)) (with_stored r clause f).assumed s.variables (record {
-      clauses_known = each_stored (AllKnown f) r clause f k.clauses_known (λ e n. set);
+      clauses_known = each_stored (VariablesAreKnown f) r clause f k.clauses_known (λ e n. set);
       units_known = units_stored (λ l. is_known (variable l) f ≡ true) r clause f k.units_known set;
-      assumed_known = subst (AllKnown f) (sym s.assumed) k.assumed_known;
+      assumed_known = subst (VariablesAreKnown f) (sym s.assumed) k.assumed_known;
     })
 
-knows_units : (f : Stored) (ls : List ℕ) → KnowsAll f → AllKnown f ls → KnowsAll (with_units ls f)
+knows_units : (f : Stored) (ls : List ℕ) → KnowsAll f → VariablesAreKnown f ls → KnowsAll (with_units ls f)
 knows_units f ls k known =
     let s = units_same ls f in
     knows_same f (with_units ls f) (long_clauses (with_units ls f)) (unit_literals (with_units ls f)) (with_units ls f).assumed s.variables (record {
-      clauses_known = each_units (AllKnown f) ls f k.clauses_known;
+      clauses_known = each_units (VariablesAreKnown f) ls f k.clauses_known;
       units_known = units_units (λ l. is_known (variable l) f ≡ true) ls f k.units_known known;
-      assumed_known = subst (AllKnown f) (sym s.assumed) k.assumed_known;
+      assumed_known = subst (VariablesAreKnown f) (sym s.assumed) k.assumed_known;
     })
 
 -- a variable that nothing mentions may be deleted
 module _ (f : Stored) (v : ℕ) where
   still : (w : ℕ) → eqb w v ≡ false → is_known w f ≡ true → is_known w (without_variable v f) ≡ true
-  still w e h = ap (λ b. (cond b unknown (f.variables w)).known) e ∙ h
+  still w e h = ap (λ b. (cond b initial_variable (f.variables w)).known) e ∙ h
 
-  literals_still : (ls : List ℕ) → mentions ls v ≡ false → AllKnown f ls → AllKnown (without_variable v f) ls
+  literals_still : (ls : List ℕ) → mentions ls v ≡ false → VariablesAreKnown f ls → VariablesAreKnown (without_variable v f) ls
   literals_still [] n h = tt
   literals_still (l ∷ ls) n h = let p = or_parts (eqb (variable l) v) (mentions ls v) n in (still (variable l) p.0 h.0, literals_still ls p.1 h.1)
 
-  clauses_still : (cs : List StoredClause) → list_any (λ c. mentions c.literals v) cs ≡ false → AllByRecursion (AllKnown f) (literals_of cs) → AllByRecursion (AllKnown (without_variable v f)) (literals_of cs)
+  clauses_still : (cs : List StoredClause) → list_any (λ c. mentions c.literals v) cs ≡ false → AllByRecursion (VariablesAreKnown f) (literals_of cs) → AllByRecursion (VariablesAreKnown (without_variable v f)) (literals_of cs)
   clauses_still [] n h = tt
   clauses_still (c ∷ cs) n h =
       let p = or_parts (mentions c.literals v) (list_any (λ d. mentions d.literals v) cs) n in (literals_still c.literals p.0 h.0, clauses_still cs p.1 h.1)
 
-  units_still : (us : List StoredUnit) → AllKnown f (map (λ u. u.literal) us) → AllKnown (without_variable v f) (map (λ u. u.literal) (filter (λ u. not (eqb (variable u.literal) v)) us))
+  units_still : (us : List StoredUnit) → VariablesAreKnown f (map (λ u. u.literal) us) → VariablesAreKnown (without_variable v f) (map (λ u. u.literal) (filter (λ u. not (eqb (variable u.literal) v)) us))
   units_still [] h = tt
   units_still (u ∷ us) h = go (units_still us h.1) (eqb (variable u.literal) v) refl
     where
-      go : AllKnown (without_variable v f) (map (λ w. w.literal) (filter (λ w. not (eqb (variable w.literal) v)) us)) → (b : Bool) → eqb (variable u.literal) v ≡ b
-          → AllKnown (without_variable v f) (map (λ w. w.literal) (cond (not b) (u ∷ filter (λ w. not (eqb (variable w.literal) v)) us) (filter (λ w. not (eqb (variable w.literal) v)) us)))
+      go : VariablesAreKnown (without_variable v f) (map (λ w. w.literal) (filter (λ w. not (eqb (variable w.literal) v)) us)) → (b : Bool) → eqb (variable u.literal) v ≡ b
+          → VariablesAreKnown (without_variable v f) (map (λ w. w.literal) (cond (not b) (u ∷ filter (λ w. not (eqb (variable w.literal) v)) us) (filter (λ w. not (eqb (variable w.literal) v)) us)))
       go ih true e = ih
       go ih false e = (still (variable u.literal) e h.0, ih)
 
-  knows_deleted : MayBeDeleted f v → KnowsAll f → KnowsAll (without_variable v f)
+  knows_deleted : CanBeDeleted f v → KnowsAll f → KnowsAll (without_variable v f)
   knows_deleted m k = record {
     clauses_known = clauses_still f.clauses m.unused k.clauses_known;
     units_known = units_still f.units k.units_known;
@@ -132,9 +132,9 @@ module _ (f : Stored) (k : KnowsAll f) where
       go false = put (knows_stored (with_literals_known clause f) false clause (knows_learned f clause k) (learned f clause))
   knows_effect (AtClause r clause hashes) a = knows_stored (with_literals_known clause f) r clause (knows_learned f clause k) (learned f clause)
   knows_effect (UnitClauses us) a = let ls : List ℕ = map (λ u. u.0) us in knows_units (with_literals_known ls f) ls (knows_learned f ls k) (learned f ls)
-  knows_effect (DeleteClause clause Redundant) a = record { clauses_known = each_without (AllKnown f) true (canonical clause) f.clauses k.clauses_known; units_known = k.units_known; assumed_known = k.assumed_known }
-  knows_effect (DeleteClause clause Simplified) a = record { clauses_known = each_without (AllKnown f) false (canonical clause) f.clauses k.clauses_known; units_known = k.units_known; assumed_known = k.assumed_known }
-  knows_effect (DeleteClause clause Satisfied) a = record { clauses_known = each_without (AllKnown f) false (canonical clause) f.clauses k.clauses_known; units_known = k.units_known; assumed_known = k.assumed_known }
+  knows_effect (DeleteClause clause Redundant) a = record { clauses_known = each_without (VariablesAreKnown f) true (canonical clause) f.clauses k.clauses_known; units_known = k.units_known; assumed_known = k.assumed_known }
+  knows_effect (DeleteClause clause Simplified) a = record { clauses_known = each_without (VariablesAreKnown f) false (canonical clause) f.clauses k.clauses_known; units_known = k.units_known; assumed_known = k.assumed_known }
+  knows_effect (DeleteClause clause Satisfied) a = record { clauses_known = each_without (VariablesAreKnown f) false (canonical clause) f.clauses k.clauses_known; units_known = k.units_known; assumed_known = k.assumed_known }
   knows_effect (ChangeHashBits bits) a = record { clauses_known = k.clauses_known; units_known = k.units_known; assumed_known = k.assumed_known }
   knows_effect (Model ls) a = knows_learned f ls k
   knows_effect (Assumptions ls) a = let m = knows_learned f ls k in record { clauses_known = m.clauses_known; units_known = m.units_known; assumed_known = learned f ls }

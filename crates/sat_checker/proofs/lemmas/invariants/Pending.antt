@@ -4,10 +4,10 @@ use Rattle.sat_base.specs.values.Literals.{negated}
 use Rattle.sat_base.specs.steps.Steps.{Simplified, Step, SolverVarName, UserVarName, DeleteVar, UnitClauses, DeleteClause, ChangeHashBits, Model, Assumptions, End}
 use Rattle.sat_checker.specs.LiteralSets.{is_among}
 use Rattle.sat_checker.specs.Propagation.{PassesCheck}
-use Rattle.sat_checker.specs.Stored.{StoredUnit, Stored, Last, NoneYet, is_unit, unit_literals, long_clauses, hash_by}
+use Rattle.sat_checker.specs.Stored.{StoredUnit, Stored, LastIrredundant, NoneYet, is_unit, unit_literals, long_clauses, clause_hash_by}
 use Rattle.sat_checker.specs.Storing.{with_contradiction, with_new_unit, with_unit, settled_by, last_literals}
-use Rattle.sat_checker.specs.Accepts.{PassesByHashes, PassInTurn, IsStrictSubset, Accepts}
-use Rattle.sat_checker.specs.Invariants.{PendingChangesNothing}
+use Rattle.sat_checker.specs.Accepts.{PassesByHashes, UnitsPassInTurn, IsStrictSubset, Accepts}
+use Rattle.sat_checker.specs.Invariants.{PendingConflictIsIgnored}
 
 -- both states agree on everything that the check of a clause uses
 record Alike (f g : Stored) : Type 0 where
@@ -36,7 +36,7 @@ alike_unit f g l a = go (is_unit f l) (is_unit g l) (ap (λ us. is_among us l) a
     go false false x false false y = record { clauses = a.clauses; units = pushed; names = a.names; width = a.width }
 
 abbrev PassesUnder : (ℕ → Option ℕ) → ℕ → List (List ℕ) → List ℕ → List ℕ → List ℕ → Type 0
-PassesUnder names width clauses units clause hashes = PassesCheck units clause (map (λ h. filter (λ c. eqb (hash_by names width c) h) clauses) hashes)
+PassesUnder names width clauses units clause hashes = PassesCheck units clause (map (λ h. filter (λ c. eqb (clause_hash_by names width c) h) clauses) hashes)
 
 pass_alike : (f g : Stored) (clause hashes : List ℕ) → Alike f g → PassesByHashes f clause hashes → PassesByHashes g clause hashes
 pass_alike f g clause hashes a p =
@@ -45,11 +45,11 @@ pass_alike f g clause hashes a p =
     (subst (λ x. PassesUnder f.solver_names f.width x (unit_literals g) clause hashes) (sym a.clauses)
     (subst (λ x. PassesUnder f.solver_names f.width (long_clauses f) x clause hashes) (sym a.units) p)))
 
-turns_alike : (us : List (ℕ × ℕ)) (f g : Stored) → Alike f g → PassInTurn f us → PassInTurn g us
+turns_alike : (us : List (ℕ × ℕ)) (f g : Stored) → Alike f g → UnitsPassInTurn f us → UnitsPassInTurn g us
 turns_alike [] f g a p = tt
 turns_alike (u ∷ us) f g a p = (pass_alike f g (u.0 ∷ []) (u.1 ∷ []) a p.0, turns_alike us (with_unit u.0 f) (with_unit u.0 g) (alike_unit f g u.0 a) p.1)
 
-last_alike : (last : Last) (f : Stored) (conflict : Option (ℕ × ℕ)) (next : ℕ) → last_literals last (record f { conflict = conflict; next_id = next }) ≡ last_literals last f
+last_alike : (last : LastIrredundant) (f : Stored) (conflict : Option (ℕ × ℕ)) (next : ℕ) → last_literals last (record f { conflict = conflict; next_id = next }) ≡ last_literals last f
 last_alike NoneYet f c n = refl
 last_alike e f c n = refl
 
@@ -66,7 +66,7 @@ other f c d n m (Assumptions ls) a = tt
 other f c d n m End a = tt
 other f c d n m step a = a
 
-pub pending_changes_nothing : PendingChangesNothing
+pub pending_changes_nothing : PendingConflictIsIgnored
 pending_changes_nothing f step = go f.conflict refl
   where
     go : (o : Option (ℕ × ℕ)) → f.conflict ≡ o → Accepts f step ↔ Accepts (settled_by o f) step

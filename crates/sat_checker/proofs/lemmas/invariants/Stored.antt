@@ -4,10 +4,10 @@ use Rattle.sat_base.specs.values.Literals.{negated}
 use Rattle.sat_base.specs.steps.Steps.{Redundant, SolverVarName, UserVarName, AddClause, AtClause, UnitClauses, DeleteClause}
 use Rattle.sat_checker.specs.LiteralSets.{is_tautology, canonical, same_literals}
 use Rattle.sat_checker.specs.Stored.{Stored, is_unit}
-use Rattle.sat_checker.specs.Storing.{clause_with, irredundant_count, redundant_count, with_contradiction, with_new_unit, with_unit, with_units, with_set, with_canonical, with_stored, with_input, with_literals_known}
+use Rattle.sat_checker.specs.Storing.{clause_with, irredundant_count, redundant_count, with_contradiction, with_new_unit, with_unit, with_units, with_sorted_set, with_canonical, with_stored, with_input, with_literals_known}
 use Rattle.sat_checker.specs.Accepts.{stored_after}
 use Rattle.sat_checker.specs.Contents.{count_of}
-use Rattle.sat_checker.specs.Invariants.{StoredInvariantHolds, UnsatStays, AllClausesHold, TakingCounts, CountedIsStored}
+use Rattle.sat_checker.specs.Invariants.{StoredInvariantHolds, UnsatIsPermanent, AllClausesHold, RemovalLowersCount, StoredIffCounted}
 use Rattle.sat_checker.proofs.lemmas.meaning.Meaning.{means_ready}
 use Rattle.sat_checker.proofs.lemmas.meaning.Orderly.{orderly_settled}
 use Rattle.sat_checker.proofs.lemmas.meaning.OrderlySteps.{orderly}
@@ -35,10 +35,10 @@ always_tidy steps ok =
 pub all_clauses_hold : AllClausesHold
 all_clauses_hold steps a ok h = let m = means_ready steps ok in m.coherent.follows a (m.to a h)
 
-pub taking_counts : TakingCounts
+pub taking_counts : RemovalLowersCount
 taking_counts redundant side set other cs once = count_less redundant side set other cs once
 
-pub counted_is_stored : CountedIsStored
+pub counted_is_stored : StoredIffCounted
 counted_is_stored set [] h = ((λ e. refl), (λ e. refl))
 counted_is_stored set (c ∷ cs) h = go (counted_is_stored set cs h.1) (same_literals c.literals set)
   where
@@ -60,7 +60,7 @@ unsat_units : (ls : List ℕ) (f : Stored) → f.unsat ≡ true → (with_units 
 unsat_units [] f h = h
 unsat_units (l ∷ ls) f h = unsat_units ls (with_unit l f) (unsat_unit l f h)
 
-unsat_set : (r : Bool) (set : List ℕ) (f : Stored) → f.unsat ≡ true → (with_set r set f).unsat ≡ true
+unsat_set : (r : Bool) (set : List ℕ) (f : Stored) → f.unsat ≡ true → (with_sorted_set r set f).unsat ≡ true
 unsat_set r [] f h = refl
 unsat_set r (l ∷ []) f h = unsat_unit l f h
 unsat_set r (l ∷ m ∷ ls) f h = h
@@ -76,7 +76,7 @@ unsat_stored r clause f h = go (is_tautology clause)
     go true = h
     go false = put r
 
-pub unsat_stays : UnsatStays
+pub unsat_stays : UnsatIsPermanent
 unsat_stays f (SolverVarName v None) h = h
 unsat_stays f (UserVarName v (Some name)) h = h
 unsat_stays f (AddClause clause) h = go f.unsat

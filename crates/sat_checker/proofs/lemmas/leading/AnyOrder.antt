@@ -7,7 +7,7 @@ use Rattle.sat_base.specs.values.Hashes.{literal_hash, hash_of}
 use Rattle.sat_checker.specs.LiteralSets.{is_among, with_literal, canonical}
 use Rattle.sat_checker.specs.SortedSets.{NoRepeats}
 use Rattle.sat_checker.specs.Stored.{solver_literal}
-use Rattle.sat_checker.specs.Leading.{HashOfAnyOrder}
+use Rattle.sat_checker.specs.ConflictPropagation.{HashIgnoresOrder}
 use Rattle.sat_checker.proofs.lemmas.sets.Canonical.{canonical_among}
 
 swap_hashes : (a b c : ℕ) → bit_xor a (bit_xor b c) ≡ bit_xor b (bit_xor a c)
@@ -29,5 +29,5 @@ hash_sorted : (g : ℕ → ℕ) (ls : List ℕ) → NoRepeats ls → hash_of (ma
 hash_sorted g [] h = refl
 hash_sorted g (l ∷ ls) h = hash_put g l (canonical ls) (canonical_among ls l ∙ h.0) ∙ ap (bit_xor (literal_hash (g l))) (hash_sorted g ls h.1)
 
-pub hash_any_order : HashOfAnyOrder
+pub hash_any_order : HashIgnoresOrder
 hash_any_order names width ls h = ap (λ n. n / 2 ^ (64 - width)) (hash_sorted (solver_literal names) ls h)

@@ -6,9 +6,9 @@ use Rattle.std.specs.List.{AllByRecursion}
 use Rattle.sat_base.specs.values.Literals.{negated}
 use Rattle.sat_checker.specs.LiteralSets.{canonical, same_literals}
 use Rattle.sat_checker.specs.Propagation.{IsSubsequence, BucketsConflict, clauses_in, conflict}
-use Rattle.sat_checker.specs.Stored.{StoredClause, Stored, unit_literals, long_clauses, hash_by, bucket}
+use Rattle.sat_checker.specs.Stored.{StoredClause, Stored, unit_literals, long_clauses, clause_hash_by, bucket}
 use Rattle.sat_checker.specs.Storing.{clause_with}
-use Rattle.sat_checker.specs.Leading.{PropagatesToConflict, AreStoredByHash, stored_rup_assumptions, LeadingPasses}
+use Rattle.sat_checker.specs.ConflictPropagation.{PropagatesToConflict, AreStoredByHash, stored_rup_assumptions, PropagatingPasses}
 use Rattle.sat_checker.proofs.lemmas.sets.Order.{among-append}
 use Rattle.sat_checker.proofs.lemmas.meaning.Clauses.{same}
 use Rattle.sat_checker.proofs.lemmas.leading.AnyOrder.{hash_any_order}
@@ -49,8 +49,8 @@ has_found set (c ∷ cs) n = go (has_found set cs) (same_literals c.literals set
     go ih true e k = inl (sym (same c.literals set e))
     go ih false e k = inr (ih k)
 
-in_bucket : (f : Stored) (set : List ℕ) (h : ℕ) → Has set (long_clauses f) → hash_by f.solver_names f.width set ≡ h → Has set (bucket f h)
-in_bucket f set h k e = has_filter (λ c. eqb (hash_by f.solver_names f.width c) h) set (long_clauses f) k (eq-eqb (hash_by f.solver_names f.width set) h e)
+in_bucket : (f : Stored) (set : List ℕ) (h : ℕ) → Has set (long_clauses f) → clause_hash_by f.solver_names f.width set ≡ h → Has set (bucket f h)
+in_bucket f set h k e = has_filter (λ c. eqb (clause_hash_by f.solver_names f.width c) h) set (long_clauses f) k (eq-eqb (clause_hash_by f.solver_names f.width set) h e)
 
 from_bucket : (x : List ℕ) (b xs ys : List (List ℕ)) → Has x b → IsSubsequence xs ys → IsSubsequence (x ∷ xs) (b ++ ys)
 from_bucket x [] xs ys h s = absurd h
@@ -103,5 +103,5 @@ lead_to_conflict f clause hashes named n lead =
       conflict = r.conflict;
     }
 
-pub leading_passes : LeadingPasses
+pub leading_passes : PropagatingPasses
 leading_passes f clause hashes named n lead = conflict (lead_to_conflict f clause hashes named n lead)

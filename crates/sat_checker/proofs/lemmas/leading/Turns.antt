@@ -5,7 +5,7 @@ use Rattle.std.specs.List.{AllByRecursion}
 use Rattle.sat_base.specs.values.Literals.{negated}
 use Rattle.sat_checker.specs.LiteralSets.{is_among, canonical}
 use Rattle.sat_checker.specs.Propagation.{IsFalsified, UnitInTurn, IsSubsequence}
-use Rattle.sat_checker.specs.Leading.{PropagatesToConflict, TurnsLead, TurnsConflict, LeadsOnMore}
+use Rattle.sat_checker.specs.ConflictPropagation.{PropagatesToConflict, UnitInTurnPropagates, UnitInTurnConflicts, PropagatesOnMore}
 use Rattle.sat_checker.proofs.lemmas.sets.Canonical.{canonical_among}
 use Rattle.sat_checker.proofs.lemmas.sets.Members.{canonical_each}
 use Rattle.sat_checker.proofs.lemmas.propagation.Soundness.{conflict_never}
@@ -75,12 +75,12 @@ sorted_lead (c ∷ d ∷ cs) holds h =
     (h.0, canonical_each (λ l. (l ≡ h.0) ⊎ (holds (negated l) ≡ true)) c h.1, canonical_among c h.0 ∙ h.2, sorted_lead (d ∷ cs) (λ l. eqb h.0 l || holds l) h.3)
 
 -- clauses that are unit in turn lead to a conflict
-pub turns_lead : TurnsLead
+pub turns_lead : UnitInTurnPropagates
 turns_lead assumed [] h = h
 turns_lead assumed (c ∷ []) h = h
 turns_lead assumed (c ∷ d ∷ cs) h = (h.0, h.1.others, h.1.within, turns_lead (h.0 ∷ assumed) (d ∷ cs) h.2)
 
-pub turns_conflict : TurnsConflict
+pub turns_conflict : UnitInTurnConflicts
 turns_conflict a assumed clauses u t h = conflict_never a assumed clauses t h u
 
 -- MORE ASSUMED LITERALS
@@ -93,7 +93,7 @@ others_more : (p q : ℕ → Bool) (o : ℕ) → ((l : ℕ) → p l ≡ true →
 others_more p q o m [] h = tt
 others_more p q o m (l ∷ ls) h = (elim h.0 [ inl e ↦ inl e | inr k ↦ inr (m (negated l) k) ], others_more p q o m ls h.1)
 
-pub leads_on_more : LeadsOnMore
+pub leads_on_more : PropagatesOnMore
 leads_on_more [] p q m h = h
 leads_on_more (c ∷ []) p q m h = all_more p q m c h
 leads_on_more (c ∷ d ∷ cs) p q m h = (

@@ -5,7 +5,7 @@ use Rattle.std.proofs.lemmas.List.Elements.{all_zip_more}
 use Rattle.std.proofs.lemmas.Grind.{drop_more_same}
 use Rattle.std.proofs.Math.Seq.{split_at, take-append_seam}
 use Rattle.anyhow.specs.declared.error.Error.{Error}
-use Rattle.sat_checker.specs.listeners.Notifying.{AllNotified, SomeNotified}
+use Rattle.sat_checker.specs.listeners.Notifying.{AllNotified, NotifiedUpToFault}
 
 seen : {B : Type 0} (l : List B) (i : ℕ) (x : B) → get_or l i x ≡ get_or (drop i l) 0 x
 seen l i x = sym (get_or-drop i l 0 x ∙ ap (λ k. get_or l k x) (add-zero i))
@@ -22,7 +22,7 @@ module _ {B : Type 0} (Called : Result Unit Error → B → B → Type 0) (xs ys
   pub rest_more : drop (i + 1) (set ys i y) ≡ drop (i + 1) xs
   rest_more = let lt : i < i + 1 = omega arith in drop-set-lt (i + 1) ys i y lt ∙ drop_more_same ys xs i rest
 
-  pub failed_there : (cause : Error) → Called (Err cause) x y → SomeNotified Called cause xs (set ys i y)
+  pub failed_there : (cause : Error) → Called (Err cause) x y → NotifiedUpToFault Called cause xs (set ys i y)
   failed_there cause h =
       let inside : i < length xs = omega arith in
       let at_x : x ≡ get_or xs i x = same_read xs ys i x rest read in
@@ -45,8 +45,8 @@ module _ {A : Type 0} (n : ℕ) (before seen after : List A) (whole : seen ≡ b
   refilled : after ≡ take n (after ++ drop (length after) before)
   refilled = sym (take-append_seam after (drop (length after) before)) ∙ ap (λ k. take k (after ++ drop (length after) before)) same
 
-  pub some_refilled : (Called : Result Unit Error → A → A → Type 0) (cause : Error) → SomeNotified Called cause seen after → SomeNotified Called cause before (take n (after ++ drop (length after) before))
-  some_refilled Called cause h = subst (λ xs. SomeNotified Called cause xs (take n (after ++ drop (length after) before))) whole (subst (λ ys. SomeNotified Called cause seen ys) refilled h)
+  pub some_refilled : (Called : Result Unit Error → A → A → Type 0) (cause : Error) → NotifiedUpToFault Called cause seen after → NotifiedUpToFault Called cause before (take n (after ++ drop (length after) before))
+  some_refilled Called cause h = subst (λ xs. NotifiedUpToFault Called cause xs (take n (after ++ drop (length after) before))) whole (subst (λ ys. NotifiedUpToFault Called cause seen ys) refilled h)
 
   pub refilled_by : (P : List A → List A → Type 0) → P seen after → P before (take n (after ++ drop (length after) before))
   refilled_by P h = subst (λ xs. P xs (take n (after ++ drop (length after) before))) whole (subst (λ ys. P seen ys) refilled h)

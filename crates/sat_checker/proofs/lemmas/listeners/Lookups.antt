@@ -7,7 +7,7 @@ use Rattle.sat_checker.specs.LiteralSets.{is_among}
 use Rattle.sat_checker.specs.Stored.{Variable, Stored}
 use Rattle.sat_checker.specs.Storing.{with_literals_known, with_input}
 use Rattle.sat_checker.specs.Accepts.{effect}
-use Rattle.sat_checker.specs.inner.NotifyingSteps.{changed_by, put_back}
+use Rattle.sat_checker.specs.inner.NotifyingSteps.{changed_by, with_earlier_data}
 use Rattle.sat_checker.proofs.lemmas.meaning.Names.{stored_same, units_same}
 
 -- the same name and mode
@@ -36,7 +36,7 @@ over : (g h k : ℕ → Variable) (v : ℕ) → k ≡ h → Alike (h v) (g v) �
 over g h k v e a = record { name = ap (λ (z : ℕ → Variable). (z v).name) e ∙ a.name; mode = ap (λ (z : ℕ → Variable). (z v).mode) e ∙ a.mode }
 
 -- a step changes name and mode only of the variable that `changed_by` gives
-pub steps_alike : (step : Step) (f : Stored) (v : ℕ) → Alike (put_back (changed_by f.variables step) (effect step f).variables v) (f.variables v)
+pub steps_alike : (step : Step) (f : Stored) (v : ℕ) → Alike (with_earlier_data (changed_by f.variables step) (effect step f).variables v) (f.variables v)
 steps_alike (SolverVarName w (Some name)) f v = known_alike (w ∷ []) f.variables v
 steps_alike (UserVarName w (Some name)) f v = at_itself f.variables (effect (UserVarName w (Some name)) f).variables v w _ (λ u. refl)
 steps_alike (UserVarName w None) f v = at_itself f.variables (effect (UserVarName w None) f).variables v w _ (λ u. refl)

@@ -4,9 +4,9 @@ use Rattle.std.proofs.lemmas.List.{drop_more}
 use Rattle.sat_base.specs.values.Literals.{negated}
 use Rattle.sat_checker.specs.Stored.{Stored, is_unit}
 use Rattle.sat_checker.specs.Storing.{clause_with, with_unit, with_contradiction, with_new_unit}
-use Rattle.sat_checker.specs.announcements.Announcements.{derived, derived_units}
+use Rattle.sat_checker.specs.announcements.Announcements.{announced_derived, announced_derived_units}
 use Rattle.sat_checker.specs.inner.FormulaView.{RepresentsFormula}
-use Rattle.sat_checker.specs.listeners.AnnouncingView.{AreLong}
+use Rattle.sat_checker.specs.listeners.AnnouncingView.{HasNoStoredUnitClause}
 use Rattle.sat_checker.specs.listeners.NotedView.{AppendsAnnouncements}
 use Rattle.sat_checker.specs.declared.formula.Formula.{Formula}
 use Rattle.sat_checker.specs.declared.announce.notes.Notes.{Notes}
@@ -17,9 +17,9 @@ use Rattle.sat_checker.proofs.lemmas.listeners.Noting.{none_following}
 pub record Noted (F : Formula) (f : Stored) (all left : List (ℕ × ℕ)) (before notes : Notes) : Type 0 where
   pub now : Stored
   pub kept : RepresentsFormula F now
-  pub long : AreLong now
-  pub hears : notes.hears ≡ before.hears
-  pub reported : IsTrue before.hears → notes.news ++ derived_units left now ≡ before.news ++ derived_units all f
+  pub long : HasNoStoredUnitClause now
+  pub listening : notes.listening ≡ before.listening
+  pub reported : IsTrue before.listening → notes.news ++ announced_derived_units left now ≡ before.news ++ announced_derived_units all f
 
 clauses_stay : (l : ℕ) (f : Stored) → (with_unit l f).clauses ≡ f.clauses
 clauses_stay l f = go (is_unit f l) (is_unit f (negated l))
@@ -30,23 +30,23 @@ clauses_stay l f = go (is_unit f l) (is_unit f (negated l))
     go false false = refl
 
 -- the announcements of the next unit are noted
-pub noted_more : (F : Formula) (f : Stored) (all : List (ℕ × ℕ)) (i : ℕ) (u : ℕ × ℕ) (inside : i < length all) (is : u ≡ get_or all i u) (before notes : Notes) (noted : Noted F f all (drop i all) before notes) (G : Formula) (more : Notes) → more.hears ≡ notes.hears
-    → AppendsAnnouncements notes (derived false (u.0 ∷ []) (u.1 ∷ []) noted.now) more → RepresentsFormula G (with_unit u.0 noted.now) → Noted G f all (drop (i + 1) all) before more
+pub noted_more : (F : Formula) (f : Stored) (all : List (ℕ × ℕ)) (i : ℕ) (u : ℕ × ℕ) (inside : i < length all) (is : u ≡ get_or all i u) (before notes : Notes) (noted : Noted F f all (drop i all) before notes) (G : Formula) (more : Notes) → more.listening ≡ notes.listening
+    → AppendsAnnouncements notes (announced_derived false (u.0 ∷ []) (u.1 ∷ []) noted.now) more → RepresentsFormula G (with_unit u.0 noted.now) → Noted G f all (drop (i + 1) all) before more
 noted_more F f all i u inside is before notes noted G more h e k = record {
   now = with_unit u.0 noted.now;
   kept = k;
   long = λ l. ap (clause_with (l ∷ [])) (clauses_stay u.0 noted.now) ∙ noted.long l;
-  hears = h ∙ noted.hears;
+  listening = h ∙ noted.listening;
   reported = λ t.
-      ap (λ x. x ++ derived_units (drop (i + 1) all) (with_unit u.0 noted.now)) (e (noted.hears ∙ t))
-      ∙ append_assoc notes.news (derived false (u.0 ∷ []) (u.1 ∷ []) noted.now) (derived_units (drop (i + 1) all) (with_unit u.0 noted.now))
-      ∙ ap (λ us. notes.news ++ derived_units us noted.now) (sym (drop_more all i u inside ∙ ap (λ x. x ∷ drop (i + 1) all) (sym is)))
+      ap (λ x. x ++ announced_derived_units (drop (i + 1) all) (with_unit u.0 noted.now)) (e (noted.listening ∙ t))
+      ∙ append_assoc notes.news (announced_derived false (u.0 ∷ []) (u.1 ∷ []) noted.now) (announced_derived_units (drop (i + 1) all) (with_unit u.0 noted.now))
+      ∙ ap (λ us. notes.news ++ announced_derived_units us noted.now) (sym (drop_more all i u inside ∙ ap (λ x. x ∷ drop (i + 1) all) (sym is)))
       ∙ noted.reported t;
 }
 
 -- no unit remains
-pub noted_all : (F : Formula) (f : Stored) (all : List (ℕ × ℕ)) (i : ℕ) (before notes : Notes) → length all ≤ i → Noted F f all (drop i all) before notes → AppendsAnnouncements before (derived_units all f) notes
-noted_all F f all i before notes l noted = λ t. sym (none_following notes.news) ∙ ap (λ us. notes.news ++ derived_units us noted.now) (sym (past all i l)) ∙ noted.reported t
+pub noted_all : (F : Formula) (f : Stored) (all : List (ℕ × ℕ)) (i : ℕ) (before notes : Notes) → length all ≤ i → Noted F f all (drop i all) before notes → AppendsAnnouncements before (announced_derived_units all f) notes
+noted_all F f all i before notes l noted = λ t. sym (none_following notes.news) ∙ ap (λ us. notes.news ++ announced_derived_units us noted.now) (sym (past all i l)) ∙ noted.reported t
   where
     past : (xs : List (ℕ × ℕ)) (i : ℕ) → length xs ≤ i → drop i xs ≡ []
     past [] zero l = refl

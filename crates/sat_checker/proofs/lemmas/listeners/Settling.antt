@@ -4,7 +4,7 @@ use Rattle.sat_base.specs.steps.Steps.{Step, End}
 use Rattle.sat_checker.specs.Stored.{Stored}
 use Rattle.sat_checker.specs.Storing.{with_conflict_settled, settled_by}
 use Rattle.sat_checker.specs.Accepts.{stored_after, ready_after}
-use Rattle.sat_checker.specs.KernelView.{KeepsAfter}
+use Rattle.sat_checker.specs.KernelView.{RepresentsStoredAfter}
 use Rattle.sat_checker.specs.inner.FormulaView.{StoredStatus}
 use Rattle.sat_checker.specs.declared.kernel.Kernel.{Kernel}
 use Rattle.sat_checker.specs.declared.state.CheckerState.{CheckerState}
@@ -34,7 +34,7 @@ is_none_none (Some units) e = absurd (let d : true ≡ false = e in cc)
 pub end_settled : (steps : List Step) → (stored_after (End ∷ steps)).conflict ≡ None
 end_settled steps = settled_none (stored_after steps)
 
-module _ (k : Kernel) (steps : List Step) (kept : KeepsAfter k.state steps) where
+module _ (k : Kernel) (steps : List Step) (kept : RepresentsStoredAfter k.state steps) where
   pub conflict_of : k.state.formula.status.conflict ≡ kept.formula.conflict
   conflict_of = ap (λ (s : StoredStatus). s.conflict) kept.keeps.formula.status
 
@@ -59,7 +59,7 @@ module _ (k : Kernel) (steps : List Step) (kept : KeepsAfter k.state steps) wher
   ]
 
 -- once settled, the stored formula is the one that checks the next step
-pub ready_of : (state : CheckerState) (steps : List Step) (kept : KeepsAfter state steps) → with_conflict_settled kept.formula ≡ ready_after steps
+pub ready_of : (state : CheckerState) (steps : List Step) (kept : RepresentsStoredAfter state steps) → with_conflict_settled kept.formula ≡ ready_after steps
 ready_of state steps kept = elim kept.left [
   | inl e ↦ ap with_conflict_settled e
   | inr e ↦ ap with_conflict_settled e ∙ settled_already (ready_after steps) (settled_none (stored_after steps))

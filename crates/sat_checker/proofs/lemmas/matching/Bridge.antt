@@ -3,13 +3,13 @@ use Rattle.std.proofs.Common.{ℕ, ◌+◌, ◌/◌, ◌<◌, ◌≡◌, Bool, t
 use Rattle.std.proofs.lemmas.Bool.{both_ways, eqb-true, eqb-false, eq-eqb, ne_eqb}
 use Rattle.std.specs.List.{AllByRecursion}
 use Rattle.sat_base.specs.values.Literals.{mk_lit}
-use Rattle.sat_base.specs.values.Clauses.{Valuation, literal_true, clause_true, flipped, EachTrue}
+use Rattle.sat_base.specs.values.Clauses.{Valuation, literal_true, clause_true, flipped, AllLitsTrue}
 use Rattle.sat_base.specs.script.Script.{Literal, Among}
 use Rattle.sat_base.specs.script.ScriptState.{ScriptState, Named, identity_in, identity_of, identity_lit, with_name, without_name, with_clause, initial_state}
 use Rattle.sat_base.specs.steps.Steps.{Step, UserVarName, AddClause, DeleteVar}
 use Rattle.sat_checker.specs.Fold.{Holds}
-use Rattle.sat_checker.specs.matching.Checking.{is_variable, variable_of, CheckerRules, IsSound}
-use Rattle.sat_checker.specs.matching.Expected.{Spells, EachSpelt, SameSet}
+use Rattle.sat_checker.specs.matching.Checking.{is_variable, variable_named, CheckerRules, IsSound}
+use Rattle.sat_checker.specs.matching.Expected.{IsLiteralOf, EachHasItsLiteral, IsSameLiteralSet}
 use Rattle.sat_checker.specs.matching.Bridge.{LiveVariables, AgreesOnLive, AreDistinctVariables, IsBridge}
 use Rattle.sat_base.proofs.lemmas.script.LiteralValues.{coded_half, literal_same, among_true, some_true, some_mapped, among_mapped, all_at, all_map, updated, Below, updated_clauses, placed_found, removed_found, removed_gone}
 
@@ -29,32 +29,32 @@ begun k = record {
 
 -- a literal and its identity have the same value
 module _ (k : CheckerRules) (j : ScriptState) (earlier : List Step) (live : LiveVariables) (bridge : IsBridge k j earlier live) (a b : Valuation) (agrees : AgreesOnLive live a b) where
-  pub value : (l : Literal) (code : ℕ) → Spells (variable_of earlier) l code → literal_true a code ≡ literal_true b (identity_lit j l)
+  pub value : (l : Literal) (code : ℕ) → IsLiteralOf (variable_named earlier) l code → literal_true a code ≡ literal_true b (identity_lit j l)
   value l code s =
       let p = bridge.named l.name s.variable s.named in
       let e : a s.variable ≡ b p.0 = all_at (λ q. a q.0 ≡ b q.1) (s.variable, p.0) live agrees p.2 in
       let o : identity_lit j l ≡ mk_lit p.0 l.positive = ap (λ x. mk_lit (unwrap_or x 0) l.positive) p.1 in
       ap (literal_true a) s.is ∙ literal_same a b s.variable p.0 l.positive e ∙ sym (ap (literal_true b) o)
 
-  pub clause_to : (ls : List Literal) (c : List ℕ) → SameSet (variable_of earlier) ls c → clause_true a c ≡ true → clause_true b (map (identity_lit j) ls) ≡ true
+  pub clause_to : (ls : List Literal) (c : List ℕ) → IsSameLiteralSet (variable_named earlier) ls c → clause_true a c ≡ true → clause_true b (map (identity_lit j) ls) ≡ true
   clause_to ls c same t =
       let x = some_true a c t in
-      let l = all_at (λ code. (l : Literal) × Spells (variable_of earlier) l code × Among l ls) x.0 c same.1 x.1 in
+      let l = all_at (λ code. (l : Literal) × IsLiteralOf (variable_named earlier) l code × Among l ls) x.0 c same.1 x.1 in
       among_true b (identity_lit j l.0) (map (identity_lit j) ls) (among_mapped (identity_lit j) l.0 ls l.2) (sym (value l.0 x.0 l.1) ∙ x.2)
 
-  pub clause_back : (ls : List Literal) (c : List ℕ) → EachSpelt (variable_of earlier) ls c → clause_true b (map (identity_lit j) ls) ≡ true → clause_true a c ≡ true
+  pub clause_back : (ls : List Literal) (c : List ℕ) → EachHasItsLiteral (variable_named earlier) ls c → clause_true b (map (identity_lit j) ls) ≡ true → clause_true a c ≡ true
   clause_back ls c spelt t =
       let l = some_mapped b (identity_lit j) ls t in
-      let x = all_at (λ l. (code : ℕ) × Spells (variable_of earlier) l code × Among code c) l.0 ls spelt l.1 in
+      let x = all_at (λ l. (code : ℕ) × IsLiteralOf (variable_named earlier) l code × Among code c) l.0 ls spelt l.1 in
       among_true a x.0 c x.2 (value l.0 x.0 x.1 ∙ l.2)
 
   -- if the literals of the model are true, so are those of its line
-  pub line_true : (ls : List Literal) (c : List ℕ) → EachSpelt (variable_of earlier) ls c → EachTrue a c → AllByRecursion (λ l. literal_true b (identity_lit j l) ≡ true) ls
-  line_true ls c spelt t = all_map (λ l. (code : ℕ) × Spells (variable_of earlier) l code × Among code c) (λ l. literal_true b (identity_lit j l) ≡ true) ls
+  pub line_true : (ls : List Literal) (c : List ℕ) → EachHasItsLiteral (variable_named earlier) ls c → AllLitsTrue a c → AllByRecursion (λ l. literal_true b (identity_lit j l) ≡ true) ls
+  line_true ls c spelt t = all_map (λ l. (code : ℕ) × IsLiteralOf (variable_named earlier) l code × Among code c) (λ l. literal_true b (identity_lit j l) ≡ true) ls
       (λ l x. sym (value l x.0 x.1) ∙ all_at (λ y. literal_true a y ≡ true) x.0 c t x.2) spelt
 
-  pub core_true : (ls : List Literal) (c : List ℕ) → SameSet (variable_of earlier) ls c → AllByRecursion (λ l. literal_true b (identity_lit j l) ≡ true) ls → EachTrue a c
-  core_true ls c same t = all_map (λ code. (l : Literal) × Spells (variable_of earlier) l code × Among l ls) (λ y. literal_true a y ≡ true) c
+  pub core_true : (ls : List Literal) (c : List ℕ) → IsSameLiteralSet (variable_named earlier) ls c → AllByRecursion (λ l. literal_true b (identity_lit j l) ≡ true) ls → AllLitsTrue a c
+  core_true ls c same t = all_map (λ code. (l : Literal) × IsLiteralOf (variable_named earlier) l code × Among l ls) (λ y. literal_true a y ≡ true) c
       (λ code l. value l.0 code l.1 ∙ all_at (λ l. literal_true b (identity_lit j l) ≡ true) l.0 ls t l.2) same.1
 
 -- the valuation of the live proof variables that a valuation of identities gives
@@ -142,7 +142,7 @@ module _ (k : CheckerRules) (sound : IsSound k) (j : ScriptState) (earlier : Lis
   still_known : (step : Step) → k.Accepts earlier step → ((v : ℕ) → step ≡ DeleteVar v → ⊥) → AllByRecursion (λ p. k.knows (step ∷ earlier) p.0 ≡ true) live
   still_known step acc keeps = all_map (λ p. k.knows earlier p.0 ≡ true) (λ p. k.knows (step ∷ earlier) p.0 ≡ true) live (λ p h. elim (sound.keeps earlier step p.0 acc h) [ inl t ↦ t | inr e ↦ absurd (keeps p.0 e) ]) bridge.known
 
-  pub nothing_new : (step : Step) → k.Accepts earlier step → ((v : ℕ) → step ≡ DeleteVar v → ⊥) → ((name : ℕ) → variable_of (step ∷ earlier) name ≡ variable_of earlier name) → ((a : Valuation) → Holds (step ∷ earlier) a → Holds earlier a) → ((a : Valuation) → Holds earlier a → Holds (step ∷ earlier) a) → IsBridge k j (step ∷ earlier) live
+  pub nothing_new : (step : Step) → k.Accepts earlier step → ((v : ℕ) → step ≡ DeleteVar v → ⊥) → ((name : ℕ) → variable_named (step ∷ earlier) name ≡ variable_named earlier name) → ((a : Valuation) → Holds (step ∷ earlier) a → Holds earlier a) → ((a : Valuation) → Holds earlier a → Holds (step ∷ earlier) a) → IsBridge k j (step ∷ earlier) live
   nothing_new step acc keeps names less more = record {
     accepted = (bridge.accepted, acc);
     once = bridge.once;
@@ -156,7 +156,7 @@ module _ (k : CheckerRules) (sound : IsSound k) (j : ScriptState) (earlier : Lis
     back = λ a h. more a (bridge.back a h);
   }
 
-  pub added : (ls : List Literal) (c : List ℕ) → k.Accepts earlier (AddClause c) → SameSet (variable_of earlier) ls c → IsBridge k (with_clause ls j) (AddClause c ∷ earlier) live
+  pub added : (ls : List Literal) (c : List ℕ) → k.Accepts earlier (AddClause c) → IsSameLiteralSet (variable_named earlier) ls c → IsBridge k (with_clause ls j) (AddClause c ∷ earlier) live
   added ls c acc same = record {
     accepted = (bridge.accepted, acc);
     once = bridge.once;
@@ -170,11 +170,11 @@ module _ (k : CheckerRules) (sound : IsSound k) (j : ScriptState) (earlier : Lis
     back = λ a m. (bridge.back a (m.0, m.1, m.2.1), clause_back k j earlier live bridge a m.0 m.1 ls c same.0 m.2.0);
   }
     where
-      low : (ks : List Literal) → EachSpelt (variable_of earlier) ks c → Below j.identity_count (map (identity_lit j) ks)
+      low : (ks : List Literal) → EachHasItsLiteral (variable_named earlier) ks c → Below j.identity_count (map (identity_lit j) ks)
       low [] h = tt
       low (l ∷ ks) h = (one l h.0.0 h.0.1, low ks h.1)
         where
-          one : (l : Literal) (code : ℕ) → Spells (variable_of earlier) l code → identity_lit j l / 2 < j.identity_count
+          one : (l : Literal) (code : ℕ) → IsLiteralOf (variable_named earlier) l code → identity_lit j l / 2 < j.identity_count
           one l code s =
               let p = bridge.named l.name s.variable s.named in
               let h : p.0 < j.identity_count = all_at (λ q. q.1 < j.identity_count) (s.variable, p.0) live bridge.below p.2 in
@@ -198,7 +198,7 @@ module _ (k : CheckerRules) (sound : IsSound k) (j : ScriptState) (earlier : Lis
       new : Named
       new = record { name = name; identity = j.identity_count }
 
-      found : (m w : ℕ) (b : Bool) → eqb (index + 1) m ≡ b → cond b (Some v) (variable_of earlier m) ≡ Some w → (i : ℕ) × (identity_of (with_name name j) m ≡ Some i) × Among (w, i) ((v, j.identity_count) ∷ live)
+      found : (m w : ℕ) (b : Bool) → eqb (index + 1) m ≡ b → cond b (Some v) (variable_named earlier m) ≡ Some w → (i : ℕ) × (identity_of (with_name name j) m ≡ Some i) × Among (w, i) ((v, j.identity_count) ∷ live)
       found m w true e f =
           let x : eqb name m ≡ true = eq-eqb name m (sym is ∙ eqb-true (index + 1) m e) in
           let vw : v ≡ w = cc in
@@ -208,21 +208,21 @@ module _ (k : CheckerRules) (sound : IsSound k) (j : ScriptState) (earlier : Lis
           let p = bridge.named m w f in
           (p.0, placed_found (record { name = name; identity = j.identity_count }) j.in_use m ∙ ap (λ b. cond b (Some j.identity_count) (identity_in j.in_use m)) x ∙ p.1, inr p.2)
 
-      has : (m i : ℕ) (b : Bool) → eqb name m ≡ b → cond b (Some j.identity_count) (identity_in j.in_use m) ≡ Some i → (w : ℕ) × (variable_of (UserVarName v (Some index) ∷ earlier) m ≡ Some w) × Among (w, i) ((v, j.identity_count) ∷ live)
+      has : (m i : ℕ) (b : Bool) → eqb name m ≡ b → cond b (Some j.identity_count) (identity_in j.in_use m) ≡ Some i → (w : ℕ) × (variable_named (UserVarName v (Some index) ∷ earlier) m ≡ Some w) × Among (w, i) ((v, j.identity_count) ∷ live)
       has m i true e f =
           let x : eqb (index + 1) m ≡ true = eq-eqb (index + 1) m (is ∙ eqb-true name m e) in
           let same : j.identity_count ≡ i = cc in
-          (v, ap (λ b. cond b (Some v) (variable_of earlier m)) x, inl (ap (λ y. (v, y)) (sym same)))
+          (v, ap (λ b. cond b (Some v) (variable_named earlier m)) x, inl (ap (λ y. (v, y)) (sym same)))
       has m i false e f =
           let x : eqb (index + 1) m ≡ false = ne_eqb (index + 1) m (λ y. eqb-false name m e (sym is ∙ y)) in
           let p = bridge.in_use m i f in
-          (p.0, ap (λ b. cond b (Some v) (variable_of earlier m)) x ∙ p.1, inr p.2)
+          (p.0, ap (λ b. cond b (Some v) (variable_named earlier m)) x ∙ p.1, inr p.2)
 
       -- no earlier name is on the new variable
-      fresh : (m : ℕ) → variable_of earlier m ≡ Some v → ⊥
+      fresh : (m : ℕ) → variable_named earlier m ≡ Some v → ⊥
       fresh m e = let p = bridge.named m v e in both_ways (k.knows earlier v) unknown (all_at (λ q. k.knows earlier q.0 ≡ true) (v, p.0) live bridge.known p.2)
 
-      one : (m n w : ℕ) (b : Bool) → eqb (index + 1) m ≡ b → (d : Bool) → eqb (index + 1) n ≡ d → cond b (Some v) (variable_of earlier m) ≡ Some w → cond d (Some v) (variable_of earlier n) ≡ Some w → m ≡ n
+      one : (m n w : ℕ) (b : Bool) → eqb (index + 1) m ≡ b → (d : Bool) → eqb (index + 1) n ≡ d → cond b (Some v) (variable_named earlier m) ≡ Some w → cond d (Some v) (variable_named earlier n) ≡ Some w → m ≡ n
       one m n w true x true y e f = sym (eqb-true (index + 1) m x) ∙ eqb-true (index + 1) n y
       one m n w true x false y e f = absurd (fresh n (f ∙ sym e))
       one m n w false x true y e f = absurd (fresh m (e ∙ sym f))
@@ -238,7 +238,7 @@ module _ (k : CheckerRules) (sound : IsSound k) (j : ScriptState) (earlier : Lis
           both [] x y = tt
           both (p ∷ ps) x y = (let e : eqb p.1 j.identity_count ≡ false = ne_eqb p.1 j.identity_count (λ z. let lt = y.0 in omega arith) in rw e x.0, both ps x.1 y.1)
 
-  pub unnamed : (name v : ℕ) → variable_of earlier name ≡ Some v → k.Accepts earlier (UserVarName v None) → IsBridge k (without_name name j) (UserVarName v None ∷ earlier) live
+  pub unnamed : (name v : ℕ) → variable_named earlier name ≡ Some v → k.Accepts earlier (UserVarName v None) → IsBridge k (without_name name j) (UserVarName v None ∷ earlier) live
   unnamed name v at acc = record {
     accepted = (bridge.accepted, acc);
     once = bridge.once;
@@ -252,24 +252,24 @@ module _ (k : CheckerRules) (sound : IsSound k) (j : ScriptState) (earlier : Lis
     back = bridge.back;
   }
     where
-      was : (m w : ℕ) → variable_of (UserVarName v None ∷ earlier) m ≡ Some w → (is_variable v (variable_of earlier m) ≡ false) × (variable_of earlier m ≡ Some w)
-      was m w e = go (is_variable v (variable_of earlier m)) refl e
+      was : (m w : ℕ) → variable_named (UserVarName v None ∷ earlier) m ≡ Some w → (is_variable v (variable_named earlier m) ≡ false) × (variable_named earlier m ≡ Some w)
+      was m w e = go (is_variable v (variable_named earlier m)) refl e
         where
-          go : (b : Bool) → is_variable v (variable_of earlier m) ≡ b → cond b None (variable_of earlier m) ≡ Some w → (is_variable v (variable_of earlier m) ≡ false) × (variable_of earlier m ≡ Some w)
+          go : (b : Bool) → is_variable v (variable_named earlier m) ≡ b → cond b None (variable_named earlier m) ≡ Some w → (is_variable v (variable_named earlier m) ≡ false) × (variable_named earlier m ≡ Some w)
           go true x y = absurd (cc)
           go false x y = (x, y)
 
-      found : (m w : ℕ) → variable_of (UserVarName v None ∷ earlier) m ≡ Some w → (i : ℕ) × (identity_of (without_name name j) m ≡ Some i) × Among (w, i) live
+      found : (m w : ℕ) → variable_named (UserVarName v None ∷ earlier) m ≡ Some w → (i : ℕ) × (identity_of (without_name name j) m ≡ Some i) × Among (w, i) live
       found m w e =
           let x = was m w e in
           let p = bridge.named m w x.1 in
-          let differs : (m ≡ name → ⊥) = λ y. both_ways (is_variable v (variable_of earlier m)) x.0 (ap (λ n. is_variable v (variable_of earlier n)) y ∙ ap (is_variable v) at ∙ eq-eqb v v refl) in
+          let differs : (m ≡ name → ⊥) = λ y. both_ways (is_variable v (variable_named earlier m)) x.0 (ap (λ n. is_variable v (variable_named earlier n)) y ∙ ap (is_variable v) at ∙ eq-eqb v v refl) in
           (p.0, removed_found name j.in_use m differs ∙ p.1, p.2)
 
       none_some : (i : ℕ) → (let z : Option ℕ = None in z) ≡ Some i → ⊥
       none_some i e = cc
 
-      has : (m i : ℕ) → identity_of (without_name name j) m ≡ Some i → (w : ℕ) × (variable_of (UserVarName v None ∷ earlier) m ≡ Some w) × Among (w, i) live
+      has : (m i : ℕ) → identity_of (without_name name j) m ≡ Some i → (w : ℕ) × (variable_named (UserVarName v None ∷ earlier) m ≡ Some w) × Among (w, i) live
       has m i e =
           let differs : (m ≡ name → ⊥) = λ y. none_some i (sym (removed_gone name j.in_use) ∙ ap (identity_of (without_name name j)) (sym y) ∙ e) in
           let p = bridge.in_use m i (sym (removed_found name j.in_use m differs) ∙ e) in

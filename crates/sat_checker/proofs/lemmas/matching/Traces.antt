@@ -1,18 +1,18 @@
 -- Traces that follow each other, and the trace of an ask that is closed.
 use Rattle.std.proofs.Common.{ℕ, ◌≡◌, Bool, Option, List, [], ◌∷◌, ◌++◌, refl, sym, subst}
 use Rattle.sat_base.specs.steps.Steps.{Step, Assumptions}
-use Rattle.sat_checker.specs.matching.Checking.{CheckerRules, variable_of}
-use Rattle.sat_checker.specs.matching.Expected.{Outcome, Expected, Opens, Closes, SameSet, Fits, opens, closes}
+use Rattle.sat_checker.specs.matching.Checking.{CheckerRules, variable_named}
+use Rattle.sat_checker.specs.matching.Expected.{Outcome, Expected, Opens, Closes, IsSameLiteralSet, FitsExpected, opens, closes}
 use Rattle.sat_checker.specs.matching.Traces.{HasTrace, no_step, silent, visible}
 
-none_spelt : (names : ℕ → Option ℕ) (codes : List ℕ) → SameSet names [] codes → codes ≡ []
+none_spelt : (names : ℕ → Option ℕ) (codes : List ℕ) → IsSameLiteralSet names [] codes → codes ≡ []
 none_spelt names [] h = refl
 none_spelt names (c ∷ cs) h = absurd (h.1.0.2)
 
-closing_fits : (knows : ℕ → Bool) (earlier : List Step) (e : Expected) (o : Outcome) (step : Step) → Fits knows earlier e step → e ≡ Opens [] o → Fits knows earlier Closes step
+closing_fits : (knows : ℕ → Bool) (earlier : List Step) (e : Expected) (o : Outcome) (step : Step) → FitsExpected knows earlier e step → e ≡ Opens [] o → FitsExpected knows earlier Closes step
 closing_fits knows earlier (Opens ls p) o step (opens {c = c} h) e =
     let m : ls ≡ [] = cc in
-    subst (λ ks. Fits knows earlier Closes (Assumptions ks)) (sym (none_spelt (variable_of earlier) c (subst (λ ks. SameSet (variable_of earlier) ks c) m h))) closes
+    subst (λ ks. FitsExpected knows earlier Closes (Assumptions ks)) (sym (none_spelt (variable_named earlier) c (subst (λ ks. IsSameLiteralSet (variable_named earlier) ks c) m h))) closes
 closing_fits knows earlier e o step f d = absurd (cc)
 
 module _ {k : CheckerRules} where
@@ -29,7 +29,7 @@ module _ {k : CheckerRules} where
       let hd : y ≡ x = cc in
       let tl : ys ≡ es ++ fs = cc in
       let r = apart_as es fs p tl in
-      (r.0, visible (subst (λ z. Fits (k.knows s) s z step) hd f) r.1, r.2)
+      (r.0, visible (subst (λ z. FitsExpected (k.knows s) s z step) hd f) r.1, r.2)
 
   -- a trace of two expected parts can be split between them
   pub trace_apart : (es fs : List Expected) {s t : List Step} → HasTrace k s t (es ++ fs) → (m : List Step) × HasTrace k s m es × HasTrace k m t fs

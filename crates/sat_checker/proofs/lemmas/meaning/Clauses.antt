@@ -4,10 +4,10 @@ use Rattle.std.proofs.lemmas.Bool.{and_parts, both_ways, true≢false, eqb-true}
 use Rattle.std.proofs.lemmas.Bool.Decides.{Decides-eqb}
 use Rattle.std.proofs.lemmas.Slice.Eq.{slice_eq-Decides}
 use Rattle.std.specs.List.{AllByRecursion}
-use Rattle.sat_base.specs.values.Clauses.{Valuation, literal_true, clause_true, EachHolds}
+use Rattle.sat_base.specs.values.Clauses.{Valuation, literal_true, clause_true, AllClausesTrue}
 use Rattle.sat_checker.specs.LiteralSets.{same_literals, with_literal, canonical}
 use Rattle.sat_checker.specs.Stored.{StoredClause}
-use Rattle.sat_checker.specs.Storing.{with_count, with_stored_clause, clause_with, irredundant_count, without_count, unless_gone, without_clause}
+use Rattle.sat_checker.specs.Storing.{with_count, with_stored_clause, clause_with, irredundant_count, without_count, unless_removed, without_clause}
 
 abbrev pub Kept : Valuation → List StoredClause → Type 0
 Kept a = AllByRecursion (λ c. (c.irredundant ≡ 0) ⊎ (clause_true a c.literals ≡ true))
@@ -70,12 +70,12 @@ more_kept a r id ls (c ∷ cs) h t = go r (more_kept a r id ls cs h.1 t) (same_l
     go false ih true e = (inr (subst (λ x. clause_true a x ≡ true) (sym (same c.literals ls e)) t), h.1)
     go r ih false e = (h.0, ih)
 
-pub more_true : (a : Valuation) (r : Bool) (id : ℕ) (ls : List ℕ) (cs : List StoredClause) → EachHolds a (literals_of cs) → clause_true a ls ≡ true → EachHolds a (literals_of (with_stored_clause r id ls cs))
+pub more_true : (a : Valuation) (r : Bool) (id : ℕ) (ls : List ℕ) (cs : List StoredClause) → AllClausesTrue a (literals_of cs) → clause_true a ls ≡ true → AllClausesTrue a (literals_of (with_stored_clause r id ls cs))
 more_true a true id ls [] h t = (t, tt)
 more_true a false id ls [] h t = (t, tt)
 more_true a r id ls (c ∷ cs) h t = go r (more_true a r id ls cs h.1 t) (same_literals c.literals ls)
   where
-    go : (r : Bool) → EachHolds a (literals_of (with_stored_clause r id ls cs)) → (b : Bool) → EachHolds a (literals_of (cond b (with_count r c ∷ cs) (c ∷ with_stored_clause r id ls cs)))
+    go : (r : Bool) → AllClausesTrue a (literals_of (with_stored_clause r id ls cs)) → (b : Bool) → AllClausesTrue a (literals_of (cond b (with_count r c ∷ cs) (c ∷ with_stored_clause r id ls cs)))
     go true ih true = (h.0, h.1)
     go false ih true = (h.0, h.1)
     go r ih false = (h.0, ih)
@@ -92,7 +92,7 @@ less_asks a r ls (c ∷ cs) t h = go r t (less_asks a r ls cs t) (same_literals 
     gone_too false t e true n k = (inr (subst (λ x. clause_true a x ≡ true) (sym (same c.literals ls e)) (t refl)), k)
     gone_too false t e false n k = (inr (subst (λ x. clause_true a x ≡ true) (sym (same c.literals ls e)) (t refl)), k.1)
 
-    go : (r : Bool) → (r ≡ false → clause_true a ls ≡ true) → (Kept a (without_clause r ls cs) → Kept a cs) → (b : Bool) → same_literals c.literals ls ≡ b → Kept a (cond b (unless_gone (without_count r c) ++ cs) (c ∷ without_clause r ls cs)) → Kept a (c ∷ cs)
+    go : (r : Bool) → (r ≡ false → clause_true a ls ≡ true) → (Kept a (without_clause r ls cs) → Kept a cs) → (b : Bool) → same_literals c.literals ls ≡ b → Kept a (cond b (unless_removed (without_count r c) ++ cs) (c ∷ without_clause r ls cs)) → Kept a (c ∷ cs)
     go r t ih true e k = gone_too r t e (eqb (without_count r c).irredundant 0 && eqb (without_count r c).redundant 0) refl k
     go r t ih false e k = (k.0, ih k.1)
 
@@ -105,20 +105,20 @@ less_kept a r ls (c ∷ cs) h = go r (less_kept a r ls cs h.1) (same_literals c.
     left_over true false = (h.0, h.1)
     left_over false false = (elim h.0 [ inl z ↦ inl (let k : c.irredundant ≡ 0 = z in omega arith) | inr t ↦ inr t ], h.1)
 
-    go : (r : Bool) → Kept a (without_clause r ls cs) → (b : Bool) → Kept a (cond b (unless_gone (without_count r c) ++ cs) (c ∷ without_clause r ls cs))
+    go : (r : Bool) → Kept a (without_clause r ls cs) → (b : Bool) → Kept a (cond b (unless_removed (without_count r c) ++ cs) (c ∷ without_clause r ls cs))
     go r ih true = left_over r (eqb (without_count r c).irredundant 0 && eqb (without_count r c).redundant 0)
     go r ih false = (h.0, ih)
 
-pub less_true : (a : Valuation) (r : Bool) (ls : List ℕ) (cs : List StoredClause) → EachHolds a (literals_of cs) → EachHolds a (literals_of (without_clause r ls cs))
+pub less_true : (a : Valuation) (r : Bool) (ls : List ℕ) (cs : List StoredClause) → AllClausesTrue a (literals_of cs) → AllClausesTrue a (literals_of (without_clause r ls cs))
 less_true a r ls [] h = tt
 less_true a r ls (c ∷ cs) h = go r (less_true a r ls cs h.1) (same_literals c.literals ls)
   where
-    left_over : (r : Bool) (b : Bool) → EachHolds a (literals_of (cond b [] (without_count r c ∷ []) ++ cs))
+    left_over : (r : Bool) (b : Bool) → AllClausesTrue a (literals_of (cond b [] (without_count r c ∷ []) ++ cs))
     left_over r true = h.1
     left_over true false = (h.0, h.1)
     left_over false false = (h.0, h.1)
 
-    go : (r : Bool) → EachHolds a (literals_of (without_clause r ls cs)) → (b : Bool) → EachHolds a (literals_of (cond b (unless_gone (without_count r c) ++ cs) (c ∷ without_clause r ls cs)))
+    go : (r : Bool) → AllClausesTrue a (literals_of (without_clause r ls cs)) → (b : Bool) → AllClausesTrue a (literals_of (cond b (unless_removed (without_count r c) ++ cs) (c ∷ without_clause r ls cs)))
     go r ih true = left_over r (eqb (without_count r c).irredundant 0 && eqb (without_count r c).redundant 0)
     go r ih false = (h.0, ih)
 
@@ -148,7 +148,7 @@ others_stay r ls ms (c ∷ cs) n = go r (others_stay r ls ms cs n) (same_literal
     left_over true false s = ap (λ b. cond b (Some (without_count true c)) (clause_with ls cs)) s ∙ sym (ap (λ b. cond b (Some c) (clause_with ls cs)) s)
     left_over false false s = ap (λ b. cond b (Some (without_count false c)) (clause_with ls cs)) s ∙ sym (ap (λ b. cond b (Some c) (clause_with ls cs)) s)
 
-    go : (r : Bool) → clause_with ls (without_clause r ms cs) ≡ clause_with ls cs → (b : Bool) → same_literals c.literals ms ≡ b → clause_with ls (cond b (unless_gone (without_count r c) ++ cs) (c ∷ without_clause r ms cs)) ≡ clause_with ls (c ∷ cs)
+    go : (r : Bool) → clause_with ls (without_clause r ms cs) ≡ clause_with ls cs → (b : Bool) → same_literals c.literals ms ≡ b → clause_with ls (cond b (unless_removed (without_count r c) ++ cs) (c ∷ without_clause r ms cs)) ≡ clause_with ls (c ∷ cs)
     go r ih true e = left_over r (eqb (without_count r c).irredundant 0 && eqb (without_count r c).redundant 0) (not_it e)
     go r ih false e = ap (λ o. cond (same_literals c.literals ls) (Some c) o) ih
 
@@ -163,7 +163,7 @@ irredundant_stay ls ms (c ∷ cs) n = go (irredundant_stay ls ms cs) (same_liter
     by_mark false g e true s n = subst (λ b. 0 < irredundant_count (cond b (Some (without_count true c)) (clause_with ls cs))) (sym s) n
     by_mark false g e false s n = subst (λ b. 0 < irredundant_count (cond b (Some (without_count true c)) (clause_with ls cs))) (sym s) n
 
-    go : (0 < irredundant_count (clause_with ls cs) → 0 < irredundant_count (clause_with ls (without_clause true ms cs))) → (b : Bool) → same_literals c.literals ms ≡ b → 0 < irredundant_count (clause_with ls (c ∷ cs)) → 0 < irredundant_count (clause_with ls (cond b (unless_gone (without_count true c) ++ cs) (c ∷ without_clause true ms cs)))
+    go : (0 < irredundant_count (clause_with ls cs) → 0 < irredundant_count (clause_with ls (without_clause true ms cs))) → (b : Bool) → same_literals c.literals ms ≡ b → 0 < irredundant_count (clause_with ls (c ∷ cs)) → 0 < irredundant_count (clause_with ls (cond b (unless_removed (without_count true c) ++ cs) (c ∷ without_clause true ms cs)))
     go ih true e n = by_mark (eqb c.irredundant 0 && eqb (c.redundant - 1) 0) refl e (same_literals c.literals ls) refl n
     go ih false e n = pick ih (same_literals c.literals ls) n
       where

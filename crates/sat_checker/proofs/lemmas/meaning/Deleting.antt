@@ -3,7 +3,7 @@ use Rattle.std.proofs.Common.{ℕ, ◌/◌, ◌%◌, ◌≡◌, Bool, true, fals
 use Rattle.std.proofs.lemmas.Bool.{cases_Bool, or_parts, eqb-true}
 use Rattle.std.specs.List.{list_any}
 use Rattle.sat_base.specs.values.Literals.{variable}
-use Rattle.sat_base.specs.values.Clauses.{Valuation, literal_true, clause_true, flipped, EachTrue, EachHolds}
+use Rattle.sat_base.specs.values.Clauses.{Valuation, literal_true, clause_true, flipped, AllLitsTrue, AllClausesTrue}
 use Rattle.sat_checker.specs.LiteralSets.{mentions}
 use Rattle.sat_checker.specs.Stored.{StoredClause, StoredUnit}
 use Rattle.sat_checker.specs.Accepts.{VariablesDistinct}
@@ -46,7 +46,7 @@ kept_by_flip a b v (c ∷ cs) same e h =
     let parts = or_parts (mentions c.literals v) (list_any (λ d. mentions d.literals v) cs) e in
     (elim h.0 [ inl z ↦ inl z | inr t ↦ inr (same c.literals parts.0 ∙ t) ], kept_by_flip a b v cs same parts.1 h.1)
 
-pub true_by_flip : (a b : Valuation) (v : ℕ) (cs : List StoredClause) → SameWithout v a b → IsUnused v cs → EachHolds a (literals_of cs) → EachHolds b (literals_of cs)
+pub true_by_flip : (a b : Valuation) (v : ℕ) (cs : List StoredClause) → SameWithout v a b → IsUnused v cs → AllClausesTrue a (literals_of cs) → AllClausesTrue b (literals_of cs)
 true_by_flip a b v [] same e h = tt
 true_by_flip a b v (c ∷ cs) same e h =
     let parts = or_parts (mentions c.literals v) (list_any (λ d. mentions d.literals v) cs) e in
@@ -65,36 +65,36 @@ units_of_left v (u ∷ us) = go (not (eqb (variable u.literal) v)) (units_of_lef
     go true ih = ap (λ ls. u.literal ∷ ls) ih
     go false ih = ih
 
-pub units_left : (a : Valuation) (v : ℕ) (us : List ℕ) → EachTrue a us → EachTrue a (left v us)
+pub units_left : (a : Valuation) (v : ℕ) (us : List ℕ) → AllLitsTrue a us → AllLitsTrue a (left v us)
 units_left a v [] h = tt
 units_left a v (u ∷ us) h = go (units_left a v us h.1) (not (eqb (variable u) v))
   where
-    go : EachTrue a (left v us) → (b : Bool) → EachTrue a (cond b (u ∷ left v us) (left v us))
+    go : AllLitsTrue a (left v us) → (b : Bool) → AllLitsTrue a (cond b (u ∷ left v us) (left v us))
     go ih true = (h.0, ih)
     go ih false = ih
 
-pub units_left_flipped : (a : Valuation) (v : ℕ) (us : List ℕ) → EachTrue (flipped v a) us → EachTrue a (left v us)
+pub units_left_flipped : (a : Valuation) (v : ℕ) (us : List ℕ) → AllLitsTrue (flipped v a) us → AllLitsTrue a (left v us)
 units_left_flipped a v [] h = tt
 units_left_flipped a v (u ∷ us) h = go (units_left_flipped a v us h.1) (eqb (variable u) v) refl
   where
-    go : EachTrue a (left v us) → (b : Bool) → eqb (variable u) v ≡ b → EachTrue a (cond (not b) (u ∷ left v us) (left v us))
+    go : AllLitsTrue a (left v us) → (b : Bool) → eqb (variable u) v ≡ b → AllLitsTrue a (cond (not b) (u ∷ left v us) (left v us))
     go ih true e = ih
     go ih false e = (sym (other_value a v u e) ∙ h.0, ih)
 
 -- if no unit has the variable, the units are true under both valuations
-none_of : (a : Valuation) (v : ℕ) (us : List ℕ) → mentions us v ≡ false → EachTrue a (left v us) → EachTrue a us × EachTrue (flipped v a) us
+none_of : (a : Valuation) (v : ℕ) (us : List ℕ) → mentions us v ≡ false → AllLitsTrue a (left v us) → AllLitsTrue a us × AllLitsTrue (flipped v a) us
 none_of a v [] n h = (tt, tt)
 none_of a v (u ∷ us) n h =
     let parts = or_parts (eqb (variable u) v) (mentions us v) n in
-    let k : EachTrue a (u ∷ left v us) = subst (λ b. EachTrue a (cond (not b) (u ∷ left v us) (left v us))) parts.0 h in
+    let k : AllLitsTrue a (u ∷ left v us) = subst (λ b. AllLitsTrue a (cond (not b) (u ∷ left v us) (left v us))) parts.0 h in
     let rest = none_of a v us parts.1 k.1 in
     ((k.0, rest.0), (other_value a v u parts.0 ∙ k.0, rest.1))
 
-pub units_either : (a : Valuation) (v : ℕ) (us : List ℕ) → VariablesDistinct us → EachTrue a (left v us) → EachTrue a us ⊎ EachTrue (flipped v a) us
+pub units_either : (a : Valuation) (v : ℕ) (us : List ℕ) → VariablesDistinct us → AllLitsTrue a (left v us) → AllLitsTrue a us ⊎ AllLitsTrue (flipped v a) us
 units_either a v [] p h = inl tt
 units_either a v (u ∷ us) p h = go (units_either a v us p.1) (eqb (variable u) v) refl h
   where
-    go : (EachTrue a (left v us) → EachTrue a us ⊎ EachTrue (flipped v a) us) → (b : Bool) → eqb (variable u) v ≡ b → EachTrue a (cond (not b) (u ∷ left v us) (left v us)) → EachTrue a (u ∷ us) ⊎ EachTrue (flipped v a) (u ∷ us)
+    go : (AllLitsTrue a (left v us) → AllLitsTrue a us ⊎ AllLitsTrue (flipped v a) us) → (b : Bool) → eqb (variable u) v ≡ b → AllLitsTrue a (cond (not b) (u ∷ left v us) (left v us)) → AllLitsTrue a (u ∷ us) ⊎ AllLitsTrue (flipped v a) (u ∷ us)
     go ih true e k =
         let others = none_of a v us (subst (λ x. mentions us x ≡ false) (eqb-true (variable u) v e) p.0) k in
         elim (cases_Bool (literal_true a u)) [ inl t ↦ inl (t, others.0) | inr f ↦ inr (flipped_value a v u e ∙ ap not f, others.1) ]

@@ -2,25 +2,25 @@
 use Rattle.std.proofs.Common.{ℕ, ◌+◌, ◌/◌, ◌≡◌, ◌<◌, Bool, true, false, not, cond, eqb, List, [], ◌∷◌, ◌++◌, map, Some, None, Option, refl, sym, ◌∙◌, subst, arith, ◌⊎◌, inl, inr}
 use Rattle.std.proofs.lemmas.Bool.{cases_Bool, or_cases, or_left, or_parts, both_ways, true≢false, eqb-false, ne_eqb}
 use Rattle.sat_base.specs.values.Literals.{variable, negated}
-use Rattle.sat_base.specs.values.Clauses.{Valuation, literal_true, clause_true, flipped, EachTrue, EachHolds}
+use Rattle.sat_base.specs.values.Clauses.{Valuation, literal_true, clause_true, flipped, AllLitsTrue, AllClausesTrue}
 use Rattle.sat_base.specs.steps.Steps.{Redundant, Simplified, Satisfied, Step, SolverVarName, UserVarName, DeleteVar, ChangeSamplingMode, AddClause, AtClause, UnitClauses, DeleteClause, ChangeHashBits, Model, Assumptions, FailedAssumptions, End}
 use Rattle.sat_checker.specs.LiteralSets.{is_among, mentions, is_subset_of, is_tautology, canonical}
-use Rattle.sat_checker.specs.Stored.{Stored, StoredUnit, Last, NoneYet, Empty, UnitClause, LongClause, Satisfies, is_unit, unit_literals, long_clauses}
-use Rattle.sat_checker.specs.Storing.{irredundant_count, without_clause, with_unit, with_contradiction, with_new_unit, settled_by, with_set, place_of, with_canonical, with_stored, with_input, with_units, with_literals_known, without_variable, unit_numbered, last_literals}
-use Rattle.sat_checker.specs.Accepts.{VariablesDistinct, IsStrictSubset, PassInTurn, PassesByHashes, MayBeDeleted, AcceptsAll, effect, stored_after, ready_after}
+use Rattle.sat_checker.specs.Stored.{Stored, StoredUnit, LastIrredundant, NoneYet, Empty, UnitClause, LongClause, Satisfies, is_unit, unit_literals, long_clauses}
+use Rattle.sat_checker.specs.Storing.{irredundant_count, without_clause, with_unit, with_contradiction, with_new_unit, settled_by, with_sorted_set, last_clause_or, with_canonical, with_stored, with_input, with_units, with_literals_known, without_variable, unit_with_id, last_literals}
+use Rattle.sat_checker.specs.Accepts.{VariablesDistinct, IsStrictSubset, UnitsPassInTurn, PassesByHashes, CanBeDeleted, AcceptsAll, effect, stored_after, ready_after}
 use Rattle.sat_checker.specs.Fold.{Holds}
 use Rattle.sat_checker.proofs.lemmas.sets.Subsets.{superset_true}
 use Rattle.sat_checker.proofs.lemmas.propagation.Soundness.{true_among, negated_value, unit_in_clause, tautology_true, derived_hold}
 use Rattle.sat_checker.proofs.lemmas.meaning.Clauses.{Kept, literals_of, canonical_true, more_asks, more_kept, more_true, less_asks, less_kept, less_true, counted_true, others_stay}
 use Rattle.sat_checker.proofs.lemmas.meaning.Deleting.{units_of_left, units_left, units_left_flipped, units_either, kept_by_flip, true_by_flip, to_flipped, from_flipped, apart_left}
-use Rattle.sat_checker.proofs.lemmas.meaning.Orderly.{Supported, LastHolds, Orderly, orderly_settled}
+use Rattle.sat_checker.proofs.lemmas.meaning.Orderly.{IsSatisfiedOrIrredundant, LastClauseHolds, OrderInvariant, orderly_settled}
 use Rattle.sat_checker.proofs.lemmas.meaning.OrderlySteps.{orderly, strict_differs}
 
-units_push : (a : Valuation) (us : List StoredUnit) (u : StoredUnit) → EachTrue a (map (λ w. w.literal) us) → literal_true a u.literal ≡ true → EachTrue a (map (λ w. w.literal) (us ++ u ∷ []))
+units_push : (a : Valuation) (us : List StoredUnit) (u : StoredUnit) → AllLitsTrue a (map (λ w. w.literal) us) → literal_true a u.literal ≡ true → AllLitsTrue a (map (λ w. w.literal) (us ++ u ∷ []))
 units_push a [] u h t = (t, tt)
 units_push a (w ∷ ws) u h t = (h.0, units_push a ws u h.1 t)
 
-units_pop : (a : Valuation) (us : List StoredUnit) (u : StoredUnit) → EachTrue a (map (λ w. w.literal) (us ++ u ∷ [])) → EachTrue a (map (λ w. w.literal) us) × (literal_true a u.literal ≡ true)
+units_pop : (a : Valuation) (us : List StoredUnit) (u : StoredUnit) → AllLitsTrue a (map (λ w. w.literal) (us ++ u ∷ [])) → AllLitsTrue a (map (λ w. w.literal) us) × (literal_true a u.literal ≡ true)
 units_pop a [] u h = (tt, h.0)
 units_pop a (w ∷ ws) u h = let p = units_pop a ws u h.1 in ((h.0, p.0), p.1)
 
@@ -36,7 +36,7 @@ not_true false e n = true≢false (sym e)
 
 -- storing a clause requires only that the clause is true, if it is irredundant
 module _ (f : Stored) (a : Valuation) where
-  set_asks : (r : Bool) (c : List ℕ) → Satisfies (with_set r c f) a → Satisfies f a × (r ≡ false → clause_true a c ≡ true)
+  set_asks : (r : Bool) (c : List ℕ) → Satisfies (with_sorted_set r c f) a → Satisfies f a × (r ≡ false → clause_true a c ≡ true)
   set_asks r [] s = absurd (true≢false s.consistent)
   set_asks r (l ∷ []) s = go (is_unit f l) refl (is_unit f (negated l)) s
     where
@@ -46,7 +46,7 @@ module _ (f : Stored) (a : Valuation) where
       go false e false k = let p = units_pop a f.units (record { id = f.next_id; literal = l }) k.units in (record { consistent = k.consistent; kept = k.kept; units = p.0 }, λ _. single_from a l p.1)
   set_asks r (l ∷ m ∷ ls) s = let p = more_asks a r f.next_id (l ∷ m ∷ ls) f.clauses s.kept in (record { consistent = s.consistent; kept = p.0; units = s.units }, p.1)
 
-  set_holds : (r : Bool) (c : List ℕ) → Satisfies f a → clause_true a c ≡ true → Satisfies (with_set r c f) a
+  set_holds : (r : Bool) (c : List ℕ) → Satisfies f a → clause_true a c ≡ true → Satisfies (with_sorted_set r c f) a
   set_holds r [] s t = absurd (true≢false (sym t))
   set_holds r (l ∷ []) s t = go (is_unit f l) (is_unit f (negated l)) refl
     where
@@ -56,11 +56,11 @@ module _ (f : Stored) (a : Valuation) where
       go false false e = record { consistent = s.consistent; kept = s.kept; units = units_push a f.units (record { id = f.next_id; literal = l }) s.units (single a l t) }
   set_holds r (l ∷ m ∷ ls) s t = record { consistent = s.consistent; kept = more_kept a r f.next_id (l ∷ m ∷ ls) f.clauses s.kept t; units = s.units }
 
-  set_true : (r : Bool) (c : List ℕ) → EachHolds a (long_clauses f) → clause_true a c ≡ true → EachHolds a (long_clauses (with_set r c f))
+  set_true : (r : Bool) (c : List ℕ) → AllClausesTrue a (long_clauses f) → clause_true a c ≡ true → AllClausesTrue a (long_clauses (with_sorted_set r c f))
   set_true r [] h t = h
   set_true r (l ∷ []) h t = go (is_unit f l) (is_unit f (negated l))
     where
-      go : (b d : Bool) → EachHolds a (long_clauses (cond b f (cond d (with_contradiction l f) (with_new_unit l f))))
+      go : (b d : Bool) → AllClausesTrue a (long_clauses (cond b f (cond d (with_contradiction l f) (with_new_unit l f))))
       go true d = h
       go false true = h
       go false false = h
@@ -82,7 +82,7 @@ apart_push (w ∷ ws) u p n m =
     push [] h t = rw t refl
     push (v ∷ vs) h t = let k = or_parts (eqb (variable v.literal) (variable w.literal)) (mentions (map (λ x. x.literal) vs) (variable w.literal)) h in rw k.0 (push vs k.1 t)
 
-apart_set : (f : Stored) (r : Bool) (c : List ℕ) → VariablesDistinct (unit_literals f) → VariablesDistinct (unit_literals (with_set r c f))
+apart_set : (f : Stored) (r : Bool) (c : List ℕ) → VariablesDistinct (unit_literals f) → VariablesDistinct (unit_literals (with_sorted_set r c f))
 apart_set f r [] p = p
 apart_set f r (l ∷ []) p = go (is_unit f l) refl (is_unit f (negated l)) refl
   where
@@ -94,7 +94,7 @@ apart_set f r (l ∷ m ∷ ls) p = p
 
 -- every stored clause follows from the irredundant ones and the units, and no variable has two units
 pub record IsCoherent (f : Stored) : Type 0 where
-  pub follows : (a : Valuation) → Satisfies f a → EachHolds a (long_clauses f)
+  pub follows : (a : Valuation) → Satisfies f a → AllClausesTrue a (long_clauses f)
   pub apart : VariablesDistinct (unit_literals f)
 
 -- the state is coherent, and exactly these valuations satisfy it
@@ -105,12 +105,12 @@ pub record Does (g : Stored) (Meant : Valuation → Type 0) : Type 0 where
 
 -- only unsat, the clauses and the units matter
 aside_to : (f g : Stored) (a : Valuation) → g.unsat ≡ f.unsat → g.clauses ≡ f.clauses → g.units ≡ f.units → Satisfies f a → Satisfies g a
-aside_to f g a u c l s = record { consistent = u ∙ s.consistent; kept = subst (Kept a) (sym c) s.kept; units = subst (λ us. EachTrue a (map (λ w. w.literal) us)) (sym l) s.units }
+aside_to f g a u c l s = record { consistent = u ∙ s.consistent; kept = subst (Kept a) (sym c) s.kept; units = subst (λ us. AllLitsTrue a (map (λ w. w.literal) us)) (sym l) s.units }
 
 aside : (f g : Stored) (Meant : Valuation → Type 0) → g.unsat ≡ f.unsat → g.clauses ≡ f.clauses → g.units ≡ f.units → Does f Meant → Does g Meant
 aside f g Meant u c l d = record {
   coherent = record {
-    follows = λ a s. subst (λ x. EachHolds a (literals_of x)) (sym c) (d.coherent.follows a (aside_to g f a (sym u) (sym c) (sym l) s));
+    follows = λ a s. subst (λ x. AllClausesTrue a (literals_of x)) (sym c) (d.coherent.follows a (aside_to g f a (sym u) (sym c) (sym l) s));
     apart = subst (λ us. VariablesDistinct (map (λ w. w.literal) us)) (sym l) d.coherent.apart;
   };
   to = λ a h. aside_to f g a u c l (d.to a h);
@@ -121,19 +121,19 @@ itself : (f : Stored) → IsCoherent f → Does f (Satisfies f)
 itself f s = record { coherent = s; to = λ a h. h; back = λ a h. h }
 
 -- storing a set that is irredundant or follows
-sets : (f : Stored) (r : Bool) (c : List ℕ) → IsCoherent f → ((a : Valuation) → Satisfies f a → r ≡ true → clause_true a c ≡ true) → Does (with_set r c f) (λ a. Satisfies f a × (clause_true a c ≡ true))
+sets : (f : Stored) (r : Bool) (c : List ℕ) → IsCoherent f → ((a : Valuation) → Satisfies f a → r ≡ true → clause_true a c ≡ true) → Does (with_sorted_set r c f) (λ a. Satisfies f a × (clause_true a c ≡ true))
 sets f r c s derived = record {
   coherent = record { follows = λ a t. set_true f a r c (s.follows a (set_asks f a r c t).0) (true_then a t); apart = apart_set f r c s.apart };
   to = λ a h. set_holds f a r c h.0 h.1;
   back = λ a t. ((set_asks f a r c t).0, true_then a t);
 }
   where
-    true_then : (a : Valuation) → Satisfies (with_set r c f) a → clause_true a c ≡ true
+    true_then : (a : Valuation) → Satisfies (with_sorted_set r c f) a → clause_true a c ≡ true
     true_then a t = let p = set_asks f a r c t in elim (cases_Bool r) [ inl e ↦ derived a p.0 e | inr e ↦ p.1 e ]
 
 canonicals : (f : Stored) (r : Bool) (c : List ℕ) → IsCoherent f → ((a : Valuation) → Satisfies f a → r ≡ true → clause_true a c ≡ true) → Does (with_canonical r c f) (λ a. Satisfies f a × (clause_true a c ≡ true))
 canonicals f true c s derived = sets f true c s derived
-canonicals f false c s derived = aside (with_set false c f) (record (with_set false c f) { last = place_of f.next_id c (with_set false c f) f.last }) (λ a. Satisfies f a × (clause_true a c ≡ true)) refl refl refl (sets f false c s derived)
+canonicals f false c s derived = aside (with_sorted_set false c f) (record (with_sorted_set false c f) { last = last_clause_or f.next_id c (with_sorted_set false c f) f.last }) (λ a. Satisfies f a × (clause_true a c ≡ true)) refl refl refl (sets f false c s derived)
 
 -- storing a clause that is irredundant or follows
 stores : (f : Stored) (r : Bool) (c : List ℕ) → IsCoherent f → ((a : Valuation) → Satisfies f a → r ≡ true → clause_true a c ≡ true) → Does (with_stored r c f) (λ a. Satisfies f a × (clause_true a c ≡ true))
@@ -174,7 +174,7 @@ one_unit f l hash s p =
     record { coherent = d.coherent; to = λ a h. d.to a (h, derived_hold f (l ∷ []) (hash ∷ []) a p h.units (s.follows a h)); back = λ a h. (d.back a h).0 }
 
 -- adding units one by one, each of which passes
-units_pass : (us : List (ℕ × ℕ)) (f : Stored) → IsCoherent f → PassInTurn f us → Does (with_units (map (λ u. u.0) us) f) (Satisfies f)
+units_pass : (us : List (ℕ × ℕ)) (f : Stored) → IsCoherent f → UnitsPassInTurn f us → Does (with_units (map (λ u. u.0) us) f) (Satisfies f)
 units_pass [] f s p = itself f s
 units_pass (u ∷ us) f s p =
     let first = one_unit f u.0 u.1 s p.0 in
@@ -192,47 +192,47 @@ deletes f r c s holds = record {
     before : (a : Valuation) → Satisfies (record f { clauses = without_clause r (canonical c) f.clauses }) a → Satisfies f a
     before a h = record { consistent = h.consistent; kept = less_asks a r (canonical c) f.clauses (λ e. canonical_true a c ∙ holds a h e) h.kept; units = h.units }
 
-unit_found : (a : Valuation) (id : ℕ) (ls : List ℕ) (us : List StoredUnit) → unit_numbered id us ≡ Some ls → EachTrue a (map (λ u. u.literal) us) → clause_true a ls ≡ true
+unit_found : (a : Valuation) (id : ℕ) (ls : List ℕ) (us : List StoredUnit) → unit_with_id id us ≡ Some ls → AllLitsTrue a (map (λ u. u.literal) us) → clause_true a ls ≡ true
 unit_found a id ls [] e h = absurd cc
 unit_found a id ls (u ∷ us) e h = go (λ k. unit_found a id ls us k h.1) (eqb u.id id) e
   where
-    go : (unit_numbered id us ≡ Some ls → clause_true a ls ≡ true) → (b : Bool) → cond b (Some (u.literal ∷ [])) (unit_numbered id us) ≡ Some ls → clause_true a ls ≡ true
+    go : (unit_with_id id us ≡ Some ls → clause_true a ls ≡ true) → (b : Bool) → cond b (Some (u.literal ∷ [])) (unit_with_id id us) ≡ Some ls → clause_true a ls ≡ true
     go ih true e = let k : u.literal ∷ [] ≡ ls = cc in subst (λ x. clause_true a x ≡ true) k (single_from a u.literal h.0)
     go ih false e = ih e
 
 -- a clause that contains the last irredundant clause is still true after its count is removed
-last_true : (f : Stored) (c : List ℕ) (a : Valuation) → Orderly f → IsStrictSubset (last_literals f.last f) c → Satisfies (record f { clauses = without_clause false (canonical c) f.clauses }) a → clause_true a c ≡ true
+last_true : (f : Stored) (c : List ℕ) (a : Valuation) → OrderInvariant f → IsStrictSubset (last_literals f.last f) c → Satisfies (record f { clauses = without_clause false (canonical c) f.clauses }) a → clause_true a c ≡ true
 last_true f c a o p h = go f.last o.last_holds p
   where
     by_found : (x : Option (List ℕ)) → IsStrictSubset x c → ((ms : List ℕ) → x ≡ Some ms → is_subset_of c ms ≡ false → clause_true a ms ≡ true) → clause_true a c ≡ true
     by_found None p w = absurd p
     by_found (Some ms) p w = superset_true a ms c p.0 (w ms refl p.1)
 
-    supported : (ms : List ℕ) → is_subset_of c ms ≡ false → Supported (unit_literals f) f.clauses ms → clause_true a ms ≡ true
+    supported : (ms : List ℕ) → is_subset_of c ms ≡ false → IsSatisfiedOrIrredundant (unit_literals f) f.clauses ms → clause_true a ms ≡ true
     supported ms n (inl t) = unit_in_clause a (unit_literals f) ms h.units t
     supported ms n (inr k) = counted_true a ms (without_clause false (canonical c) f.clauses) h.kept (subst (λ x. 0 < irredundant_count x) (sym (others_stay false ms (canonical c) f.clauses (strict_differs ms c n))) k)
 
-    go : (last : Last) → LastHolds last f.unsat (unit_literals f) f.clauses → IsStrictSubset (last_literals last f) c → clause_true a c ≡ true
+    go : (last : LastIrredundant) → LastClauseHolds last f.unsat (unit_literals f) f.clauses → IsStrictSubset (last_literals last f) c → clause_true a c ≡ true
     go NoneYet k p = absurd p
     go (Empty id) k p = absurd (both_ways f.unsat h.consistent k)
-    go (UnitClause id) k p = by_found (unit_numbered id f.units) p (λ ms e n. unit_found a id ms f.units e h.units)
+    go (UnitClause id) k p = by_found (unit_with_id id f.units) p (λ ms e n. unit_found a id ms f.units e h.units)
     go (LongClause id) k p = by_found (last_literals (LongClause id) f) p (λ ms e n. supported ms n (k ms e))
 
-drops : (f : Stored) (v : ℕ) → IsCoherent f → MayBeDeleted f v → Does (without_variable v f) (λ a. Satisfies f a ⊎ Satisfies f (flipped v a))
+drops : (f : Stored) (v : ℕ) → IsCoherent f → CanBeDeleted f v → Does (without_variable v f) (λ a. Satisfies f a ⊎ Satisfies f (flipped v a))
 drops f v s free = record {
   coherent = record {
     follows = λ a h. elim (back a h) [ inl k ↦ s.follows a k | inr k ↦ true_by_flip (flipped v a) a v f.clauses (from_flipped a v) free.unused (s.follows (flipped v a) k) ];
     apart = subst VariablesDistinct (sym (units_of_left v f.units)) (apart_left v (unit_literals f) s.apart);
   };
   to = λ a e. elim e [
-    | inl k ↦ record { consistent = k.consistent; kept = k.kept; units = subst (EachTrue a) (sym (units_of_left v f.units)) (units_left a v (unit_literals f) k.units) }
-    | inr k ↦ record { consistent = k.consistent; kept = kept_by_flip (flipped v a) a v f.clauses (from_flipped a v) free.unused k.kept; units = subst (EachTrue a) (sym (units_of_left v f.units)) (units_left_flipped a v (unit_literals f) k.units) }
+    | inl k ↦ record { consistent = k.consistent; kept = k.kept; units = subst (AllLitsTrue a) (sym (units_of_left v f.units)) (units_left a v (unit_literals f) k.units) }
+    | inr k ↦ record { consistent = k.consistent; kept = kept_by_flip (flipped v a) a v f.clauses (from_flipped a v) free.unused k.kept; units = subst (AllLitsTrue a) (sym (units_of_left v f.units)) (units_left_flipped a v (unit_literals f) k.units) }
   ];
   back = back;
 }
   where
     back : (a : Valuation) → Satisfies (without_variable v f) a → Satisfies f a ⊎ Satisfies f (flipped v a)
-    back a h = elim (units_either a v (unit_literals f) s.apart (subst (EachTrue a) (units_of_left v f.units) h.units)) [
+    back a h = elim (units_either a v (unit_literals f) s.apart (subst (AllLitsTrue a) (units_of_left v f.units) h.units)) [
       | inl u ↦ inl (record { consistent = h.consistent; kept = h.kept; units = u })
       | inr u ↦ inr (record { consistent = h.consistent; kept = kept_by_flip a (flipped v a) v f.clauses (to_flipped a v) free.unused h.kept; units = u })
     ]
@@ -246,9 +246,9 @@ same_unit f ls l = go (is_unit f l) (is_unit f (negated l))
     go false true = refl
     go false false = refl
 
-pub pass_known : (us : List (ℕ × ℕ)) (ls : List ℕ) (f : Stored) → PassInTurn f us → PassInTurn (with_literals_known ls f) us
+pub pass_known : (us : List (ℕ × ℕ)) (ls : List ℕ) (f : Stored) → UnitsPassInTurn f us → UnitsPassInTurn (with_literals_known ls f) us
 pass_known [] ls f p = tt
-pass_known (u ∷ us) ls f p = (p.0, subst (λ g. PassInTurn g us) (sym (same_unit f ls u.0)) (pass_known us ls (with_unit u.0 f) p.1))
+pass_known (u ∷ us) ls f p = (p.0, subst (λ g. UnitsPassInTurn g us) (sym (same_unit f ls u.0)) (pass_known us ls (with_unit u.0 f) p.1))
 
 -- two changes of the state, one after the other
 further : (f g : Stored) (Meant : Valuation → Type 0) → Does f Meant → Does g (Satisfies f) → Does g Meant

@@ -4,11 +4,11 @@ use Rattle.std.proofs.lemmas.Bool.{both_ways, true≢false, eqb-true, eq-eqb}
 use Rattle.sat_base.specs.values.Literals.{variable, negated}
 use Rattle.sat_base.specs.steps.Steps.{Redundant, Step, SolverVarName, UserVarName, DeleteVar, ChangeSamplingMode, AddClause, AtClause, UnitClauses, DeleteClause, Model, Assumptions}
 use Rattle.sat_checker.specs.LiteralSets.{is_among, is_tautology, canonical}
-use Rattle.sat_checker.specs.Stored.{Stored, Variable, Sample, Witness, Hide, unknown, is_known, is_unit}
-use Rattle.sat_checker.specs.Storing.{with_set, with_canonical, with_stored, with_input, with_unit, with_contradiction, with_new_unit, with_units, with_conflict_settled, settled_by, with_known, with_literals_known}
+use Rattle.sat_checker.specs.Stored.{Stored, Variable, Sample, Witness, Hide, initial_variable, is_known, is_unit}
+use Rattle.sat_checker.specs.Storing.{with_sorted_set, with_canonical, with_stored, with_input, with_unit, with_contradiction, with_new_unit, with_units, with_conflict_settled, settled_by, with_known, with_literals_known}
 use Rattle.sat_checker.specs.Accepts.{Accepts, AcceptsAll, effect, stored_after, ready_after}
 pub use Rattle.sat_checker.specs.Invariants.{SameVariables}
-use Rattle.sat_checker.specs.Laws.{NamedIsKnown, KnownStays, DeletedIsNameless, NamesDistinct, UnknownIsUnknown, has_delete_var, DeletionIsSeen}
+use Rattle.sat_checker.specs.Laws.{NamedIsKnown, KnownUntilDeleted, DeletedIsNameless, NamesDistinct, UnknownHasInitialData, has_delete_var, DeletionIsRecorded}
 
 -- STORING DOES NOT CHANGE VARIABLES
 
@@ -20,7 +20,7 @@ unit_same l f = go (is_unit f l) (is_unit f (negated l))
     go false true = record { variables = refl; deleted = refl; assumed = refl }
     go false false = record { variables = refl; deleted = refl; assumed = refl }
 
-set_same : (r : Bool) (ls : List ℕ) (f : Stored) → SameVariables f (with_set r ls f)
+set_same : (r : Bool) (ls : List ℕ) (f : Stored) → SameVariables f (with_sorted_set r ls f)
 set_same r [] f = record { variables = refl; deleted = refl; assumed = refl }
 set_same r (l ∷ []) f = unit_same l f
 set_same r (l ∷ m ∷ ls) f = record { variables = refl; deleted = refl; assumed = refl }
@@ -78,13 +78,13 @@ known_kept f x v w k h = go (eqb w v) refl
     go true e = k ∙ ap (λ n. (f.variables n).known) (sym (eqb-true w v e)) ∙ h
     go false e = h
 
-pub known_stays : KnownStays
+pub known_stays : KnownUntilDeleted
 known_stays f (SolverVarName w (Some n)) v h = inl (known_more f (w ∷ []) v h)
 known_stays f (UserVarName w (Some n)) v h = inl (known_set f (record (f.variables w) { known = true; name = Some n }) w v refl h)
 known_stays f (UserVarName w None) v h = inl (known_kept f (record (f.variables w) { mode = Hide; name = None }) w v refl h)
 known_stays f (DeleteVar w) v h = go (eqb v w) refl
   where
-    go : (b : Bool) → eqb v w ≡ b → ((cond b unknown (f.variables v)).known ≡ true) ⊎ (DeleteVar w ≡ DeleteVar v)
+    go : (b : Bool) → eqb v w ≡ b → ((cond b initial_variable (f.variables v)).known ≡ true) ⊎ (DeleteVar w ≡ DeleteVar v)
     go true e = inr (ap DeleteVar (sym (eqb-true v w e)))
     go false e = inl h
 known_stays f (ChangeSamplingMode w s) v h = inl (known_kept f (record (f.variables w) { mode = cond s Sample Witness }) w v refl h)
@@ -107,11 +107,11 @@ deleted_is_nameless f v h = h.nameless
 -- no two variables have the same name, and a variable that is not known has its initial data
 pub record AreTidy (variables : ℕ → Variable) : Type 0 where
   pub apart : (v w name : ℕ) → (variables v).name ≡ Some name → (variables w).name ≡ Some name → v ≡ w
-  pub unknowns : (v : ℕ) → (variables v).known ≡ false → variables v ≡ unknown
+  pub unknowns : (v : ℕ) → (variables v).known ≡ false → variables v ≡ initial_variable
 
 module _ (variables : ℕ → Variable) (tidy : AreTidy variables) where
   -- a variable may be set to data with a name that no other variable has
-  tidy_set : (v : ℕ) (x : Variable) → ((name w : ℕ) → x.name ≡ Some name → (variables w).name ≡ Some name → v ≡ w) → (x.known ≡ false → x ≡ unknown) → AreTidy (λ w. cond (eqb w v) x (variables w))
+  tidy_set : (v : ℕ) (x : Variable) → ((name w : ℕ) → x.name ≡ Some name → (variables w).name ≡ Some name → v ≡ w) → (x.known ≡ false → x ≡ initial_variable) → AreTidy (λ w. cond (eqb w v) x (variables w))
   tidy_set v x alone first = record { apart = λ p q name. by_two p q name (eqb p v) refl (eqb q v) refl; unknowns = λ w. by_one w (eqb w v) }
     where
       by_two : (p q name : ℕ) → (b : Bool) → eqb p v ≡ b → (d : Bool) → eqb q v ≡ d → (cond b x (variables p)).name ≡ Some name → (cond d x (variables q)).name ≡ Some name → p ≡ q
@@ -120,7 +120,7 @@ module _ (variables : ℕ → Variable) (tidy : AreTidy variables) where
       by_two p q name false e true g m n = sym (alone name p n m) ∙ sym (eqb-true q v g)
       by_two p q name false e false g m n = tidy.apart p q name m n
 
-      by_one : (w : ℕ) (b : Bool) → (cond b x (variables w)).known ≡ false → cond b x (variables w) ≡ unknown
+      by_one : (w : ℕ) (b : Bool) → (cond b x (variables w)).known ≡ false → cond b x (variables w) ≡ initial_variable
       by_one w true k = first k
       by_one w false k = tidy.unknowns w k
 
@@ -131,11 +131,11 @@ module _ (variables : ℕ → Variable) (tidy : AreTidy variables) where
       kept w true name m = m
       kept w false name m = m
 
-      by_one : (w : ℕ) (b : Bool) → (cond b (record (variables w) { known = true }) (variables w)).known ≡ false → cond b (record (variables w) { known = true }) (variables w) ≡ unknown
+      by_one : (w : ℕ) (b : Bool) → (cond b (record (variables w) { known = true }) (variables w)).known ≡ false → cond b (record (variables w) { known = true }) (variables w) ≡ initial_variable
       by_one w true k = absurd (true≢false k)
       by_one w false k = tidy.unknowns w k
 
-  tidy_nameless : (v : ℕ) (x : Variable) → x.name ≡ None → (x.known ≡ false → x ≡ unknown) → AreTidy (λ w. cond (eqb w v) x (variables w))
+  tidy_nameless : (v : ℕ) (x : Variable) → x.name ≡ None → (x.known ≡ false → x ≡ initial_variable) → AreTidy (λ w. cond (eqb w v) x (variables w))
   tidy_nameless v x n first = tidy_set v x (λ name w m k. absurd (let e : None ≡ Some name = sym n ∙ m in none_some name e)) first
     where
       none_some : (name : ℕ) → None ≡ Some name → ⊥
@@ -150,7 +150,7 @@ tidy_effect (UserVarName v (Some n)) f a t =
     tidy_set f.variables t v (record (f.variables v) { known = true; name = Some n }) (λ name w m k. absurd (let e : n ≡ name = cc in a.free w (subst (λ x. (f.variables w).name ≡ Some x) (sym e) k))) (λ k. absurd (true≢false k))
 tidy_effect (UserVarName v None) f a t =
     tidy_nameless f.variables t v (record (f.variables v) { mode = Hide; name = None }) refl (λ k. absurd (a (ap (λ x. x.name) (t.unknowns v k))))
-tidy_effect (DeleteVar v) f a t = tidy_nameless f.variables t v unknown refl (λ k. refl)
+tidy_effect (DeleteVar v) f a t = tidy_nameless f.variables t v initial_variable refl (λ k. refl)
 tidy_effect (ChangeSamplingMode v s) f a t =
     tidy_set f.variables t v (record (f.variables v) { mode = cond s Sample Witness }) (λ name w m k. t.apart v w name m k) (λ k. absurd (both_ways (f.variables v).known k a))
 tidy_effect (AddClause c) f a t = go f.unsat
@@ -179,7 +179,7 @@ tidy (step ∷ earlier) ok = tidy_ready (stored_after (step ∷ earlier)) (tidy_
 pub names_apart : NamesDistinct
 names_apart steps v w name ok m n = (tidy steps ok).apart v w name m n
 
-pub unknown_is_unknown : UnknownIsUnknown
+pub unknown_is_unknown : UnknownHasInitialData
 unknown_is_unknown steps v ok k = (tidy steps ok).unknowns v k
 
 deleted_effect : (step : Step) (f : Stored) (earlier : List Step) → f.var_deleted ≡ has_delete_var earlier → (effect step f).var_deleted ≡ has_delete_var (step ∷ earlier)
@@ -196,6 +196,6 @@ deleted_effect (UnitClauses us) f es e = let ls : List ℕ = map (λ u. u.0) us 
 deleted_effect (DeleteClause c Redundant) f es e = e
 deleted_effect step f es e = e
 
-pub deletion_is_seen : DeletionIsSeen
+pub deletion_is_seen : DeletionIsRecorded
 deletion_is_seen [] = refl
 deletion_is_seen (step ∷ earlier) = (settled_same (stored_after (step ∷ earlier))).deleted ∙ deleted_effect step (ready_after earlier) earlier (deletion_is_seen earlier)

@@ -5,7 +5,7 @@ use Rattle.std.proofs.lemmas.Bool.Decides.{nat_tests}
 use Rattle.std.specs.List.{AllByRecursion}
 use Rattle.sat_checker.specs.LiteralSets.{is_among}
 use Rattle.sat_checker.specs.inner.PairView.{AreInOrder, without_pair, places_in, places_after}
-use Rattle.sat_checker.specs.inner.LinkView.{gone, link_at, rest, LinksPairs, listed_pairs, top_of, with_top, head_at, IsWalk, AreLinked, AreKeptPairs, last_or, place_before}
+use Rattle.sat_checker.specs.inner.LinkView.{no_pair, link_at, linked_from, LinksPairs, listed_pairs, top_of, with_top, head_at, LinksEnd, AreLinked, PairListsInvariant, last_place_or, place_before}
 use Rattle.sat_checker.specs.declared.store.links.Pair.{Pair}
 use Rattle.sat_checker.specs.declared.store.links.Link.{Link}
 use Rattle.sat_checker.proofs.lemmas.pairs.Order.{all_weaker, all_filter, order_filter, length_filter, places_top, without_head, without_tail, apart_after}
@@ -23,27 +23,27 @@ leads_same links new at (p ∷ ps) h l s = (
     here : link_at new at ≡ link_at links at
     here = let e : p.place ≡ at = ap (λ (q : Pair). q.place) h.0.is in ap (link_at new) (sym e) ∙ s.0 ∙ ap (link_at links) e
 
--- a place that links lead from is not `gone`
-pub leads_present : (links : List Link) (at : ℕ) (ps : List Pair) → length links ≤ gone → LinksPairs links at ps → at ≢ gone
+-- a place that links lead from is not `no_pair`
+pub leads_present : (links : List Link) (at : ℕ) (ps : List Pair) → length links ≤ no_pair → LinksPairs links at ps → at ≢ no_pair
 leads_present links at [] few h e = omega (arith, h, e)
 leads_present links at (p ∷ ps) few h e = let i : at < length links = h.0.inside in omega (arith, i, e)
 
 -- what holds for all places holds for the last one
-pub last_member : (P : ℕ → Type 0) (o : Option ℕ) (u : List Pair) (b : ℕ) → last_or o u ≡ Some b → (o ≡ Some b → P b) → AllByRecursion (λ (p : Pair). P p.place) u → P b
+pub last_member : (P : ℕ → Type 0) (o : Option ℕ) (u : List Pair) (b : ℕ) → last_place_or o u ≡ Some b → (o ≡ Some b → P b) → AllByRecursion (λ (p : Pair). P p.place) u → P b
 last_member P o [] b e h k = h e
 last_member P o (p ∷ ps) b e h k = last_member P (Some p.place) ps b e (λ s. let q : p.place ≡ b = cc in subst P q k.0) k.1
 
 -- there is no last place only if there is no pair
-pub none_last : (ps : List Pair) → last_or None ps ≡ None → ps ≡ []
+pub none_last : (ps : List Pair) → last_place_or None ps ≡ None → ps ≡ []
 none_last [] e = refl
 none_last (p ∷ ps) e = absurd (some p ps e)
   where
-    some : (q : Pair) (qs : List Pair) → last_or (Some q.place) qs ≢ None
+    some : (q : Pair) (qs : List Pair) → last_place_or (Some q.place) qs ≢ None
     some q [] k = absurd cc
     some q (r ∷ rs) k = some r rs k
 
 -- the last pair now leads to another one
-pub leads_further : (links new : List Link) (at b to : ℕ) (ps qs : List Pair) → LinksPairs links at ps → AreInOrder ps → last_or None ps ≡ Some b → length links ≤ length new → AllByRecursion (IsThere links) ps
+pub leads_further : (links new : List Link) (at b to : ℕ) (ps qs : List Pair) → LinksPairs links at ps → AreInOrder ps → last_place_or None ps ≡ Some b → length links ≤ length new → AllByRecursion (IsThere links) ps
     → ((x : ℕ) → x < length links → x ≢ b → link_at new x ≡ link_at links x) → link_at new b ≡ record { hash = (link_at links b).hash; next = to } → LinksPairs new to qs → LinksPairs new at (ps ++ qs)
 leads_further links new at b to [] qs l o e more there same set further = absurd cc
 leads_further links new at b to (p ∷ []) qs l o e more there same set further =
@@ -139,7 +139,7 @@ unlinked links new at x b (p ∷ q ∷ qs) l o e r = go (eqb q.place x) refl e (
         (record { inside = inside; is = l.0.is ∙ ap (λ (y : Link). record { hash = y.hash; place = at }) (sym here) }, subst (λ (y : Link). LinksPairs new y.next (without_pair x (q ∷ qs))) (sym here) (ih k))
 
 -- the first pair is removed
-pub unlinked_first : (links : List Link) (x : ℕ) (ps : List Pair) → length links ≤ gone → x < length links → LinksPairs links x ps → AreInOrder ps → LinksPairs links (link_at links x).next (without_pair x ps)
+pub unlinked_first : (links : List Link) (x : ℕ) (ps : List Pair) → length links ≤ no_pair → x < length links → LinksPairs links x ps → AreInOrder ps → LinksPairs links (link_at links x).next (without_pair x ps)
 unlinked_first links x [] f i l o = absurd (omega (arith, l))
 unlinked_first links x (p ∷ ps) f i l o =
     let place : p.place ≡ x = ap (λ (y : Pair). y.place) l.0.is in
@@ -174,15 +174,15 @@ member_above x y (z ∷ zs) k e = pick (eqb z x) refl e (λ k'. member_above x y
     pick false d e' ih = ih e'
 
 -- the links after a place list the later places of its hash
-walk_after : (links : List Link) (at h x : ℕ) (ps : List Pair) → length links ≤ gone → length ps ≤ length links → LinksPairs links at ps → AreInOrder ps → is_among (places_in h ps) x ≡ true
-    → IsWalk links (link_at links x).next × (places_after x (places_in h ps) ≡ places_in h (rest links (link_at links x).next))
+walk_after : (links : List Link) (at h x : ℕ) (ps : List Pair) → length links ≤ no_pair → length ps ≤ length links → LinksPairs links at ps → AreInOrder ps → is_among (places_in h ps) x ≡ true
+    → LinksEnd links (link_at links x).next × (places_after x (places_in h ps) ≡ places_in h (linked_from links (link_at links x).next))
 walk_after links at h x [] f s l o m = absurd (true≢false (sym m))
 walk_after links at h x (p ∷ ps) f s l o m = go (eqb p.hash h) refl m (λ k. walk_after links (link_at links at).next h x ps f (omega arith) l.1 o.1 k)
   where
     place : p.place ≡ at
     place = ap (λ (q : Pair). q.place) l.0.is
 
-    then : rest links (link_at links at).next ≡ ps
+    then : linked_from links (link_at links at).next ≡ ps
     then = chain_is links f (length links) (link_at links at).next ps l.1 (omega arith)
 
     not_less : (a b : ℕ) → b ≤ a → ltb a b ≡ false
@@ -192,17 +192,17 @@ walk_after links at h x (p ∷ ps) f s l o m = go (eqb p.hash h) refl m (λ k. w
     skip y ys j = ap (λ b. cond b (y ∷ places_after x ys) (places_after x ys)) (not_less x y j)
 
     go : (d : Bool) → eqb p.hash h ≡ d → is_among (map (λ (q : Pair). q.place) (cond d (p ∷ filter (λ q. eqb q.hash h) ps) (filter (λ q. eqb q.hash h) ps))) x ≡ true
-        → (is_among (places_in h ps) x ≡ true → IsWalk links (link_at links x).next × (places_after x (places_in h ps) ≡ places_in h (rest links (link_at links x).next)))
-        → IsWalk links (link_at links x).next × (places_after x (map (λ (q : Pair). q.place) (cond d (p ∷ filter (λ q. eqb q.hash h) ps) (filter (λ q. eqb q.hash h) ps))) ≡ places_in h (rest links (link_at links x).next))
+        → (is_among (places_in h ps) x ≡ true → LinksEnd links (link_at links x).next × (places_after x (places_in h ps) ≡ places_in h (linked_from links (link_at links x).next)))
+        → LinksEnd links (link_at links x).next × (places_after x (map (λ (q : Pair). q.place) (cond d (p ∷ filter (λ q. eqb q.hash h) ps) (filter (λ q. eqb q.hash h) ps))) ≡ places_in h (linked_from links (link_at links x).next))
     go false d k ih = ih k
     go true d k ih = here (eqb p.place x) refl k
       where
-        here : (b : Bool) → eqb p.place x ≡ b → (b || is_among (places_in h ps) x) ≡ true → IsWalk links (link_at links x).next × (places_after x (p.place ∷ places_in h ps) ≡ places_in h (rest links (link_at links x).next))
+        here : (b : Bool) → eqb p.place x ≡ b → (b || is_among (places_in h ps) x) ≡ true → LinksEnd links (link_at links x).next × (places_after x (p.place ∷ places_in h ps) ≡ places_in h (linked_from links (link_at links x).next))
         here true b k' =
             let is : at ≡ x = sym place ∙ eqb-true p.place x b in
             let px : p.place ≡ x = eqb-true p.place x b in (
-              subst (λ y. IsWalk links (link_at links y).next) is (record { few = f; leads = subst (LinksPairs links (link_at links at).next) (sym then) l.1 }),
-              skip p.place (places_in h ps) (omega (arith, px)) ∙ ap (λ y. places_after y (places_in h ps)) (sym px) ∙ after_whole p.place (places_in h ps) (later_places h p ps o.0) ∙ ap (places_in h) (sym then) ∙ ap (λ y. places_in h (rest links (link_at links y).next)) is,
+              subst (λ y. LinksEnd links (link_at links y).next) is (record { few = f; leads = subst (LinksPairs links (link_at links at).next) (sym then) l.1 }),
+              skip p.place (places_in h ps) (omega (arith, px)) ∙ ap (λ y. places_after y (places_in h ps)) (sym px) ∙ after_whole p.place (places_in h ps) (later_places h p ps o.0) ∙ ap (places_in h) (sym then) ∙ ap (λ y. places_in h (linked_from links (link_at links y).next)) is,
             )
         here false b k' =
             let r = ih k' in
@@ -232,19 +232,19 @@ module _ (heads : List ℕ) (links : List Link) (shift : ℕ) (a : AreLinked hea
   part_short top = let b : length (with_top shift (length heads) top (listed_pairs links)) ≤ length (listed_pairs links) = length_filter (λ p. eqb (top_of shift (length heads) p.hash) top) (listed_pairs links) in let d : length (listed_pairs links) ≤ length links = length_pairs 0 links in omega (arith, b, d)
 
   -- the list of a head
-  pub part_is : (top : ℕ) → top < length heads → rest links (head_at heads top) ≡ with_top shift (length heads) top (listed_pairs links)
+  pub part_is : (top : ℕ) → top < length heads → linked_from links (head_at heads top) ≡ with_top shift (length heads) top (listed_pairs links)
   part_is top l = chain_is links a.few (length links) (head_at heads top) (with_top shift (length heads) top (listed_pairs links)) (a.parts top l) (part_short top)
 
-  pub part_walk : (top : ℕ) → top < length heads → IsWalk links (head_at heads top)
+  pub part_walk : (top : ℕ) → top < length heads → LinksEnd links (head_at heads top)
   part_walk top l = record { few = a.few; leads = subst (LinksPairs links (head_at heads top)) (sym (part_is top l)) (a.parts top l) }
 
   module _ (h : ℕ) where
     -- the places of a hash are in the list of its top
-    pub places_part : (top : ℕ) → top < length heads → top_of shift (length heads) h ≡ top → places_in h (listed_pairs links) ≡ places_in h (rest links (head_at heads top))
+    pub places_part : (top : ℕ) → top < length heads → top_of shift (length heads) h ≡ top → places_in h (listed_pairs links) ≡ places_in h (linked_from links (head_at heads top))
     places_part top l t = places_top shift (length heads) h (listed_pairs links) ∙ ap (λ s. places_in h (with_top shift (length heads) s (listed_pairs links))) t ∙ ap (places_in h) (sym (part_is top l))
 
     -- the place exists, and the links after it list the later places of its hash
-    next_of : 0 < length heads → (x : ℕ) → is_among (places_in h (listed_pairs links)) x ≡ true → (x < length links) × IsWalk links (link_at links x).next × (places_after x (places_in h (listed_pairs links)) ≡ places_in h (rest links (link_at links x).next))
+    next_of : 0 < length heads → (x : ℕ) → is_among (places_in h (listed_pairs links)) x ≡ true → (x < length links) × LinksEnd links (link_at links x).next × (places_after x (places_in h (listed_pairs links)) ≡ places_in h (linked_from links (link_at links x).next))
     next_of some x m =
         let top = top_of shift (length heads) h in
         let l : top_of shift (length heads) h < length heads = omega (arith, some) in
@@ -253,8 +253,8 @@ module _ (heads : List ℕ) (links : List Link) (shift : ℕ) (a : AreLinked hea
         (place_inside links h x (listed_pairs links) (all_there links) m, w.0, ap (places_after x) same ∙ w.1)
 
 -- the same, by the invariant of heads and links
-pub next_kept : (heads : List ℕ) (links : List Link) (shift : ℕ) → AreKeptPairs heads links shift → (h x : ℕ) → is_among (places_in h (listed_pairs links)) x ≡ true
-    → (x < length links) × IsWalk links (link_at links x).next × (places_after x (places_in h (listed_pairs links)) ≡ places_in h (rest links (link_at links x).next))
+pub next_kept : (heads : List ℕ) (links : List Link) (shift : ℕ) → PairListsInvariant heads links shift → (h x : ℕ) → is_among (places_in h (listed_pairs links)) x ≡ true
+    → (x < length links) × LinksEnd links (link_at links x).next × (places_after x (places_in h (listed_pairs links)) ≡ places_in h (linked_from links (link_at links x).next))
 next_kept heads links shift k h x m =
     let l : x < length links = place_inside links h x (listed_pairs links) (all_there links) m in
     next_of heads links shift k.linked h (k.some (omega (arith, l))) x m

@@ -6,9 +6,9 @@ use Rattle.sat_base.specs.values.Literals.{negated, negated_if}
 use Rattle.sat_checker.specs.LiteralSets.{is_among, is_tautology}
 use Rattle.sat_checker.specs.inner.Marks.{NoRepeats}
 use Rattle.sat_checker.specs.Propagation.{PassesCheck, tautology, unit_true, conflict}
-use Rattle.sat_checker.specs.inner.Look.{AssumesMore}
+use Rattle.sat_checker.specs.inner.WalkResults.{AssumesMore}
 use Rattle.sat_checker.specs.inner.AssumedRoom.{AssumesOnce, LiteralsAndRoom, signed, with_room}
-use Rattle.sat_checker.specs.inner.Walk.{denied_in_turn, walk_buckets}
+use Rattle.sat_checker.specs.inner.Walk.{negations_assumed, walk_buckets}
 use Rattle.std.proofs.lemmas.List.{length-map, map-append, map-id, get_or-map, take_more, take-append-drop, drop_more}
 use Rattle.sat_checker.proofs.lemmas.propagation.Walking.{Extends-itself, Extends-assumed}
 use Rattle.sat_checker.proofs.lemmas.propagation.Greedy.{Within, rule_from_walk, walk_from_rule}
@@ -42,11 +42,11 @@ any_denied assumed l (m ∷ ms) h =
     ]
 
 -- if a literal was true, a unit satisfies the clause or it is a tautology
-pub denied_none : (clause assumed : List ℕ) → denied_in_turn assumed clause ≡ None → (list_any (is_among assumed) clause ≡ true) ⊎ (is_tautology clause ≡ true)
+pub denied_none : (clause assumed : List ℕ) → negations_assumed assumed clause ≡ None → (list_any (is_among assumed) clause ≡ true) ⊎ (is_tautology clause ≡ true)
 denied_none [] assumed e = absurd cc
 denied_none (l ∷ ls) assumed e = go (denied_none ls) (is_among assumed l) refl e
   where
-    go : ((more : List ℕ) → denied_in_turn more ls ≡ None → (list_any (is_among more) ls ≡ true) ⊎ (is_tautology ls ≡ true)) → (b : Bool) → is_among assumed l ≡ b → cond b None (denied_in_turn (with_denied assumed l) ls) ≡ None → (list_any (is_among assumed) (l ∷ ls) ≡ true) ⊎ (is_tautology (l ∷ ls) ≡ true)
+    go : ((more : List ℕ) → negations_assumed more ls ≡ None → (list_any (is_among more) ls ≡ true) ⊎ (is_tautology ls ≡ true)) → (b : Bool) → is_among assumed l ≡ b → cond b None (negations_assumed (with_denied assumed l) ls) ≡ None → (list_any (is_among assumed) (l ∷ ls) ≡ true) ⊎ (is_tautology (l ∷ ls) ≡ true)
     go ih true h e' = inl (or_left (is_among assumed l) (list_any (is_among assumed) ls) h)
     go ih false h e' =
         elim (ih (with_denied assumed l) e') [
@@ -87,13 +87,13 @@ any_weaker : (p q : ℕ → Bool) → ((m : ℕ) → p m ≡ true → q m ≡ tr
 any_weaker p q w [] h = h
 any_weaker p q w (l ∷ ls) h = elim (or_cases (p l) (list_any p ls) h) [ inl a ↦ or_left (q l) (list_any q ls) (w l a) | inr b ↦ or_right (q l) (list_any q ls) (any_weaker p q w ls b) ]
 
-pub denied_some : (clause assumed more : List ℕ) → denied_in_turn assumed clause ≡ Some more → Denied assumed clause more
+pub denied_some : (clause assumed more : List ℕ) → negations_assumed assumed clause ≡ Some more → Denied assumed clause more
 denied_some [] assumed more e =
     let same : assumed ≡ more = cc in
     record { enough = record { each = λ l h. subst (λ x. is_among x l ≡ true) same h }; only = record { each = λ l h. subst (λ x. is_among x l ≡ true) (sym same) h }; no_unit = refl; no_tautology = refl }
 denied_some (l ∷ ls) assumed more e = go (λ m. denied_some ls m more) (is_among assumed l) refl e
   where
-    go : ((m : List ℕ) → denied_in_turn m ls ≡ Some more → Denied m ls more) → (b : Bool) → is_among assumed l ≡ b → cond b None (denied_in_turn (with_denied assumed l) ls) ≡ Some more → Denied assumed (l ∷ ls) more
+    go : ((m : List ℕ) → negations_assumed m ls ≡ Some more → Denied m ls more) → (b : Bool) → is_among assumed l ≡ b → cond b None (negations_assumed (with_denied assumed l) ls) ≡ Some more → Denied assumed (l ∷ ls) more
     go ih true h e' = absurd cc
     go ih false h e' =
         let d = ih (with_denied assumed l) e' in
@@ -124,23 +124,23 @@ denied_some (l ∷ ls) assumed more e = go (λ m. denied_some ls m more) (is_amo
         }
 
 -- the check accepts exactly by the rule
-pub passes_when_true : (units clause : List ℕ) (buckets : List (List (List ℕ))) → denied_in_turn units clause ≡ None → PassesCheck units clause buckets
+pub passes_when_true : (units clause : List ℕ) (buckets : List (List (List ℕ))) → negations_assumed units clause ≡ None → PassesCheck units clause buckets
 passes_when_true units clause buckets e = elim (denied_none clause units e) [ inl u ↦ unit_true u | inr t ↦ tautology t ]
 
-pub passes_when_walked : (units clause more : List ℕ) (buckets : List (List (List ℕ))) → AllByRecursion (AllByRecursion NoRepeats) buckets → denied_in_turn units clause ≡ Some more → walk_buckets more buckets ≡ true → PassesCheck units clause buckets
+pub passes_when_walked : (units clause more : List ℕ) (buckets : List (List (List ℕ))) → AllByRecursion (AllByRecursion NoRepeats) buckets → negations_assumed units clause ≡ Some more → walk_buckets more buckets ≡ true → PassesCheck units clause buckets
 passes_when_walked units clause more buckets n e w =
     let d = denied_some clause units more e in
     conflict (rule_from_walk (map negated clause ++ units) buckets (walk_from_rule more (map negated clause ++ units) buckets d.only n (rule_from_walk more buckets w)))
 
-pub walked_when_passes : (units clause more : List ℕ) (buckets : List (List (List ℕ))) → AllByRecursion (AllByRecursion NoRepeats) buckets → denied_in_turn units clause ≡ Some more → PassesCheck units clause buckets → walk_buckets more buckets ≡ true
+pub walked_when_passes : (units clause more : List ℕ) (buckets : List (List (List ℕ))) → AllByRecursion (AllByRecursion NoRepeats) buckets → negations_assumed units clause ≡ Some more → PassesCheck units clause buckets → walk_buckets more buckets ≡ true
 walked_when_passes units clause more buckets n e (tautology t) = absurd (both_ways (is_tautology clause) (denied_some clause units more e).no_tautology t)
 walked_when_passes units clause more buckets n e (unit_true u) = absurd (both_ways (list_any (is_among units) clause) (denied_some clause units more e).no_unit u)
 walked_when_passes units clause more buckets n e (conflict k) = walk_from_rule (map negated clause ++ units) more buckets (denied_some clause units more e).enough n k
 
-pub exact_when_met : (units clause : List ℕ) (buckets : List (List (List ℕ))) (answer : Bool) → denied_in_turn units clause ≡ None → answer ≡ true → (answer ≡ true) ↔ PassesCheck units clause buckets
-exact_when_met units clause buckets answer e t = ((λ _. passes_when_true units clause buckets e), (λ _. t))
+pub exact_when_reached : (units clause : List ℕ) (buckets : List (List (List ℕ))) (answer : Bool) → negations_assumed units clause ≡ None → answer ≡ true → (answer ≡ true) ↔ PassesCheck units clause buckets
+exact_when_reached units clause buckets answer e t = ((λ _. passes_when_true units clause buckets e), (λ _. t))
 
-pub exact_when_walked : (units clause more : List ℕ) (buckets : List (List (List ℕ))) (answer : Bool) → AllByRecursion (AllByRecursion NoRepeats) buckets → denied_in_turn units clause ≡ Some more → answer ≡ walk_buckets more buckets → (answer ≡ true) ↔ PassesCheck units clause buckets
+pub exact_when_walked : (units clause more : List ℕ) (buckets : List (List (List ℕ))) (answer : Bool) → AllByRecursion (AllByRecursion NoRepeats) buckets → negations_assumed units clause ≡ Some more → answer ≡ walk_buckets more buckets → (answer ≡ true) ↔ PassesCheck units clause buckets
 exact_when_walked units clause more buckets answer sets e w =
     ((λ t. passes_when_walked units clause more buckets sets e (sym w ∙ t)), (λ p. w ∙ walked_when_passes units clause more buckets sets e p))
 
@@ -171,34 +171,34 @@ module _ (negate : Bool) (ls : List ℕ) (i d x : ℕ) (inside : i < length ls) 
       drop_more (signed negate ls) i 0 (subst (λ n. i < n) (sym (clause_length negate ls)) inside)
       ∙ ap (λ l. l ∷ drop (i + 1) (signed negate ls)) (ap (λ c. get_or c i 0) (clause_is_map negate ls) ∙ get_or-map (negated_if negate) ls i d 0 inside ∙ sym is)
 
-  pub denied-true : is_among assumed x ≡ true → denied_in_turn assumed (drop i (signed negate ls)) ≡ None
+  pub denied-true : is_among assumed x ≡ true → negations_assumed assumed (drop i (signed negate ls)) ≡ None
   denied-true t = rw next (rw t refl)
 
-  pub denied-had : is_among assumed x ≡ false → is_among assumed (negated x) ≡ true → denied_in_turn assumed (drop i (signed negate ls)) ≡ denied_in_turn assumed (drop (i + 1) (signed negate ls))
+  pub denied-had : is_among assumed x ≡ false → is_among assumed (negated x) ≡ true → negations_assumed assumed (drop i (signed negate ls)) ≡ negations_assumed assumed (drop (i + 1) (signed negate ls))
   denied-had f t = rw next (rw (f, t) refl)
 
-  pub denied-new : is_among assumed x ≡ false → is_among assumed (negated x) ≡ false → denied_in_turn assumed (drop i (signed negate ls)) ≡ denied_in_turn (negated x ∷ assumed) (drop (i + 1) (signed negate ls))
+  pub denied-new : is_among assumed x ≡ false → is_among assumed (negated x) ≡ false → negations_assumed assumed (drop i (signed negate ls)) ≡ negations_assumed (negated x ∷ assumed) (drop (i + 1) (signed negate ls))
   denied-new f t = rw next (rw (f, t) refl)
 
   -- the negation is assumed, unless it already was
   pub denied_once : (n : ℕ) (first mid new : LiteralsAndRoom) → mid.literals ≡ assumed → is_among mid.literals x ≡ false → n ≡ negated x → AssumesOnce n mid new → AssumesMore first mid
-      → (denied_in_turn mid.literals (drop i (signed negate ls)) ≡ denied_in_turn new.literals (drop (i + 1) (signed negate ls))) × AssumesMore first new
+      → (negations_assumed mid.literals (drop i (signed negate ls)) ≡ negations_assumed new.literals (drop (i + 1) (signed negate ls))) × AssumesMore first new
   denied_once n first mid new a f e h more = go (is_among mid.literals n) refl h
     where
       free : is_among assumed x ≡ false
       free = ap (λ xs. is_among xs x) (sym a) ∙ f
 
       go : (b : Bool) → is_among mid.literals n ≡ b → MatchBool b (new ≡ mid) (new ≡ record { literals = n ∷ mid.literals; room = with_room n mid.room })
-          → (denied_in_turn mid.literals (drop i (signed negate ls)) ≡ denied_in_turn new.literals (drop (i + 1) (signed negate ls))) × AssumesMore first new
+          → (negations_assumed mid.literals (drop i (signed negate ls)) ≡ negations_assumed new.literals (drop (i + 1) (signed negate ls))) × AssumesMore first new
       go true d k = (
-        ap (λ xs. denied_in_turn xs (drop i (signed negate ls))) a ∙ denied-had free (ap (is_among assumed) (sym e) ∙ ap (λ xs. is_among xs n) (sym a) ∙ d)
-            ∙ ap (λ xs. denied_in_turn xs (drop (i + 1) (signed negate ls))) (sym a) ∙ ap (λ (t : LiteralsAndRoom). denied_in_turn t.literals (drop (i + 1) (signed negate ls))) (sym k),
+        ap (λ xs. negations_assumed xs (drop i (signed negate ls))) a ∙ denied-had free (ap (is_among assumed) (sym e) ∙ ap (λ xs. is_among xs n) (sym a) ∙ d)
+            ∙ ap (λ xs. negations_assumed xs (drop (i + 1) (signed negate ls))) (sym a) ∙ ap (λ (t : LiteralsAndRoom). negations_assumed t.literals (drop (i + 1) (signed negate ls))) (sym k),
         subst (AssumesMore first) (sym k) more,
       )
       go false d k = (
-        ap (λ xs. denied_in_turn xs (drop i (signed negate ls))) a ∙ denied-new free (ap (is_among assumed) (sym e) ∙ ap (λ xs. is_among xs n) (sym a) ∙ d)
-            ∙ ap (λ l. denied_in_turn (l ∷ assumed) (drop (i + 1) (signed negate ls))) (sym e) ∙ ap (λ xs. denied_in_turn (n ∷ xs) (drop (i + 1) (signed negate ls))) (sym a)
-            ∙ ap (λ (t : LiteralsAndRoom). denied_in_turn t.literals (drop (i + 1) (signed negate ls))) (sym k),
+        ap (λ xs. negations_assumed xs (drop i (signed negate ls))) a ∙ denied-new free (ap (is_among assumed) (sym e) ∙ ap (λ xs. is_among xs n) (sym a) ∙ d)
+            ∙ ap (λ l. negations_assumed (l ∷ assumed) (drop (i + 1) (signed negate ls))) (sym e) ∙ ap (λ xs. negations_assumed (n ∷ xs) (drop (i + 1) (signed negate ls))) (sym a)
+            ∙ ap (λ (t : LiteralsAndRoom). negations_assumed t.literals (drop (i + 1) (signed negate ls))) (sym k),
         Extends-assumed first mid new n more k,
       )
 

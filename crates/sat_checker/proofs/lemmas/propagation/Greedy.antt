@@ -6,7 +6,7 @@ use Rattle.sat_base.specs.values.Literals.{negated}
 use Rattle.sat_checker.specs.LiteralSets.{is_among}
 use Rattle.sat_checker.specs.inner.Marks.{NoRepeats}
 use Rattle.sat_checker.specs.Propagation.{IsFalsified, IsUnit, UnitInTurn, IsSubsequence, clauses_in, BucketsConflict}
-use Rattle.sat_checker.specs.inner.Walk.{becomes_unit, neither, clause_state, state_by_open, not_false, walk, walk_on, and_then, walk_buckets, if_conflict}
+use Rattle.sat_checker.specs.inner.Walk.{becomes_unit, neither, clause_state, state_by_open, not_false, walk, walk_clause, and_then, walk_buckets, if_conflict}
 
 abbrev IsFalse : List ℕ → ℕ → Type 0
 IsFalse assumed l = is_among assumed (negated l) ≡ true
@@ -103,13 +103,13 @@ walk_runs : (clauses : List (List ℕ)) (assumed : List ℕ) → walk assumed cl
 walk_runs [] assumed e = absurd cc
 walk_runs (c ∷ cs) assumed e = by_open (walk_runs cs) (not_false assumed c) refl e
   where
-    by_mark : ((more : List ℕ) → walk more cs ≡ None → Runs more cs) → (o : ℕ) → not_false assumed c ≡ o ∷ [] → (b : Bool) → is_among assumed o ≡ b → and_then (walk_on (cond b neither (becomes_unit o)) assumed) (λ more. walk more cs) ≡ None → Runs assumed (c ∷ cs)
+    by_mark : ((more : List ℕ) → walk more cs ≡ None → Runs more cs) → (o : ℕ) → not_false assumed c ≡ o ∷ [] → (b : Bool) → is_among assumed o ≡ b → and_then (walk_clause (cond b neither (becomes_unit o)) assumed) (λ more. walk more cs) ≡ None → Runs assumed (c ∷ cs)
     by_mark ih o h true m e' = let r = ih assumed e' in record { picked = r.picked; chosen = IsSubsequence-longer r.picked c cs r.chosen; conflict = r.conflict }
     by_mark ih o h false m e' =
         let k = one_open assumed c o h in
         unit_first assumed c o cs (record { within = k.within; not_true = m; not_false = k.not_false; others = k.others }) (ih (o ∷ assumed) e')
 
-    by_open : ((more : List ℕ) → walk more cs ≡ None → Runs more cs) → (ls : List ℕ) → not_false assumed c ≡ ls → and_then (walk_on (state_by_open assumed ls) assumed) (λ more. walk more cs) ≡ None → Runs assumed (c ∷ cs)
+    by_open : ((more : List ℕ) → walk more cs ≡ None → Runs more cs) → (ls : List ℕ) → not_false assumed c ≡ ls → and_then (walk_clause (state_by_open assumed ls) assumed) (λ more. walk more cs) ≡ None → Runs assumed (c ∷ cs)
     by_open ih [] h e' = record { picked = c ∷ []; chosen = inl (refl, tt); conflict = none_open assumed c h }
     by_open ih (o ∷ []) h e' = by_mark ih o h (is_among assumed o) refl e'
     by_open ih (o ∷ p ∷ ls) h e' = let r = ih assumed e' in record { picked = r.picked; chosen = IsSubsequence-longer r.picked c cs r.chosen; conflict = r.conflict }
@@ -145,7 +145,7 @@ others_more xs ys (l ∷ ls) o h f = (elim f.0 [ inl e ↦ inl e | inr k ↦ inr
 
 -- how the walk continues after a clause, given its literals that are not false
 abbrev from_open : List ℕ → List (List ℕ) → List ℕ → Option (List ℕ)
-from_open assumed rest ls = and_then (walk_on (state_by_open assumed ls) assumed) (λ more. walk more rest)
+from_open assumed rest ls = and_then (walk_clause (state_by_open assumed ls) assumed) (λ more. walk more rest)
 
 walk_falsified : (assumed clause : List ℕ) (rest : List (List ℕ)) → not_false assumed clause ≡ [] → walk assumed (clause ∷ rest) ≡ None
 walk_falsified assumed clause rest e = ap (from_open assumed rest) e
@@ -153,7 +153,7 @@ walk_falsified assumed clause rest e = ap (from_open assumed rest) e
 walk_opened : (assumed clause : List ℕ) (rest : List (List ℕ)) (o : ℕ) → not_false assumed clause ≡ o ∷ [] → (is_among assumed o ≡ true → walk assumed rest ≡ None) → (is_among assumed o ≡ false → walk (o ∷ assumed) rest ≡ None) → walk assumed (clause ∷ rest) ≡ None
 walk_opened assumed clause rest o e had new = ap (from_open assumed rest) e ∙ go (is_among assumed o) refl
   where
-    go : (b : Bool) → is_among assumed o ≡ b → and_then (walk_on (cond b neither (becomes_unit o)) assumed) (λ more. walk more rest) ≡ None
+    go : (b : Bool) → is_among assumed o ≡ b → and_then (walk_clause (cond b neither (becomes_unit o)) assumed) (λ more. walk more rest) ≡ None
     go true h = had h
     go false h = new h
 
@@ -191,7 +191,7 @@ walk_finds (c ∷ cs) fewer more w n (x ∷ d ∷ ds) s r =
 
 walk-append : (xs ys : List (List ℕ)) (assumed : List ℕ) → walk assumed (xs ++ ys) ≡ and_then (walk assumed xs) (λ more. walk more ys)
 walk-append [] ys assumed = refl
-walk-append (c ∷ cs) ys assumed = go (walk-append cs ys) (walk_on (clause_state assumed c) assumed)
+walk-append (c ∷ cs) ys assumed = go (walk-append cs ys) (walk_clause (clause_state assumed c) assumed)
   where
     go : ((m : List ℕ) → walk m (cs ++ ys) ≡ and_then (walk m cs) (λ more. walk more ys)) → (o : Option (List ℕ)) → and_then o (λ m. walk m (cs ++ ys)) ≡ and_then (and_then o (λ m. walk m cs)) (λ more. walk more ys)
     go ih None = refl
@@ -203,7 +203,7 @@ record Front (assumed : List ℕ) (buckets : List (List (List ℕ))) : Type 0 wh
   rest : List (List (List ℕ))
   split : buckets ≡ first ++ rest
   none_empty : AllByRecursion (λ b. b ≢ []) first
-  met : walk assumed (clauses_in first) ≡ None
+  reached : walk assumed (clauses_in first) ≡ None
 
 walk_front : (buckets : List (List (List ℕ))) (assumed : List ℕ) → walk_buckets assumed buckets ≡ true → Front assumed buckets
 walk_front [] assumed e = absurd (true≢false (sym e))
@@ -212,7 +212,7 @@ walk_front ((c ∷ cs) ∷ bs) assumed e = go (walk_front bs) (walk assumed (c �
   where
     go : ((m : List ℕ) → walk_buckets m bs ≡ true → Front m bs) → (o : Option (List ℕ)) → walk assumed (c ∷ cs) ≡ o → if_conflict o (λ m. walk_buckets m bs) ≡ true → Front assumed ((c ∷ cs) ∷ bs)
     go ih None h e' =
-        record { first = (c ∷ cs) ∷ []; rest = bs; split = refl; none_empty = ((λ k. cc), tt); met = walk-append (c ∷ cs) [] assumed ∙ ap (λ o. and_then o (λ more. walk more [])) h }
+        record { first = (c ∷ cs) ∷ []; rest = bs; split = refl; none_empty = ((λ k. cc), tt); reached = walk-append (c ∷ cs) [] assumed ∙ ap (λ o. and_then o (λ more. walk more [])) h }
     go ih (Some m) h e' =
         let f = ih m e' in
         record {
@@ -220,7 +220,7 @@ walk_front ((c ∷ cs) ∷ bs) assumed e = go (walk_front bs) (walk assumed (c �
           rest = f.rest;
           split = ap (λ b. (c ∷ cs) ∷ b) f.split;
           none_empty = ((λ k. cc), f.none_empty);
-          met = walk-append (c ∷ cs) (clauses_in f.first) assumed ∙ ap (λ o. and_then o (λ more. walk more (clauses_in f.first))) h ∙ f.met;
+          reached = walk-append (c ∷ cs) (clauses_in f.first) assumed ∙ ap (λ o. and_then o (λ more. walk more (clauses_in f.first))) h ∙ f.reached;
         }
 
 walk_over : (first rest : List (List (List ℕ))) (assumed : List ℕ) → AllByRecursion (λ b. b ≢ []) first → walk assumed (clauses_in first) ≡ None → walk_buckets assumed (first ++ rest) ≡ true
@@ -236,7 +236,7 @@ walk_over ((c ∷ cs) ∷ fs) rest assumed n e = go (λ m. walk_over fs rest m n
 pub rule_from_walk : (assumed : List ℕ) (buckets : List (List (List ℕ))) → walk_buckets assumed buckets ≡ true → BucketsConflict assumed buckets
 rule_from_walk assumed buckets e =
     let f = walk_front buckets assumed e in
-    let r = walk_runs (clauses_in f.first) assumed f.met in
+    let r = walk_runs (clauses_in f.first) assumed f.reached in
     record { first = f.first; rest = f.rest; picked = r.picked; split = f.split; none_empty = f.none_empty; chosen = r.chosen; conflict = r.conflict }
 
 -- what holds for the clauses of all buckets holds for those of the first buckets

@@ -7,7 +7,7 @@ use Rattle.sat_base.specs.values.Literals.{negated, negated_if}
 use Rattle.sat_checker.specs.LiteralSets.{is_among, is_tautology}
 use Rattle.sat_checker.specs.Propagation.{clauses_in, BucketsConflict, PassesCheck, tautology, unit_true, conflict}
 use Rattle.sat_checker.specs.inner.Marks.{NoRepeats}
-use Rattle.sat_checker.specs.inner.AssumedRoom.{LiteralsAndRoom, AgreesOn, HasClauseRoom, HasClausesRoom, DeniedInRoom, signed}
+use Rattle.sat_checker.specs.inner.AssumedRoom.{LiteralsAndRoom, AgreeWithinRoom, HasClauseRoom, HasClausesRoom, NegationsAssumedInRoom, signed}
 use Rattle.sat_checker.specs.inner.Walk.{walk_buckets}
 use Rattle.sat_checker.proofs.lemmas.propagation.Denied.{clause_more, clause_split}
 use Rattle.sat_checker.proofs.lemmas.propagation.Greedy.{Within-itself, joined_front, picked_each, rule_from_walk, walk_from_rule}
@@ -67,10 +67,10 @@ tautology_front (x ∷ xs) ys h =
     ]
 
 -- one more literal is denied
-module _ (old mid : LiteralsAndRoom) (seen : List ℕ) (x : ℕ) (within : (l : ℕ) → is_among old.literals l ≡ true → is_among old.room l ≡ true) (denied : DeniedInRoom old seen mid) where
+module _ (old mid : LiteralsAndRoom) (seen : List ℕ) (x : ℕ) (within : (l : ℕ) → is_among old.literals l ≡ true → is_among old.room l ≡ true) (denied : NegationsAssumedInRoom old seen mid) where
   -- a literal is true exactly if it is a unit or its negation is one of the earlier literals of the clause
-  met_is : cond (is_among old.room x) (is_among mid.literals x) (is_among seen (negated x)) ≡ (is_among seen (negated x) || is_among old.literals x)
-  met_is = go (is_among old.room x) refl
+  reached_is : cond (is_among old.room x) (is_among mid.literals x) (is_among seen (negated x)) ≡ (is_among seen (negated x) || is_among old.literals x)
+  reached_is = go (is_among old.room x) refl
     where
       lone : (b : Bool) → b ≡ (b || false)
       lone true = refl
@@ -82,18 +82,18 @@ module _ (old mid : LiteralsAndRoom) (seen : List ℕ) (x : ℕ) (within : (l : 
           let none : is_among old.literals x ≡ false = false_from_ne_true (is_among old.literals x) (λ t. both_ways (is_among old.room x) e (within x t)) in
           lone (is_among seen (negated x)) ∙ ap (λ b. is_among seen (negated x) || b) (sym none)
 
-  pub met_in_room : (whole left : List ℕ) → (seen ++ x ∷ []) ++ left ≡ whole → cond (is_among old.room x) (is_among mid.literals x) (is_among seen (negated x)) ≡ true
+  pub reached_in_room : (whole left : List ℕ) → (seen ++ x ∷ []) ++ left ≡ whole → cond (is_among old.room x) (is_among mid.literals x) (is_among seen (negated x)) ≡ true
       → (list_any (is_among old.literals) whole ≡ true) ⊎ (is_tautology whole ≡ true)
-  met_in_room whole left split h =
-      elim (or_cases (is_among seen (negated x)) (is_among old.literals x) (sym met_is ∙ h)) [
+  reached_in_room whole left split h =
+      elim (or_cases (is_among seen (negated x)) (is_among old.literals x) (sym reached_is ∙ h)) [
         | inl a ↦ inr (subst (λ c. is_tautology c ≡ true) split (tautology_front (seen ++ x ∷ []) left (tautology_push seen x ∙ or_left (is_among seen (negated x)) (is_tautology seen) a)))
         | inr b ↦ inl (subst (λ c. list_any (is_among old.literals) c ≡ true) split
             (any_front (is_among old.literals) (seen ++ x ∷ []) left (any_push (is_among old.literals) seen x ∙ or_left (is_among old.literals x) (list_any (is_among old.literals) seen) b)))
       ]
 
-  pub denied_more : (new : LiteralsAndRoom) → cond (is_among old.room x) (is_among mid.literals x) (is_among seen (negated x)) ≡ false → AgreesOn old.room new.literals (negated x ∷ mid.literals) → DeniedInRoom old (seen ++ x ∷ []) new
+  pub denied_more : (new : LiteralsAndRoom) → cond (is_among old.room x) (is_among mid.literals x) (is_among seen (negated x)) ≡ false → AgreeWithinRoom old.room new.literals (negated x ∷ mid.literals) → NegationsAssumedInRoom old (seen ++ x ∷ []) new
   denied_more new h same =
-      let none = or_parts (is_among seen (negated x)) (is_among old.literals x) (sym met_is ∙ h) in
+      let none = or_parts (is_among seen (negated x)) (is_among old.literals x) (sym reached_is ∙ h) in
       record {
         agrees = λ l r. same l r ∙ ap (λ b. eqb (negated x) l || b) (denied.agrees l r ∙ among-append (map negated seen) old.literals l)
             ∙ swap (eqb (negated x) l) (is_among (map negated seen) l) (is_among old.literals l)
@@ -119,7 +119,7 @@ tautology_signed true (l ∷ ls) =
 
 -- the literal at index `i`, after the earlier ones are denied
 module _ (old mid : LiteralsAndRoom) (negate : Bool) (ls : List ℕ) (i l : ℕ) (inside : i < length ls) (is : l ≡ get_or ls i l) (room : mid.room ≡ old.room)
-    (within : (m : ℕ) → is_among old.literals m ≡ true → is_among old.room m ≡ true) (denied : DeniedInRoom old (signed negate (take i ls)) mid) where
+    (within : (m : ℕ) → is_among old.literals m ≡ true → is_among old.room m ≡ true) (denied : NegationsAssumedInRoom old (signed negate (take i ls)) mid) where
   one_more : signed negate (take (i + 1) ls) ≡ signed negate (take i ls) ++ negated_if negate l ∷ []
   one_more = clause_more negate ls i l inside ∙ ap (λ k. signed negate (take i ls) ++ negated_if negate k ∷ []) (sym is)
 
@@ -134,18 +134,18 @@ module _ (old mid : LiteralsAndRoom) (negate : Bool) (ls : List ℕ) (i l : ℕ)
       (tautology_push (signed negate (take i ls)) (negated_if negate l)
       ∙ or_left (is_among (signed negate (take i ls)) (negated (negated_if negate l))) (is_tautology (signed negate (take i ls))) a))))
 
-  pub place_met : (x : ℕ) → x ≡ negated_if negate l → ((m : ℕ) → is_among mid.literals m ≡ true → is_among mid.room m ≡ true) → is_among mid.literals x ≡ true
+  pub place_reached : (x : ℕ) → x ≡ negated_if negate l → ((m : ℕ) → is_among mid.literals m ≡ true → is_among mid.room m ≡ true) → is_among mid.literals x ≡ true
       → (list_any (is_among old.literals) (signed negate ls) ≡ true) ⊎ (is_tautology (signed negate ls) ≡ true)
-  place_met x e stand h =
+  place_reached x e stand h =
       let k : is_among mid.literals (negated_if negate l) ≡ true = subst (λ y. is_among mid.literals y ≡ true) e h in
       let r : is_among old.room (negated_if negate l) ≡ true = subst (λ xs. is_among xs (negated_if negate l) ≡ true) room (stand (negated_if negate l) k) in
-      met_in_room old mid (signed negate (take i ls)) (negated_if negate l) within denied (signed negate ls) (signed negate (drop (i + 1) ls)) split
+      reached_in_room old mid (signed negate (take i ls)) (negated_if negate l) within denied (signed negate ls) (signed negate (drop (i + 1) ls)) split
       (cond-true (is_among old.room (negated_if negate l)) (is_among mid.literals (negated_if negate l)) (is_among (signed negate (take i ls)) (negated (negated_if negate l))) r ∙ k)
 
-  pub place_denied : (new : LiteralsAndRoom) (x other : ℕ) → x ≡ negated_if negate l → other ≡ negated x → is_among mid.literals x ≡ false → is_tautology ls ≡ false → AgreesOn mid.room new.literals (other ∷ mid.literals)
-      → DeniedInRoom old (signed negate (take (i + 1) ls)) new
+  pub place_denied : (new : LiteralsAndRoom) (x other : ℕ) → x ≡ negated_if negate l → other ≡ negated x → is_among mid.literals x ≡ false → is_tautology ls ≡ false → AgreeWithinRoom mid.room new.literals (other ∷ mid.literals)
+      → NegationsAssumedInRoom old (signed negate (take (i + 1) ls)) new
   place_denied new x other e o h t same =
-      subst (λ c. DeniedInRoom old c new) (sym one_more)
+      subst (λ c. NegationsAssumedInRoom old c new) (sym one_more)
       (denied_more old mid (signed negate (take i ls)) (negated_if negate l) within denied new
       (either (is_among old.room (negated_if negate l)) (subst (λ y. is_among mid.literals y ≡ false) e h) (fresh t))
       (λ m r. same m (subst (λ xs. is_among xs m ≡ true) (sym room) r) ∙ ap (λ y. eqb y m || is_among mid.literals m) (o ∙ ap negated e)))
@@ -155,7 +155,7 @@ module _ (old mid : LiteralsAndRoom) (negate : Bool) (ls : List ℕ) (i l : ℕ)
       either false p q = q
 
 -- a conflict depends only on the literals that have room
-pub rule_same : (room us vs : List ℕ) (buckets : List (List (List ℕ))) → AgreesOn room us vs → AllByRecursion (HasClausesRoom room) buckets → BucketsConflict us buckets → BucketsConflict vs buckets
+pub rule_same : (room us vs : List ℕ) (buckets : List (List (List ℕ))) → AgreeWithinRoom room us vs → AllByRecursion (HasClausesRoom room) buckets → BucketsConflict us buckets → BucketsConflict vs buckets
 rule_same room us vs buckets same roomy k = record {
   first = k.first;
   rest = k.rest;
@@ -168,7 +168,7 @@ rule_same room us vs buckets same roomy k = record {
 }
 
 -- the check accepts exactly by the rule, although literals without room are not assumed
-pub exact_in_room : (old new : LiteralsAndRoom) (clause : List ℕ) (buckets : List (List (List ℕ))) (answer : Bool) → AllByRecursion (AllByRecursion NoRepeats) buckets → AllByRecursion (HasClausesRoom old.room) buckets → DeniedInRoom old clause new → answer ≡ walk_buckets new.literals buckets
+pub exact_in_room : (old new : LiteralsAndRoom) (clause : List ℕ) (buckets : List (List (List ℕ))) (answer : Bool) → AllByRecursion (AllByRecursion NoRepeats) buckets → AllByRecursion (HasClausesRoom old.room) buckets → NegationsAssumedInRoom old clause new → answer ≡ walk_buckets new.literals buckets
     → (answer ≡ true) ↔ PassesCheck old.literals clause buckets
 exact_in_room old new clause buckets answer sets roomy denied w = (
   (λ t. conflict (rule_same old.room new.literals (map negated clause ++ old.literals) buckets denied.agrees roomy (rule_from_walk new.literals buckets (sym w ∙ t)))),

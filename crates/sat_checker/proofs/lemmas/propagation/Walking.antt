@@ -6,11 +6,11 @@ use Rattle.std.specs.Prelude.{find}
 use Rattle.sat_checker.specs.Looks.{total_length}
 use Rattle.sat_checker.specs.LiteralSets.{is_among}
 use Rattle.sat_base.specs.values.Literals.{negated}
-use Rattle.sat_checker.specs.inner.Look.{AssumesMore}
-use Rattle.sat_checker.specs.inner.AssumedRoom.{LiteralsAndRoom, with_room, RoomStays, HasClauseRoom, HasClausesRoom}
+use Rattle.sat_checker.specs.inner.WalkResults.{AssumesMore}
+use Rattle.sat_checker.specs.inner.AssumedRoom.{LiteralsAndRoom, with_room, RoomIsKept, HasClauseRoom, HasClausesRoom}
 use Rattle.sat_checker.proofs.lemmas.sets.Members.{each_at, each_mapped}
 use Rattle.sat_checker.proofs.lemmas.sets.Rooms.{room_stays}
-use Rattle.sat_checker.specs.inner.Walk.{becomes_unit, neither, clause_state, state_by_open, not_false, walk, walk_on, and_then, walk_buckets, if_conflict}
+use Rattle.sat_checker.specs.inner.Walk.{becomes_unit, neither, clause_state, state_by_open, not_false, walk, walk_clause, and_then, walk_buckets, if_conflict}
 
 -- the open literal of a unit clause is not assumed yet
 opens_from : (assumed ls : List ℕ) (l : ℕ) → state_by_open assumed ls ≡ becomes_unit l → is_among assumed l ≡ false
@@ -55,18 +55,18 @@ pub opens_same : (room assumed clause : List ℕ) (l : ℕ) → clause_state ass
 opens_same room assumed clause l e h = ap (λ b. cond b room (l ∷ negated l ∷ room)) (opens_roomy room assumed clause l e h)
 
 -- a clause that has room still has it if more literals have room
-pub roomy_further : (old new clause : List ℕ) → RoomStays old new → HasClauseRoom old clause → HasClauseRoom new clause
+pub roomy_further : (old new clause : List ℕ) → RoomIsKept old new → HasClauseRoom old clause → HasClauseRoom new clause
 roomy_further old new [] s h = tt
 roomy_further old new (l ∷ ls) s h = ((s l h.0.0, s (negated l) h.0.1), roomy_further old new ls s h.1)
 
 -- if the clauses at all places have room, so has the clause at one of them
-pub roomy_at : (old new : List ℕ) (literals : ℕ → List ℕ) (places : List ℕ) (place : ℕ) → RoomStays old new → is_among places place ≡ true → HasClausesRoom old (map literals places) → HasClauseRoom new (literals place)
+pub roomy_at : (old new : List ℕ) (literals : ℕ → List ℕ) (places : List ℕ) (place : ℕ) → RoomIsKept old new → is_among places place ≡ true → HasClausesRoom old (map literals places) → HasClauseRoom new (literals place)
 roomy_at old new literals places place s among h = roomy_further old new (literals place) s (each_at (λ p. HasClauseRoom old (literals p)) places place (each_mapped (HasClauseRoom old) literals places h) among)
 
 pub Extends-itself : (t : LiteralsAndRoom) → AssumesMore t t
 Extends-itself t = record { longer = omega arith; below = let e : length t.literals - length t.literals ≡ 0 = omega arith in rw e refl; room = λ l h. h }
 
-pub Extends-more : (old mid new : LiteralsAndRoom) (l : ℕ) → AssumesMore old mid → new.literals ≡ l ∷ mid.literals → RoomStays mid.room new.room → AssumesMore old new
+pub Extends-more : (old mid new : LiteralsAndRoom) (l : ℕ) → AssumesMore old mid → new.literals ≡ l ∷ mid.literals → RoomIsKept mid.room new.room → AssumesMore old new
 Extends-more old mid new l h e s =
     let k : length old.literals ≤ length mid.literals = h.longer in
     let n : length new.literals ≡ suc (length mid.literals) = ap length e in
@@ -97,18 +97,18 @@ module _ (literals : ℕ → List ℕ) (places : List ℕ) (i : ℕ) (inside : i
   sum_next = ap (total_length) next_place
 
 -- the walk after one clause, by its verdict
-pub walk-met : (assumed clause : List ℕ) (rest : List (List ℕ)) (more : List ℕ) → walk_on (clause_state assumed clause) assumed ≡ Some more → walk assumed (clause ∷ rest) ≡ walk more rest
-walk-met assumed clause rest more e = ap (λ o. and_then o (λ m. walk m rest)) e
+pub walk-reached : (assumed clause : List ℕ) (rest : List (List ℕ)) (more : List ℕ) → walk_clause (clause_state assumed clause) assumed ≡ Some more → walk assumed (clause ∷ rest) ≡ walk more rest
+walk-reached assumed clause rest more e = ap (λ o. and_then o (λ m. walk m rest)) e
 
-pub walk-conflict : (assumed clause : List ℕ) (rest : List (List ℕ)) → walk_on (clause_state assumed clause) assumed ≡ None → walk assumed (clause ∷ rest) ≡ None
+pub walk-conflict : (assumed clause : List ℕ) (rest : List (List ℕ)) → walk_clause (clause_state assumed clause) assumed ≡ None → walk assumed (clause ∷ rest) ≡ None
 walk-conflict assumed clause rest e = ap (λ o. and_then o (λ m. walk m rest)) e
 
 -- the walk visits the clause at index `i`, and those after it remain
 module _ (literals : ℕ → List ℕ) (places : List ℕ) (i : ℕ) (inside : i < length places) where
-  pub walk_more : (whole : Option (List ℕ)) (mid more : List ℕ) → whole ≡ walk mid (map literals (drop i places)) → walk_on (clause_state mid (literals (get_or places i 0))) mid ≡ Some more → whole ≡ walk more (map literals (drop (i + 1) places))
-  walk_more whole mid more h e = h ∙ walk_next literals places i inside mid ∙ walk-met mid (literals (get_or places i 0)) (map literals (drop (i + 1) places)) more e
+  pub walk_more : (whole : Option (List ℕ)) (mid more : List ℕ) → whole ≡ walk mid (map literals (drop i places)) → walk_clause (clause_state mid (literals (get_or places i 0))) mid ≡ Some more → whole ≡ walk more (map literals (drop (i + 1) places))
+  walk_more whole mid more h e = h ∙ walk_next literals places i inside mid ∙ walk-reached mid (literals (get_or places i 0)) (map literals (drop (i + 1) places)) more e
 
-  pub walk_ends : (whole : Option (List ℕ)) (mid : List ℕ) → whole ≡ walk mid (map literals (drop i places)) → walk_on (clause_state mid (literals (get_or places i 0))) mid ≡ None → whole ≡ None
+  pub walk_ends : (whole : Option (List ℕ)) (mid : List ℕ) → whole ≡ walk mid (map literals (drop i places)) → walk_clause (clause_state mid (literals (get_or places i 0))) mid ≡ None → whole ≡ None
   walk_ends whole mid h e = h ∙ walk_next literals places i inside mid ∙ walk-conflict mid (literals (get_or places i 0)) (map literals (drop (i + 1) places)) e
 
   pub looks_more : (most before after : ℕ) → before + total_length (map literals (drop i places)) ≡ most → after ≡ before + length (literals (get_or places i 0)) → after + total_length (map literals (drop (i + 1) places)) ≡ most
@@ -130,7 +130,7 @@ Extends-further old mid new h k =
     }
 
 -- after newer literals are forgotten, the old ones are assumed, and no literal loses its room
-pub Extends-undone : (old mid new : LiteralsAndRoom) (left : ℕ) → AssumesMore old mid → left ≡ length old.literals → new ≡ record mid { literals = drop (length mid.literals - left) mid.literals } → (new.literals ≡ old.literals) × RoomStays old.room new.room
+pub Extends-undone : (old mid new : LiteralsAndRoom) (left : ℕ) → AssumesMore old mid → left ≡ length old.literals → new ≡ record mid { literals = drop (length mid.literals - left) mid.literals } → (new.literals ≡ old.literals) × RoomIsKept old.room new.room
 Extends-undone old mid new left h n e = (
   ap (λ (t : LiteralsAndRoom). t.literals) e ∙ ap (λ k. drop (length mid.literals - k) mid.literals) n ∙ h.below,
   (λ l k. subst (λ (t : LiteralsAndRoom). is_among t.room l ≡ true) (sym e) (h.room l k)),
@@ -138,7 +138,7 @@ Extends-undone old mid new left h n e = (
 
 pub ruleset meeting = (opens_new, Extends-itself, Extends-assumed)
 
-pub ruleset walking = (Extends-itself, Extends-further, walk_next, sum_next, walk-met, walk-conflict)
+pub ruleset walking = (Extends-itself, Extends-further, walk_next, sum_next, walk-reached, walk-conflict)
 
 module _ (bucket_of : ℕ → List (List ℕ)) (hashes : List ℕ) (i : ℕ) (inside : i < length hashes) (assumed more : List ℕ) where
   -- the bucket at index `i` is visited first

@@ -8,17 +8,17 @@ use Rattle.sat_base.specs.steps.Steps.{Step, SolverVarName, UserVarName, AddClau
 use Rattle.sat_checker.specs.LiteralSets.{is_tautology}
 use Rattle.sat_checker.specs.inner.Marks.{NoRepeats}
 use Rattle.sat_checker.specs.Propagation.{tautology, unit_true, conflict}
-use Rattle.sat_checker.specs.Stored.{Stored, Variable, Sample, Hide, unknown, is_unit, unit_literals, bucket}
+use Rattle.sat_checker.specs.Stored.{Stored, Variable, Sample, Hide, initial_variable, is_unit, unit_literals, bucket}
 use Rattle.sat_checker.specs.Storing.{with_unit}
-use Rattle.sat_checker.specs.Accepts.{PassesByHashes, MayGetName}
+use Rattle.sat_checker.specs.Accepts.{PassesByHashes, CanGetName}
 use Rattle.sat_checker.specs.inner.Walk.{walk_buckets}
-use Rattle.sat_checker.specs.Rows.{ready_by, AllAccepted, HashesOfOneTwo, EndAloneAccepted, NamedAgain, four_clauses as four, FourClauses, Refuted, RefutedAtZero, StoredTwice, three_at_zero, NamedOnce, NamedTwice, Colliding, SolverNamesHash, UnitConflict, ConflictAndUnit}
+use Rattle.sat_checker.specs.Rows.{ready_by, AllAccepted, HashesOfOneTwo, OnlyEndIsAccepted, NameGivenAgain, four_clauses as four, FourClauses, Refuted, RefutedAtWidthZero, StoredTwice, three_at_width_zero, HashGivenOnce, HashGivenTwice, CollidingHashes, SolverNameChangesHash, UnitConflict, ConflictAndUnit}
 use Rattle.sat_checker.proofs.lemmas.propagation.Greedy.{rule_from_walk, walk_from_rule}
 
 pub of_one_two : HashesOfOneTwo
 of_one_two = refl
 
-pub end_alone : EndAloneAccepted
+pub end_alone : OnlyEndIsAccepted
 end_alone = ((tt, tt), refl, refl)
 
 none_some : (n : ℕ) → None ≢ Some n
@@ -53,7 +53,7 @@ refuted_twice = (
   refl,
 )
 
-pub refuted_at_zero : RefutedAtZero
+pub refuted_at_zero : RefutedAtWidthZero
 refuted_at_zero = (
   (
     ((all_four, tt), walked (ready_by (four ++ ChangeHashBits 0 ∷ [])) (0 ∷ []) (0 ∷ []) refl),
@@ -69,16 +69,16 @@ stored_twice =
     let f : Stored = ready_by (AddClause (0 ∷ 2 ∷ []) ∷ AddClause (2 ∷ 0 ∷ 0 ∷ []) ∷ []) in
     (((((tt, inr (refl, (refl, tt))), inr (refl, (refl, (refl, tt))))), stuck f (4 ∷ []) [] refl refl tt refl), refl, refl)
 
-three_accepted : AllAccepted three_at_zero
+three_accepted : AllAccepted three_at_width_zero
 three_accepted = ((((tt, tt), inr (refl, (refl, (refl, tt)))), inr (refl, (refl, tt))), inr (refl, (refl, tt)))
 
-pub named_once : NamedOnce
-named_once = (three_accepted, stuck (ready_by three_at_zero) (0 ∷ 4 ∷ []) (0 ∷ []) refl refl (((refl, (refl, (refl, tt))), ((refl, (refl, tt)), ((refl, (refl, tt)), tt))), tt) refl)
+pub named_once : HashGivenOnce
+named_once = (three_accepted, stuck (ready_by three_at_width_zero) (0 ∷ 4 ∷ []) (0 ∷ []) refl refl (((refl, (refl, (refl, tt))), ((refl, (refl, tt)), ((refl, (refl, tt)), tt))), tt) refl)
 
-pub twice : NamedTwice
-twice = ((three_accepted, walked (ready_by three_at_zero) (0 ∷ 4 ∷ []) (0 ∷ 0 ∷ []) refl), refl)
+pub twice : HashGivenTwice
+twice = ((three_accepted, walked (ready_by three_at_width_zero) (0 ∷ 4 ∷ []) (0 ∷ 0 ∷ []) refl), refl)
 
-pub solver_names : SolverNamesHash
+pub solver_names : SolverNameChangesHash
 solver_names =
     let f : Stored = ready_by (AddClause (0 ∷ 2 ∷ []) ∷ SolverVarName 0 (Some 5) ∷ AddClause (1 ∷ []) ∷ []) in
     ((((tt, inr (refl, (refl, tt))), tt), inr (refl, tt)), stuck f (2 ∷ []) (hash_of (0 ∷ 2 ∷ []) ∷ []) refl refl (tt, tt) refl)
@@ -103,23 +103,23 @@ named_first : Variable
 named_first = record { known = true; mode = Sample; name = Some 0 }
 
 -- no variable has the name after the only one with it lost it
-gone : (b d : Bool) → (cond b (record { known = true; mode = Sample; name = None }) (cond b (record { known = true; mode = Hide; name = None }) (cond d (record (cond b named_first unknown) { known = true }) (cond b named_first unknown)))).name ≢ Some 0
+gone : (b d : Bool) → (cond b (record { known = true; mode = Sample; name = None }) (cond b (record { known = true; mode = Hide; name = None }) (cond d (record (cond b named_first initial_variable) { known = true }) (cond b named_first initial_variable)))).name ≢ Some 0
 unfolding named_first
 gone true d e = cc
 gone false true e = cc
 gone false false e = cc
 
-pub named : NamedAgain
+pub named : NameGivenAgain
 unfolding named_first
 named = (
   (((((((tt, record { free = λ w e. none_some 0 e; nameless = refl; not_hidden = λ e. cc }), inr (refl, tt)), λ e. none_some 0 (sym e)), refl), record { free = λ w e. gone (eqb w 0) (eqb 0 w || false) e; nameless = refl; not_hidden = λ e. cc }), inr (refl, tt)), tt),
   refl,
 )
 
-two_more : MayGetName (ready_by (UserVarName 0 (Some 0) ∷ SolverVarName 0 (Some 0) ∷ [])) 1 1
+two_more : CanGetName (ready_by (UserVarName 0 (Some 0) ∷ SolverVarName 0 (Some 0) ∷ [])) 1 1
 two_more = record { free = λ w e. one_name (eqb w 0) (eqb 0 w || false) e; nameless = refl; not_hidden = λ e. cc }
   where
-    one_name : (b d : Bool) → (cond d (record (cond b (record { known = true; mode = Sample; name = Some 0 }) unknown) { known = true }) (cond b (record { known = true; mode = Sample; name = Some 0 }) unknown)).name ≢ Some 1
+    one_name : (b d : Bool) → (cond d (record (cond b (record { known = true; mode = Sample; name = Some 0 }) initial_variable) { known = true }) (cond b (record { known = true; mode = Sample; name = Some 0 }) initial_variable)).name ≢ Some 1
     one_name true true e = cc
     one_name true false e = cc
     one_name false true e = cc
@@ -128,7 +128,7 @@ two_more = record { free = λ w e. one_name (eqb w 0) (eqb 0 w || false) e; name
 names_of_two : List Step
 names_of_two = UserVarName 0 (Some 0) ∷ SolverVarName 0 (Some 0) ∷ UserVarName 1 (Some 1) ∷ SolverVarName 1 (Some 1) ∷ []
 
-pub collide : Colliding
+pub collide : CollidingHashes
 unfolding names_of_two
 collide =
     let before : List Step = names_of_two ++ four ++ Assumptions [] ∷ ChangeHashBits 8 ∷ [] in

@@ -5,36 +5,36 @@ use Rattle.std.proofs.lemmas.List.{drop_more, get_or_read, get_or-set_same, get_
 use Rattle.sat_base.specs.values.Literals.{negated, variable}
 use Rattle.sat_checker.specs.Accepts.{VariablesDistinct}
 use Rattle.sat_checker.specs.LiteralSets.{is_among, is_tautology, mentions}
-use Rattle.sat_checker.specs.inner.Clashes.{clash, clashes_with, AllBelow, MarksCodes, NoClash, NoneBetween}
+use Rattle.sat_checker.specs.inner.Clashes.{has_clash, clashes_with, CodesBelow, MarksCodes, NoClash, NoCodeBetween}
 use Rattle.sat_checker.proofs.lemmas.state.Models.{var_among, var_not_among}
 
-clash_at_suc : (r : Bool) (ls : List ℕ) (k : ℕ) → k < length ls → clashes_with r (drop (suc k) ls) (get_or ls k 0) ≡ true → clash r ls ≡ true
+clash_at_suc : (r : Bool) (ls : List ℕ) (k : ℕ) → k < length ls → clashes_with r (drop (suc k) ls) (get_or ls k 0) ≡ true → has_clash r ls ≡ true
 clash_at_suc r [] k l h = absurd (omega arith)
-clash_at_suc r (x ∷ xs) zero l h = or_left (clashes_with r xs x) (clash r xs) h
-clash_at_suc r (x ∷ xs) (suc k) l h = or_right (clashes_with r xs x) (clash r xs) (clash_at_suc r xs k (omega arith) h)
+clash_at_suc r (x ∷ xs) zero l h = or_left (clashes_with r xs x) (has_clash r xs) h
+clash_at_suc r (x ∷ xs) (suc k) l h = or_right (clashes_with r xs x) (has_clash r xs) (clash_at_suc r xs k (omega arith) h)
 
-no_clash_suc : (r : Bool) (ls : List ℕ) → ((k : ℕ) → k < length ls → clashes_with r (drop (suc k) ls) (get_or ls k 0) ≡ false) → clash r ls ≡ false
+no_clash_suc : (r : Bool) (ls : List ℕ) → ((k : ℕ) → k < length ls → clashes_with r (drop (suc k) ls) (get_or ls k 0) ≡ false) → has_clash r ls ≡ false
 no_clash_suc r [] h = refl
-no_clash_suc r (x ∷ xs) h = or_from (clashes_with r xs x) (clash r xs) (h 0 (omega arith)) (no_clash_suc r xs (λ k l. h (suc k) (omega arith)))
+no_clash_suc r (x ∷ xs) h = or_from (clashes_with r xs x) (has_clash r xs) (h 0 (omega arith)) (no_clash_suc r xs (λ k l. h (suc k) (omega arith)))
 
 add_one : (k : ℕ) → k + 1 ≡ suc k
 add_one k = omega arith
 
 -- a literal that clashes with a later one
-pub found_clash : (r b : Bool) (ls : List ℕ) (i p l : ℕ) → i + 1 ≡ p → i < length ls → l ≡ get_or ls i l → b ≡ true → b ≡ clashes_with r (drop p ls) l → clash r ls ≡ true
+pub found_clash : (r b : Bool) (ls : List ℕ) (i p l : ℕ) → i + 1 ≡ p → i < length ls → l ≡ get_or ls i l → b ≡ true → b ≡ clashes_with r (drop p ls) l → has_clash r ls ≡ true
 found_clash r b ls i p l e inside read t s =
     clash_at_suc r ls i inside (
     ap (λ n. clashes_with r (drop n ls) (get_or ls i 0)) (sym (add_one i) ∙ e) ∙ ap (clashes_with r (drop p ls)) (sym (get_or_read ls i l inside read 0)) ∙ sym s ∙ t)
 
 -- no window is left
-pub no_clash : (r : Bool) (low : ℕ) (ls : List ℕ) → NoClash r 0 0 low ls → AllBelow low ls → clash r ls ≡ false
+pub no_clash : (r : Bool) (low : ℕ) (ls : List ℕ) → NoClash r 0 0 low ls → CodesBelow low ls → has_clash r ls ≡ false
 no_clash r low ls h b = no_clash_suc r ls (λ k l. ap (λ n. clashes_with r (drop n ls) (get_or ls k 0)) (sym (add_one k)) ∙ h.each k (omega arith) l (omega arith) (b.each k l))
 
 pub nothing_below : (r : Bool) (ls : List ℕ) → NoClash r 0 0 0 ls
 nothing_below r ls = record { each = λ k p l from below. absurd (omega arith) }
 
 -- one more window
-pub next_window : (r : Bool) (low start high : ℕ) (ls : List ℕ) → NoClash r 0 0 low ls → NoneBetween low start ls → NoClash r 0 start high ls → NoClash r 0 0 high ls
+pub next_window : (r : Bool) (low start high : ℕ) (ls : List ℕ) → NoClash r 0 0 low ls → NoCodeBetween low start ls → NoClash r 0 start high ls → NoClash r 0 0 high ls
 next_window r low start high ls h n w = record {
   each = λ k p l from below. elim (cases_lt (get_or ls k 0) start) [
     | inl lt ↦ h.each k p l from (n.each k l lt)
@@ -105,24 +105,24 @@ tautology_step : (a b c : Bool) → b ≡ c → ((a || false) || b) ≡ (a || c)
 tautology_step true b c e = refl
 tautology_step false b c e = e
 
-pub tautology_clash : (ls : List ℕ) → clash false ls ≡ is_tautology ls
+pub tautology_clash : (ls : List ℕ) → has_clash false ls ≡ is_tautology ls
 tautology_clash [] = refl
-tautology_clash (l ∷ ls) = tautology_step (is_among ls (negated l)) (clash false ls) (is_tautology ls) (tautology_clash ls)
+tautology_clash (l ∷ ls) = tautology_step (is_among ls (negated l)) (has_clash false ls) (is_tautology ls) (tautology_clash ls)
 
-apart : (ls : List ℕ) → clash true ls ≡ false → VariablesDistinct ls
+apart : (ls : List ℕ) → has_clash true ls ≡ false → VariablesDistinct ls
 apart [] h = tt
 apart (l ∷ ls) h =
-    let p = or_parts (clashes_with true ls l) (clash true ls) h in
+    let p = or_parts (clashes_with true ls l) (has_clash true ls) h in
     let q = or_parts (is_among ls (negated l)) (is_among ls l) p.0 in
     (var_not_among ls l q.1 q.0, apart ls p.1)
 
-not_apart : (ls : List ℕ) → clash true ls ≡ true → VariablesDistinct ls → ⊥
+not_apart : (ls : List ℕ) → has_clash true ls ≡ true → VariablesDistinct ls → ⊥
 not_apart [] h d = absurd cc
-not_apart (l ∷ ls) h d = elim (or_cases (clashes_with true ls l) (clash true ls) h) [
+not_apart (l ∷ ls) h d = elim (or_cases (clashes_with true ls l) (has_clash true ls) h) [
   | inl c ↦ both_ways (mentions ls (variable l)) d.0 (var_among ls l (elim (or_cases (is_among ls (negated l)) (is_among ls l) c) [ inl n ↦ inr n | inr s ↦ inl s ]))
   | inr c ↦ not_apart ls c d.1
 ]
 
-pub apart_clash : (b : Bool) (ls : List ℕ) → b ≡ clash true ls → MatchBool (not b) (VariablesDistinct ls) (VariablesDistinct ls → ⊥)
+pub apart_clash : (b : Bool) (ls : List ℕ) → b ≡ has_clash true ls → MatchBool (not b) (VariablesDistinct ls) (VariablesDistinct ls → ⊥)
 apart_clash true ls e = not_apart ls (sym e)
 apart_clash false ls e = apart ls (sym e)

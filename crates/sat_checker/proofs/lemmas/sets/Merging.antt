@@ -45,28 +45,28 @@ nothing_left [] (suc i) h = refl
 nothing_left (x ∷ xs) zero h = absurd (omega arith)
 nothing_left (x ∷ xs) (suc i) h = nothing_left xs i (omega arith)
 
-module _ (part whole : List ℕ) (met : ℕ) where
-  pub met_all : length part ≤ met → (i : ℕ) → is_subset_of (drop met part) (drop i whole) ≡ true
-  met_all h i = rw (nothing_left part met h) refl
+module _ (part whole : List ℕ) (reached : ℕ) where
+  pub reached_all : length part ≤ reached → (i : ℕ) → is_subset_of (drop reached part) (drop i whole) ≡ true
+  reached_all h i = rw (nothing_left part reached h) refl
 
-  pub none_left : met < length part → (i : ℕ) → length whole ≤ i → is_subset_of (drop met part) (drop i whole) ≡ false
-  none_left m i h = rw (nothing_left whole i h, drop_more part met 0 m) refl
+  pub none_left : reached < length part → (i : ℕ) → length whole ≤ i → is_subset_of (drop reached part) (drop i whole) ≡ false
+  none_left m i h = rw (nothing_left whole i h, drop_more part reached 0 m) refl
 
-  module _ (i : ℕ) (inside : i < length whole) (more : met < length part) (part_increasing : IsIncreasing part) (whole_increasing : IsIncreasing whole) where
-    first_of : IsIncreasing (get_or part met 0 ∷ drop (met + 1) part)
-    first_of = subst IsIncreasing (drop_more part met 0 more) (increasing_drop part met part_increasing)
+  module _ (i : ℕ) (inside : i < length whole) (more : reached < length part) (part_increasing : IsIncreasing part) (whole_increasing : IsIncreasing whole) where
+    first_of : IsIncreasing (get_or part reached 0 ∷ drop (reached + 1) part)
+    first_of = subst IsIncreasing (drop_more part reached 0 more) (increasing_drop part reached part_increasing)
 
     first_in : IsIncreasing (get_or whole i 0 ∷ drop (i + 1) whole)
     first_in = subst IsIncreasing (drop_more whole i 0 inside) (increasing_drop whole i whole_increasing)
 
-    pub met_one : get_or part met 0 ≡ get_or whole i 0 → is_subset_of (drop met part) (drop i whole) ≡ is_subset_of (drop (met + 1) part) (drop (i + 1) whole)
-    met_one e =
-        ap (λ p. is_subset_of p (drop i whole)) (drop_more part met 0 more) ∙ ap (λ w. is_subset_of (get_or part met 0 ∷ drop (met + 1) part) w) (drop_more whole i 0 inside)
-        ∙ ap (λ x. is_subset_of (get_or part met 0 ∷ drop (met + 1) part) (x ∷ drop (i + 1) whole)) (sym e) ∙ part_same (get_or part met 0) (drop (met + 1) part) (drop (i + 1) whole) first_of.0
+    pub reached_one : get_or part reached 0 ≡ get_or whole i 0 → is_subset_of (drop reached part) (drop i whole) ≡ is_subset_of (drop (reached + 1) part) (drop (i + 1) whole)
+    reached_one e =
+        ap (λ p. is_subset_of p (drop i whole)) (drop_more part reached 0 more) ∙ ap (λ w. is_subset_of (get_or part reached 0 ∷ drop (reached + 1) part) w) (drop_more whole i 0 inside)
+        ∙ ap (λ x. is_subset_of (get_or part reached 0 ∷ drop (reached + 1) part) (x ∷ drop (i + 1) whole)) (sym e) ∙ part_same (get_or part reached 0) (drop (reached + 1) part) (drop (i + 1) whole) first_of.0
 
-    pub passed_one : get_or part met 0 ≢ get_or whole i 0 → is_subset_of (drop met part) (drop i whole) ≡ is_subset_of (drop met part) (drop (i + 1) whole)
+    pub passed_one : get_or part reached 0 ≢ get_or whole i 0 → is_subset_of (drop reached part) (drop i whole) ≡ is_subset_of (drop reached part) (drop (i + 1) whole)
     passed_one n =
-        ap (λ p. is_subset_of p (drop i whole)) (drop_more part met 0 more) ∙ ap (λ w. is_subset_of (get_or part met 0 ∷ drop (met + 1) part) w) (drop_more whole i 0 inside)
-        ∙ part_past (get_or part met 0) (get_or whole i 0) (drop (met + 1) part) (drop (i + 1) whole) n first_of first_in ∙ ap (λ p. is_subset_of p (drop (i + 1) whole)) (sym (drop_more part met 0 more))
+        ap (λ p. is_subset_of p (drop i whole)) (drop_more part reached 0 more) ∙ ap (λ w. is_subset_of (get_or part reached 0 ∷ drop (reached + 1) part) w) (drop_more whole i 0 inside)
+        ∙ part_past (get_or part reached 0) (get_or whole i 0) (drop (reached + 1) part) (drop (i + 1) whole) n first_of first_in ∙ ap (λ p. is_subset_of p (drop (i + 1) whole)) (sym (drop_more part reached 0 more))
 
-pub ruleset merging = (met_all, none_left, met_one, passed_one)
+pub ruleset merging = (reached_all, none_left, reached_one, passed_one)

@@ -8,7 +8,7 @@ use Rattle.sat_base.proofs.lemmas.values.TableLemmas.{has_room}
 use Rattle.sat_checker.specs.LiteralSets.{is_among}
 use Rattle.sat_checker.specs.SortedSets.{NoRepeats}
 use Rattle.sat_checker.specs.inner.Marks.{mark_at, mark_for, AreMarks}
-use Rattle.sat_checker.specs.inner.AssumedRoom.{with_room, RoomStays}
+use Rattle.sat_checker.specs.inner.AssumedRoom.{with_room, RoomIsKept}
 use Rattle.sat_checker.specs.declared.units.assigned.Mark.{Mark}
 use Rattle.sat_checker.specs.declared.units.assigned.Mark.TheVariants as mark
 use Rattle.sat_checker.proofs.lemmas.propagation.Soundness.{negated-negated}
@@ -107,14 +107,14 @@ room_there l room = go (is_among room l) refl
     go true e = e
     go false e = or_left (eqb l l) (eqb (negated l) l || is_among room l) (eq-eqb l l refl)
 
-pub room_stays : (l : ℕ) (room : List ℕ) → RoomStays room (with_room l room)
+pub room_stays : (l : ℕ) (room : List ℕ) → RoomIsKept room (with_room l room)
 room_stays l room k h = go (is_among room l)
   where
     go : (b : Bool) → is_among (cond b room (l ∷ negated l ∷ room)) k ≡ true
     go true = h
     go false = or_right (eqb l k) (eqb (negated l) k || is_among room k) (or_right (eqb (negated l) k) (is_among room k) h)
 
-pub stays_further : (xs ys zs : List ℕ) → RoomStays xs ys → RoomStays ys zs → RoomStays xs zs
+pub stays_further : (xs ys zs : List ℕ) → RoomIsKept xs ys → RoomIsKept ys zs → RoomIsKept xs zs
 stays_further xs ys zs h k l m = k l (h l m)
 
 -- the negation of `x` is `y` exactly if `x` is the negation of `y`

@@ -3,9 +3,9 @@ use Rattle.std.proofs.Common.{ℕ, ◌+◌, ◌≤◌, ◌≡◌, refl, Bool, tr
 use Rattle.sat_base.specs.steps.Steps.{Deletion, Redundant, Satisfied, Simplified, DeleteClause}
 use Rattle.sat_checker.specs.LiteralSets.{canonical, same_literals}
 use Rattle.sat_checker.specs.Stored.{Stored, StoredClause}
-use Rattle.sat_checker.specs.Storing.{without_clause, without_count, unless_gone}
+use Rattle.sat_checker.specs.Storing.{without_clause, without_count, unless_removed}
 use Rattle.sat_checker.specs.Accepts.{effect}
-use Rattle.sat_checker.specs.Looks.{total_length, literal_count}
+use Rattle.sat_checker.specs.Looks.{total_length, stored_literal_count}
 
 abbrev length_of : List StoredClause → ℕ
 length_of cs = total_length (map (λ c. c.literals) cs)
@@ -14,7 +14,7 @@ length_without : (r : Bool) (ls : List ℕ) (cs : List StoredClause) → length_
 length_without r ls [] = omega arith
 length_without r ls (c ∷ cs) = go (same_literals c.literals ls) (length_without r ls cs)
   where
-    left : (d : StoredClause) → length d.literals ≤ length c.literals → length_of (unless_gone d ++ cs) ≤ length c.literals + length_of cs
+    left : (d : StoredClause) → length d.literals ≤ length c.literals → length_of (unless_removed d ++ cs) ≤ length c.literals + length_of cs
     left d e = pick (eqb d.irredundant 0 && eqb d.redundant 0)
       where
         pick : (b : Bool) → length_of (cond b [] (d ∷ []) ++ cs) ≤ length c.literals + length_of cs
@@ -25,11 +25,11 @@ length_without r ls (c ∷ cs) = go (same_literals c.literals ls) (length_withou
     taken true = omega arith
     taken false = omega arith
 
-    go : (b : Bool) → length_of (without_clause r ls cs) ≤ length_of cs → length_of (cond b (unless_gone (without_count r c) ++ cs) (c ∷ without_clause r ls cs)) ≤ length c.literals + length_of cs
+    go : (b : Bool) → length_of (without_clause r ls cs) ≤ length_of cs → length_of (cond b (unless_removed (without_count r c) ++ cs) (c ∷ without_clause r ls cs)) ≤ length c.literals + length_of cs
     go true ih = left (without_count r c) (taken r)
     go false ih = omega (arith, ih)
 
-pub count_deleted : (f : Stored) (c : List ℕ) (p : Deletion) → literal_count (effect (DeleteClause c p) f) ≤ literal_count f
+pub count_deleted : (f : Stored) (c : List ℕ) (p : Deletion) → stored_literal_count (effect (DeleteClause c p) f) ≤ stored_literal_count f
 count_deleted f c Redundant = length_without true (canonical c) f.clauses
 count_deleted f c Satisfied = length_without false (canonical c) f.clauses
 count_deleted f c Simplified = length_without false (canonical c) f.clauses

@@ -7,7 +7,7 @@ use Rattle.sat_base.specs.values.Literals.{variable}
 use Rattle.sat_checker.specs.LiteralSets.{is_among, mentions, canonical}
 use Rattle.sat_checker.specs.Stored.{Stored, StoredUnit, Variable}
 use Rattle.sat_checker.specs.Storing.{unit_id}
-use Rattle.sat_checker.specs.Accepts.{MayBeDeleted}
+use Rattle.sat_checker.specs.Accepts.{CanBeDeleted}
 use Rattle.sat_checker.specs.inner.LitNumbers.{number_at, AreTrailPlaces}
 use Rattle.sat_checker.specs.inner.Marks.{NoRepeats}
 use Rattle.sat_checker.specs.inner.StateView.{RepresentsStored}
@@ -164,7 +164,7 @@ module _ (state : CheckerState) (f : Stored) (k : RepresentsStored state f) (v :
   pub assumed_same : mentions state.assumed v ≡ mentions f.assumed v
   assumed_same = ap (λ xs. mentions xs v) k.assumed ∙ mentions_set f.assumed v
 
-  pub may_go : (d : VarData) (b : Bool) → variable_of_data d ≡ variable_at state.variables v → d.known ≡ true → is_some d.name ≡ false → mentions f.assumed v ≡ false → b ≡ list_any (λ c. mentions c.literals v) f.clauses → MatchBool (not b) (MayBeDeleted f v) (MayBeDeleted f v → ⊥)
+  pub may_go : (d : VarData) (b : Bool) → variable_of_data d ≡ variable_at state.variables v → d.known ≡ true → is_some d.name ≡ false → mentions f.assumed v ≡ false → b ≡ list_any (λ c. mentions c.literals v) f.clauses → MatchBool (not b) (CanBeDeleted f v) (CanBeDeleted f v → ⊥)
   may_go d true e n s a u = λ h. true≢false (u ∙ h.unused)
   may_go d false e n s a u = let same = e ∙ k.variables.each v in record {
     known = sym (ap (λ (x : Variable). x.known) same) ∙ n;

@@ -9,9 +9,9 @@ use Rattle.sat_checker.specs.LiteralSets.{is_among, is_subset_of, canonical, sam
 use Rattle.sat_checker.specs.Stored.{Stored, StoredClause}
 use Rattle.sat_checker.specs.Storing.{clause_with}
 use Rattle.sat_checker.specs.Accepts.{Accepts, FitsModel, IsStrictSubset}
-use Rattle.sat_checker.specs.inner.FormulaView.{ChecksBeside, RepresentsFormula, rehashed_in}
+use Rattle.sat_checker.specs.inner.FormulaView.{DiffersInNotesAndRoom, RepresentsFormula, rehashed_in}
 use Rattle.sat_checker.specs.inner.ModelTests.{are_all_true}
-use Rattle.sat_checker.specs.inner.AssumedRoom.{LiteralsAndRoom, RoomStays, AgreesOn, HasClauseRoom, HasStoredRoom}
+use Rattle.sat_checker.specs.inner.AssumedRoom.{LiteralsAndRoom, RoomIsKept, AgreeWithinRoom, HasClauseRoom, HasStoredRoom}
 use Rattle.sat_checker.specs.inner.StoreView.{store_count_in, rehashed}
 use Rattle.sat_checker.specs.declared.formula.Formula.{Formula}
 use Rattle.sat_checker.proofs.lemmas.meaning.Clauses.{same}
@@ -22,12 +22,12 @@ use Rattle.sat_checker.proofs.lemmas.state.Rooms.{stored_stays}
 use Rattle.sat_checker.proofs.lemmas.state.Scanning.{same_part}
 use Rattle.sat_checker.proofs.lemmas.state.Checks.{kept_beside}
 
-any_agrees : (room xs ys c : List ℕ) → AgreesOn room xs ys → HasClauseRoom room c → list_any (is_among xs) c ≡ list_any (is_among ys) c
+any_agrees : (room xs ys c : List ℕ) → AgreeWithinRoom room xs ys → HasClauseRoom room c → list_any (is_among xs) c ≡ list_any (is_among ys) c
 any_agrees room xs ys [] a h = refl
 any_agrees room xs ys (l ∷ c) a h = ap (λ b. b || list_any (is_among xs) c) (a l h.0.0) ∙ ap (λ b. is_among ys l || b) (any_agrees room xs ys c a h.1)
 
 -- the literals of a model that have no room do not matter
-pub true_agrees : (room xs ys : List ℕ) (cs : List StoredClause) → AgreesOn room xs ys → HasStoredRoom room cs → are_all_true xs cs ≡ are_all_true ys cs
+pub true_agrees : (room xs ys : List ℕ) (cs : List StoredClause) → AgreeWithinRoom room xs ys → HasStoredRoom room cs → are_all_true xs cs ≡ are_all_true ys cs
 true_agrees room xs ys [] a h = refl
 true_agrees room xs ys (c ∷ cs) a h =
     ap (λ b. (eqb c.irredundant 0 || b) && are_all_true xs cs) (any_agrees room xs ys c.literals a h.0) ∙ ap (λ b. (eqb c.irredundant 0 || list_any (is_among ys) c.literals) && b) (true_agrees room xs ys cs a h.1)
@@ -84,13 +84,13 @@ within_room room c l h = go (is_among c l) refl
     go false e = none (is_among room l)
 
 -- a check changes only notes, marks and room, so the formula still represents the same
-pub refiled_beside : (F G : Formula) (f : Stored) → ChecksBeside F G → RepresentsFormula (rehashed_in F) f → RepresentsFormula (rehashed_in G) f
+pub refiled_beside : (F G : Formula) (f : Stored) → DiffersInNotesAndRoom F G → RepresentsFormula (rehashed_in F) f → RepresentsFormula (rehashed_in G) f
 refiled_beside F G f e k = kept_beside (rehashed_in F) (rehashed_in G) f (record { store = ap rehashed e.store; status = e.status; units = e.units; room = e.room; marks = e.marks }) k
 
-pub marks_kept : (F : Formula) (marks : LiteralsAndRoom) (f : Stored) → RoomStays F.marks.room marks.room → RepresentsFormula (rehashed_in F) f → RepresentsFormula (rehashed_in (record F { marks = marks })) f
+pub marks_kept : (F : Formula) (marks : LiteralsAndRoom) (f : Stored) → RoomIsKept F.marks.room marks.room → RepresentsFormula (rehashed_in F) f → RepresentsFormula (rehashed_in (record F { marks = marks })) f
 marks_kept F marks f s k = record { clauses = k.clauses; units = k.units; status = k.status; numbered = k.numbered; room = k.room; marks = stored_stays F.marks.room marks.room f.clauses s k.marks }
 
-pub stays_through : (old mid left : LiteralsAndRoom) (room : List ℕ) → mid ≡ old → left.room ≡ mid.room → RoomStays left.room room → RoomStays old.room room
+pub stays_through : (old mid left : LiteralsAndRoom) (room : List ℕ) → mid ≡ old → left.room ≡ mid.room → RoomIsKept left.room room → RoomIsKept old.room room
 stays_through old mid left room e s h l k = h l (ap (λ xs. is_among xs l) s ∙ ap (λ (t : LiteralsAndRoom). is_among t.room l) e ∙ k)
 
 -- the check of a model, stated for another formula that represents the same

@@ -9,14 +9,14 @@ use Rattle.sat_checker.specs.LiteralSets.{is_among}
 use Rattle.sat_checker.specs.Propagation.{PassesCheck, tautology, unit_true, conflict}
 use Rattle.sat_checker.specs.Stored.{Stored, StoredUnit, is_unit, unit_literals, bucket}
 use Rattle.sat_checker.specs.Storing.{with_unit, with_contradiction, with_new_unit}
-use Rattle.sat_checker.specs.Accepts.{PassesByHashes, PassInTurn}
-use Rattle.sat_checker.specs.inner.InTurn.{with_assumed, stands_first, AssumesUnits, PassAfter}
-use Rattle.sat_checker.specs.inner.Look.{AssumesMore}
-use Rattle.sat_checker.specs.inner.AssumedRoom.{LiteralsAndRoom, AgreesOn, HasClausesRoom, HasStoredRoom}
-use Rattle.sat_checker.specs.inner.SlotView.{bucket_of, live}
+use Rattle.sat_checker.specs.Accepts.{PassesByHashes, UnitsPassInTurn}
+use Rattle.sat_checker.specs.inner.InTurn.{with_assumed, is_first_of_variable, AssumesUnits, OtherUnitsPassInTurn}
+use Rattle.sat_checker.specs.inner.WalkResults.{AssumesMore}
+use Rattle.sat_checker.specs.inner.AssumedRoom.{LiteralsAndRoom, AgreeWithinRoom, HasClausesRoom, HasStoredRoom}
+use Rattle.sat_checker.specs.inner.SlotView.{bucket_of, live_clauses}
 use Rattle.sat_checker.specs.inner.StoreView.{RepresentsClauses}
 use Rattle.sat_checker.specs.inner.UnitView.{UnitsAndRoom}
-use Rattle.sat_checker.specs.inner.FormulaView.{ChecksAs}
+use Rattle.sat_checker.specs.inner.FormulaView.{HasCheckData}
 use Rattle.sat_checker.specs.declared.store.Store.{Store}
 use Rattle.sat_checker.specs.declared.formula.Formula.{Formula}
 use Rattle.sat_checker.proofs.lemmas.propagation.InRoom.{rule_same}
@@ -29,13 +29,13 @@ use Rattle.sat_checker.proofs.lemmas.store.Keeping.{bucket_same}
 abbrev pub firsts : List (ℕ × ℕ) → List ℕ
 firsts us = map (λ u. u.0) us
 
--- `stands_first` of the remaining units, given the first of them
+-- `is_first_of_variable` of the remaining units, given the first of them
 pub first_next : (us : List (ℕ × ℕ)) (i : ℕ) (u : ℕ × ℕ) (l : ℕ) → i < length us → u ≡ get_or us i u
-    → stands_first (firsts (drop i us)) l ≡ cond (eqb u.0 l) true (cond (eqb u.0 (negated l)) false (stands_first (firsts (drop (i + 1) us)) l))
-first_next us i u l inside is = ap (λ vs. stands_first (firsts vs) l) (drop_more us i u inside ∙ ap (λ x. x ∷ drop (i + 1) us) (sym is))
+    → is_first_of_variable (firsts (drop i us)) l ≡ cond (eqb u.0 l) true (cond (eqb u.0 (negated l)) false (is_first_of_variable (firsts (drop (i + 1) us)) l))
+first_next us i u l inside is = ap (λ vs. is_first_of_variable (firsts vs) l) (drop_more us i u inside ∙ ap (λ x. x ∷ drop (i + 1) us) (sym is))
 
--- `stands_first` after one more literal is appended
-first_more : (ms : List ℕ) (x l : ℕ) → stands_first (ms ++ x ∷ []) l ≡ cond (stands_first ms l) true (cond (stands_first ms (negated l)) false (eqb x l))
+-- `is_first_of_variable` after one more literal is appended
+first_more : (ms : List ℕ) (x l : ℕ) → is_first_of_variable (ms ++ x ∷ []) l ≡ cond (is_first_of_variable ms l) true (cond (is_first_of_variable ms (negated l)) false (eqb x l))
 first_more [] x l = go (eqb x l) (eqb x (negated l)) refl refl
   where
     go : (b d : Bool) → eqb x l ≡ b → eqb x (negated l) ≡ d → cond b true (cond d false false) ≡ b
@@ -44,12 +44,12 @@ first_more [] x l = go (eqb x l) (eqb x (negated l)) refl refl
     go false false e k = refl
 first_more (m ∷ ms) x l = go (eqb m l) (eqb m (negated l)) refl (ap (eqb m) (negated-negated l)) (first_more ms x l)
   where
-    go : (b d : Bool) → eqb m l ≡ b → eqb m (negated (negated l)) ≡ eqb m l → stands_first (ms ++ x ∷ []) l ≡ cond (stands_first ms l) true (cond (stands_first ms (negated l)) false (eqb x l))
-        → cond b true (cond d false (stands_first (ms ++ x ∷ []) l))
-        ≡ cond (cond b true (cond d false (stands_first ms l))) true (cond (cond d true (cond (eqb m (negated (negated l))) false (stands_first ms (negated l)))) false (eqb x l))
+    go : (b d : Bool) → eqb m l ≡ b → eqb m (negated (negated l)) ≡ eqb m l → is_first_of_variable (ms ++ x ∷ []) l ≡ cond (is_first_of_variable ms l) true (cond (is_first_of_variable ms (negated l)) false (eqb x l))
+        → cond b true (cond d false (is_first_of_variable (ms ++ x ∷ []) l))
+        ≡ cond (cond b true (cond d false (is_first_of_variable ms l))) true (cond (cond d true (cond (eqb m (negated (negated l))) false (is_first_of_variable ms (negated l)))) false (eqb x l))
     go true d e k ih = refl
     go false true e k ih = refl
-    go false false e k ih = ih ∙ ap (λ c. cond (stands_first ms l) true (cond (cond c false (stands_first ms (negated l))) false (eqb x l))) (sym (k ∙ e))
+    go false false e k ih = ih ∙ ap (λ c. cond (is_first_of_variable ms l) true (cond (cond c false (is_first_of_variable ms (negated l))) false (eqb x l))) (sym (k ∙ e))
 
 -- whether a literal is a unit after `x` is added
 unit_with : (x l : ℕ) (f : Stored) → is_unit (with_unit x f) l ≡ cond (is_unit f x) (is_unit f l) (cond (is_unit f (negated x)) (is_unit f l) (is_unit f l || eqb x l))
@@ -106,11 +106,11 @@ module _ (t : LiteralsAndRoom) (before : List ℕ) (f : Stored) (x : ℕ) (s : A
           ∙ stays (is_unit f x) (is_unit f (negated x)) (is_unit f l)
           ∙ ap (λ b. cond (is_unit f x) (is_unit f l) (cond (is_unit f (negated x)) (is_unit f l) (is_unit f l || b))) (sym (other e))
 
-  same_others : (l : ℕ) → is_among t.room l ≡ false → is_unit (with_unit x f) l ≡ stands_first (before ++ x ∷ []) l
+  same_others : (l : ℕ) → is_among t.room l ≡ false → is_unit (with_unit x f) l ≡ is_first_of_variable (before ++ x ∷ []) l
   same_others l n =
       unit_with x l f ∙ go (eqb x l) refl
       ∙ ap (λ b. cond b true (cond (is_unit f (negated l)) false (eqb x l))) (s.others l n)
-      ∙ ap (λ b. cond (stands_first before l) true (cond b false (eqb x l))) (s.others (negated l) (sym (paired l) ∙ n))
+      ∙ ap (λ b. cond (is_first_of_variable before l) true (cond b false (eqb x l))) (s.others (negated l) (sym (paired l) ∙ n))
       ∙ sym (first_more before x l)
     where
       itself : (a m : Bool) → cond a a (cond m a (a || true)) ≡ cond a true (cond m false true)
@@ -147,13 +147,13 @@ assumed_more old mid new x h e = subst (AssumesMore old) (sym e) (go (is_among m
     go false = h
 
 -- A unit passes under literals that agree with the units on the literals that have room, and on itself.
-pub agreeing : (room us vs : List ℕ) (l : ℕ) (bs : List (List (List ℕ))) → AllByRecursion (HasClausesRoom room) bs → AgreesOn room us vs → is_among us l ≡ is_among vs l → PassesCheck us (l ∷ []) bs → PassesCheck vs (l ∷ []) bs
+pub agreeing : (room us vs : List ℕ) (l : ℕ) (bs : List (List (List ℕ))) → AllByRecursion (HasClausesRoom room) bs → AgreeWithinRoom room us vs → is_among us l ≡ is_among vs l → PassesCheck us (l ∷ []) bs → PassesCheck vs (l ∷ []) bs
 agreeing room us vs l bs roomy same itself (tautology t) = tautology t
 agreeing room us vs l bs roomy same itself (unit_true t) = unit_true (ap (λ b. b || false) (sym itself) ∙ t)
 agreeing room us vs l bs roomy same itself (conflict k) = conflict (rule_same room (negated l ∷ us) (negated l ∷ vs) bs (λ m r. ap (λ b. eqb (negated l) m || b) (same m r)) roomy k)
 
 -- the check of a unit is exact, unless it was already added without room
-module _ (store : Store) (t : LiteralsAndRoom) (before : List ℕ) (l h : ℕ) (e : (not (is_among t.room l) && stands_first before l) ≡ false) where
+module _ (store : Store) (t : LiteralsAndRoom) (before : List ℕ) (l h : ℕ) (e : (not (is_among t.room l) && is_first_of_variable before l) ≡ false) where
   itself : (f : Stored) → AssumesUnits t before f → ((m : ℕ) → is_among t.literals m ≡ true → is_among t.room m ≡ true) → is_among t.literals l ≡ is_unit f l
   itself f s stand = go (is_among t.room l) refl e
     where
@@ -161,12 +161,12 @@ module _ (store : Store) (t : LiteralsAndRoom) (before : List ℕ) (l h : ℕ) (
       none false k n = refl
       none true k n = absurd (both_ways (is_among t.room l) n (stand l k))
 
-      go : (b : Bool) → is_among t.room l ≡ b → (not b && stands_first before l) ≡ false → is_among t.literals l ≡ is_unit f l
+      go : (b : Bool) → is_among t.room l ≡ b → (not b && is_first_of_variable before l) ≡ false → is_among t.literals l ≡ is_unit f l
       go true k i = s.agrees l k
       go false k i = none (is_among t.literals l) refl k ∙ sym i ∙ sym (s.others l k)
 
   pub unit_exact : {E : Type 0} (r : Result Bool E) → ((m : ℕ) → is_among t.literals m ≡ true → is_among t.room m ≡ true)
-      → IfOk r (λ yes'. HasStoredRoom t.room (live store.clauses) → (yes' ≡ true) ↔ PassesCheck t.literals (l ∷ []) (map (bucket_of store.clauses) (h ∷ [])))
+      → IfOk r (λ yes'. HasStoredRoom t.room (live_clauses store.clauses) → (yes' ≡ true) ↔ PassesCheck t.literals (l ∷ []) (map (bucket_of store.clauses) (h ∷ [])))
       → IfOk r (λ yes'. (f : Stored) → RepresentsClauses store f → HasStoredRoom t.room f.clauses → AssumesUnits t before f → (yes' ≡ true) ↔ PassesByHashes f (l ∷ []) (h ∷ []))
   unit_exact (Err x) stand k = tt
   unit_exact (Ok b) stand k = λ f c r s.
@@ -202,8 +202,8 @@ pub record Passing (store : Store) (room : List ℕ) (f : Stored) (all : List (�
   pub kept : RepresentsClauses store now
   pub roomy : HasStoredRoom room now.clauses
   pub assumes : AssumesUnits trail (firsts (take i all)) now
-  pub on : PassAfter now (drop i all) → PassAfter f all
-  pub back : PassAfter f all → PassAfter now (drop i all)
+  pub on : OtherUnitsPassInTurn now (drop i all) → OtherUnitsPassInTurn f all
+  pub back : OtherUnitsPassInTurn f all → OtherUnitsPassInTurn now (drop i all)
 
 -- no unit was added yet
 pub passing_none : (store : Store) (trail : LiteralsAndRoom) (f : Stored) (all : List (ℕ × ℕ)) → ((l : ℕ) → is_among trail.literals l ≡ true → is_among trail.room l ≡ true) → RepresentsClauses store f → ((l : ℕ) → is_among trail.literals l ≡ is_unit f l)
@@ -233,14 +233,14 @@ module _ (store : Store) (room : List ℕ) (f : Stored) (all : List (ℕ × ℕ)
   next_split : drop place all ≡ v ∷ drop (place + 1) all
   next_split = drop_more all place v inside ∙ ap (λ x. x ∷ drop (place + 1) all) (sym next)
 
-  came : firsts (take place all) ≡ firsts (take i all) ++ u.0 ∷ []
-  came = ap (λ j. firsts (take j all)) (sym some) ∙ ap firsts (take_more all i u (omega arith) ∙ ap (λ x. take i all ++ x ∷ []) (sym is)) ∙ map-append (λ (w : ℕ × ℕ). w.0) (take i all) (u ∷ [])
+  extended : firsts (take place all) ≡ firsts (take i all) ++ u.0 ∷ []
+  extended = ap (λ j. firsts (take j all)) (sym some) ∙ ap firsts (take_more all i u (omega arith) ∙ ap (λ x. take i all ++ x ∷ []) (sym is)) ∙ map-append (λ (w : ℕ × ℕ). w.0) (take i all) (u ∷ [])
 
   -- the next unit is checked under the literals that are then assumed
   module _ (new : LiteralsAndRoom) (same : trail.room ≡ room) (paired : (l : ℕ) → is_among room l ≡ is_among room (negated l)) (e : new ≡ record trail { literals = with_assumed u.0 trail }) where
     after_assumes : AssumesUnits new (firsts (take place all)) following
     after_assumes =
-        subst (λ t. AssumesUnits t (firsts (take place all)) following) (sym e) (subst (λ ls. AssumesUnits (record trail { literals = with_assumed u.0 trail }) ls following) (sym came)
+        subst (λ t. AssumesUnits t (firsts (take place all)) following) (sym e) (subst (λ ls. AssumesUnits (record trail { literals = with_assumed u.0 trail }) ls following) (sym extended)
         (assumes_more trail (firsts (take i all)) p.now u.0 p.assumes (subst (λ r. (l : ℕ) → is_among r l ≡ is_among r (negated l)) (sym same) paired)))
 
     pub after_judged : (before : List (ℕ × ℕ)) → before ≡ take place all → (b : Bool) → ((g : Stored) → RepresentsClauses store g → HasStoredRoom new.room g.clauses → AssumesUnits new (firsts before) g → (b ≡ true) ↔ PassesByHashes g (v.0 ∷ []) (v.1 ∷ []))
@@ -255,18 +255,18 @@ module _ (store : Store) (room : List ℕ) (f : Stored) (all : List (ℕ × ℕ)
       kept = kept_with store u.0 p.now p.kept;
       roomy = roomy_with room u.0 p.now p.roomy;
       assumes = subst (λ t. AssumesUnits t (firsts (take place all)) following) (sym m) after_assumes;
-      on = λ r. p.on (subst (PassAfter p.now) (sym first_split) (subst (PassInTurn following) (sym next_split) (q, subst (PassAfter following) next_split r)));
-      back = λ r. subst (PassAfter following) (sym next_split) (subst (PassInTurn following) next_split (subst (PassAfter p.now) first_split (p.back r))).1;
+      on = λ r. p.on (subst (OtherUnitsPassInTurn p.now) (sym first_split) (subst (UnitsPassInTurn following) (sym next_split) (q, subst (OtherUnitsPassInTurn following) next_split r)));
+      back = λ r. subst (OtherUnitsPassInTurn following) (sym next_split) (subst (UnitsPassInTurn following) next_split (subst (OtherUnitsPassInTurn p.now) first_split (p.back r))).1;
     })
 
-  pub following_refused : (PassesByHashes following (v.0 ∷ []) (v.1 ∷ []) → ⊥) → PassAfter f all → ⊥
-  following_refused n r = n (subst (PassInTurn following) next_split (subst (PassAfter p.now) first_split (p.back r))).0
+  pub following_refused : (PassesByHashes following (v.0 ∷ []) (v.1 ∷ []) → ⊥) → OtherUnitsPassInTurn f all → ⊥
+  following_refused n r = n (subst (UnitsPassInTurn following) next_split (subst (OtherUnitsPassInTurn p.now) first_split (p.back r))).0
 
 -- no unit remains
-pub passing_all : (store : Store) (room : List ℕ) (f : Stored) (all : List (ℕ × ℕ)) (i : ℕ) (trail : LiteralsAndRoom) → length all ≤ i + 1 → Passing store room f all i trail → PassAfter f all
+pub passing_all : (store : Store) (room : List ℕ) (f : Stored) (all : List (ℕ × ℕ)) (i : ℕ) (trail : LiteralsAndRoom) → length all ≤ i + 1 → Passing store room f all i trail → OtherUnitsPassInTurn f all
 passing_all store room f all i trail l p = p.on (rest p.now all i l)
   where
-    rest : (g : Stored) (us : List (ℕ × ℕ)) (j : ℕ) → length us ≤ j + 1 → PassAfter g (drop j us)
+    rest : (g : Stored) (us : List (ℕ × ℕ)) (j : ℕ) → length us ≤ j + 1 → OtherUnitsPassInTurn g (drop j us)
     rest g [] zero l = tt
     rest g [] (suc j) l = tt
     rest g (u ∷ []) zero l = tt
@@ -282,17 +282,17 @@ looks_end old looks p m n l h = let e : (p - 1) * n ≤ (m - 1) * n = grind arit
 
 -- the result for units with these literals, whatever their ids
 pub passed_units : {E : Type 0} (r : Result Bool E) (store : Store) (value : UnitsAndRoom) (trail : LiteralsAndRoom) (units : List (ℕ × ℕ)) → ((l : ℕ) → is_among trail.literals l ≡ is_among (map (λ u. u.literal) value.units) l) → trail.room ≡ value.room
-    → IfOk r (λ b. (f : Stored) → RepresentsClauses store f → ((l : ℕ) → is_among trail.literals l ≡ is_unit f l) → HasStoredRoom trail.room f.clauses → (b ≡ true) ↔ PassAfter f units)
-    → IfOk r (λ b. (f : Stored) → RepresentsClauses store f → map (λ u. u.literal) value.units ≡ unit_literals f → HasStoredRoom value.room f.clauses → (b ≡ true) ↔ PassAfter f units)
+    → IfOk r (λ b. (f : Stored) → RepresentsClauses store f → ((l : ℕ) → is_among trail.literals l ≡ is_unit f l) → HasStoredRoom trail.room f.clauses → (b ≡ true) ↔ OtherUnitsPassInTurn f units)
+    → IfOk r (λ b. (f : Stored) → RepresentsClauses store f → map (λ u. u.literal) value.units ≡ unit_literals f → HasStoredRoom value.room f.clauses → (b ≡ true) ↔ OtherUnitsPassInTurn f units)
 passed_units (Ok b) store value trail units same room h = λ f k u r. h f k (λ l. same l ∙ ap (λ ls. is_among ls l) u) (subst (λ x. HasStoredRoom x f.clauses) (sym room) r)
 passed_units (Err e) store value trail units same room h = tt
 
 pub short_units : {E : Type 0} (r : Result Bool E) (store : Store) (old new : List ℕ) → old ≡ new → OnErr r ((f : Stored) → RepresentsClauses store f → HasStoredRoom old f.clauses → ⊥) → OnErr r ((f : Stored) → RepresentsClauses store f → HasStoredRoom new f.clauses → ⊥)
 short_units r store old new e h = subst (λ x. OnErr r ((f : Stored) → RepresentsClauses store f → HasStoredRoom x f.clauses → ⊥)) e h
 
--- the result for every state for which `ChecksAs` holds
+-- the result for every state for which `HasCheckData` holds
 pub passed_as : {E : Type 0} (r : Result Bool E) (F : Formula) (units : List (ℕ × ℕ))
-    → IfOk r (λ b. (f : Stored) → RepresentsClauses F.store f → map (λ u. u.literal) F.units.units ≡ unit_literals f → HasStoredRoom F.units.room f.clauses → (b ≡ true) ↔ PassAfter f units)
-    → IfOk r (λ b. (f : Stored) → ChecksAs F f → (b ≡ true) ↔ PassAfter f units)
+    → IfOk r (λ b. (f : Stored) → RepresentsClauses F.store f → map (λ u. u.literal) F.units.units ≡ unit_literals f → HasStoredRoom F.units.room f.clauses → (b ≡ true) ↔ OtherUnitsPassInTurn f units)
+    → IfOk r (λ b. (f : Stored) → HasCheckData F f → (b ≡ true) ↔ OtherUnitsPassInTurn f units)
 passed_as (Ok b) F units h = λ f a. h f a.clauses a.units a.room
 passed_as (Err e) F units h = tt

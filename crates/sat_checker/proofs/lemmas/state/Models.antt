@@ -70,12 +70,12 @@ module _ (ls : List ℕ) (i : ℕ) (inside : i < length ls) where
 pub ruleset setting_apart = (apart_more, drop_back)
 
 -- if the literal at `i`, or its negation, is among the later literals, a variable occurs twice
-pub met_same : (ls assigned : List ℕ) (i p l : ℕ) → i + 1 ≡ p → i < length ls → l ≡ get_or ls i l → assigned ≡ drop p ls → true ≡ is_among assigned l → VariablesDistinct ls → ⊥
-met_same ls assigned i p l e inside read set t =
+pub reached_same : (ls assigned : List ℕ) (i p l : ℕ) → i + 1 ≡ p → i < length ls → l ≡ get_or ls i l → assigned ≡ drop p ls → true ≡ is_among assigned l → VariablesDistinct ls → ⊥
+reached_same ls assigned i p l e inside read set t =
     clash ls i inside (inl (ap (is_among (drop (i + 1) ls)) (sym (get_or_read ls i l inside read 0)) ∙ ap (λ n. is_among (drop n ls) l) e ∙ ap (λ xs. is_among xs l) (sym set) ∙ sym t))
 
-pub met_negated : (ls assigned : List ℕ) (i p l m : ℕ) → i + 1 ≡ p → i < length ls → l ≡ get_or ls i l → assigned ≡ drop p ls → m ≡ negated l → true ≡ is_among assigned m → VariablesDistinct ls → ⊥
-met_negated ls assigned i p l m e inside read set n t =
+pub reached_negated : (ls assigned : List ℕ) (i p l m : ℕ) → i + 1 ≡ p → i < length ls → l ≡ get_or ls i l → assigned ≡ drop p ls → m ≡ negated l → true ≡ is_among assigned m → VariablesDistinct ls → ⊥
+reached_negated ls assigned i p l m e inside read set n t =
     clash ls i inside (inr (ap (λ x. is_among (drop (i + 1) ls) (negated x)) (sym (get_or_read ls i l inside read 0)) ∙ ap (is_among (drop (i + 1) ls)) (sym n) ∙ ap (λ k. is_among (drop k ls) m) e ∙ ap (λ xs. is_among xs m) (sym set) ∙ sym t))
 
 -- whether the list contains the negation of a unit
@@ -118,8 +118,8 @@ fits_model f ls u a n t = record { consistent = u; apart = a; units = not_contra
 pub fits_tests : (f : Stored) (ls : List ℕ) → FitsModel f ls → (is_contradicted ls f.units ≡ false) × (are_all_true ls f.clauses ≡ true)
 fits_tests f ls h = (uncontradicted ls f.units h.units, true_each ls f.clauses h.clauses)
 
-pub met_fits : (b : Bool) (f : Stored) (ls : List ℕ) → f.unsat ≡ false → VariablesDistinct ls → b ≡ (not (is_contradicted ls f.units) && are_all_true ls f.clauses) → (b ≡ true) ↔ FitsModel f ls
-met_fits b f ls u a e = (to, back)
+pub reached_fits : (b : Bool) (f : Stored) (ls : List ℕ) → f.unsat ≡ false → VariablesDistinct ls → b ≡ (not (is_contradicted ls f.units) && are_all_true ls f.clauses) → (b ≡ true) ↔ FitsModel f ls
+reached_fits b f ls u a e = (to, back)
   where
     to : b ≡ true → FitsModel f ls
     to t = let p = and_parts (not (is_contradicted ls f.units)) (are_all_true ls f.clauses) (sym e ∙ t) in fits_model f ls u a (not_true (is_contradicted ls f.units) p.0) p.1

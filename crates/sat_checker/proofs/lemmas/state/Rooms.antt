@@ -5,15 +5,15 @@ use Rattle.std.specs.List.{list_any}
 use Rattle.sat_base.specs.values.Literals.{negated}
 use Rattle.sat_checker.specs.LiteralSets.{is_among, same_literals}
 use Rattle.sat_checker.specs.Stored.{StoredClause}
-use Rattle.sat_checker.specs.Storing.{with_stored_clause, without_clause, without_count, unless_gone}
+use Rattle.sat_checker.specs.Storing.{with_stored_clause, without_clause, without_count, unless_removed}
 use Rattle.sat_checker.proofs.lemmas.sets.Members.{each_at}
-use Rattle.sat_checker.specs.inner.AssumedRoom.{RoomStays, HasClauseRoom, HasStoredRoom}
+use Rattle.sat_checker.specs.inner.AssumedRoom.{RoomIsKept, HasClauseRoom, HasStoredRoom}
 
-pub clause_stays : (old new ls : List ℕ) → RoomStays old new → HasClauseRoom old ls → HasClauseRoom new ls
+pub clause_stays : (old new ls : List ℕ) → RoomIsKept old new → HasClauseRoom old ls → HasClauseRoom new ls
 clause_stays old new [] s h = tt
 clause_stays old new (l ∷ ls) s h = ((s l h.0.0, s _ h.0.1), clause_stays old new ls s h.1)
 
-pub stored_stays : (old new : List ℕ) (cs : List StoredClause) → RoomStays old new → HasStoredRoom old cs → HasStoredRoom new cs
+pub stored_stays : (old new : List ℕ) (cs : List StoredClause) → RoomIsKept old new → HasStoredRoom old cs → HasStoredRoom new cs
 stored_stays old new [] s h = tt
 stored_stays old new (c ∷ cs) s h = (clause_stays old new c.literals s h.0, stored_stays old new cs s h.1)
 
@@ -34,7 +34,7 @@ pub stored_without : (room : List ℕ) (r : Bool) (ls : List ℕ) (cs : List Sto
 stored_without room r ls [] h = tt
 stored_without room r ls (c ∷ cs) h = go (same_literals c.literals ls) (stored_without room r ls cs h.1)
   where
-    left : (d : StoredClause) → HasClauseRoom room d.literals → HasStoredRoom room (unless_gone d ++ cs)
+    left : (d : StoredClause) → HasClauseRoom room d.literals → HasStoredRoom room (unless_removed d ++ cs)
     left d k = pick (eqb d.irredundant 0 && eqb d.redundant 0)
       where
         pick : (b : Bool) → HasStoredRoom room (cond b [] (d ∷ []) ++ cs)
@@ -45,7 +45,7 @@ stored_without room r ls (c ∷ cs) h = go (same_literals c.literals ls) (stored
     taken true = h.0
     taken false = h.0
 
-    go : (b : Bool) → HasStoredRoom room (without_clause r ls cs) → HasStoredRoom room (cond b (unless_gone (without_count r c) ++ cs) (c ∷ without_clause r ls cs))
+    go : (b : Bool) → HasStoredRoom room (without_clause r ls cs) → HasStoredRoom room (cond b (unless_removed (without_count r c) ++ cs) (c ∷ without_clause r ls cs))
     go true ih = left (without_count r c) (taken r)
     go false ih = (h.0, ih)
 

@@ -5,15 +5,15 @@ use Rattle.std.specs.Bool.{MatchBool}
 use Rattle.sat_base.specs.values.Literals.{variable, negated}
 use Rattle.sat_base.specs.steps.Steps.{UnitClauses}
 use Rattle.sat_checker.specs.LiteralSets.{canonical}
-use Rattle.sat_checker.specs.Looks.{literal_count}
+use Rattle.sat_checker.specs.Looks.{stored_literal_count}
 use Rattle.sat_checker.specs.Counters.{CountersExhausted}
 use Rattle.sat_checker.specs.Stored.{Stored, is_unit}
 use Rattle.sat_checker.specs.Storing.{with_unit, with_contradiction, with_new_unit, with_units, with_known, with_literals_known}
-use Rattle.sat_checker.specs.Accepts.{PassesByHashes, PassInTurn, effect}
-use Rattle.sat_checker.specs.inner.FormulaView.{RepresentsFormula, FormulaEffectIf}
-use Rattle.sat_checker.specs.inner.InTurn.{PassAfter}
+use Rattle.sat_checker.specs.Accepts.{PassesByHashes, UnitsPassInTurn, effect}
+use Rattle.sat_checker.specs.inner.FormulaView.{RepresentsFormula, DecidesChange}
+use Rattle.sat_checker.specs.inner.InTurn.{OtherUnitsPassInTurn}
 use Rattle.sat_checker.specs.inner.StateView.{RepresentsStored}
-use Rattle.sat_checker.specs.inner.VariablesView.{KeepsVariables}
+use Rattle.sat_checker.specs.inner.VariablesView.{StoresVariables}
 use Rattle.sat_checker.specs.declared.store.StoreError.{StoreError}
 use Rattle.sat_checker.specs.declared.store.StoreError.TheVariants.{OutOfMemory, CounterEnd}
 use Rattle.sat_checker.specs.declared.formula.Formula.{Formula}
@@ -28,15 +28,15 @@ firsts us = map (λ u. u.0) us
 pub record Left (F : Formula) (f : Stored) (all left : List (ℕ × ℕ)) : Type 0 where
   pub now : Stored
   pub kept : RepresentsFormula F now
-  pub on : PassInTurn now left → PassInTurn f all
-  pub back : PassInTurn f all → PassInTurn now left
+  pub on : UnitsPassInTurn now left → UnitsPassInTurn f all
+  pub back : UnitsPassInTurn f all → UnitsPassInTurn now left
   pub same : with_units (firsts left) now ≡ with_units (firsts all) f
-  pub count : literal_count now ≡ literal_count f
+  pub count : stored_literal_count now ≡ stored_literal_count f
 
-pub count_unit : (l : ℕ) (f : Stored) → literal_count (with_unit l f) ≡ literal_count f
+pub count_unit : (l : ℕ) (f : Stored) → stored_literal_count (with_unit l f) ≡ stored_literal_count f
 count_unit l f = go (is_unit f l) (is_unit f (negated l))
   where
-    go : (b d : Bool) → literal_count (cond b f (cond d (with_contradiction l f) (with_new_unit l f))) ≡ literal_count f
+    go : (b d : Bool) → stored_literal_count (cond b f (cond d (with_contradiction l f) (with_new_unit l f))) ≡ stored_literal_count f
     go true d = refl
     go false true = refl
     go false false = refl
@@ -65,27 +65,27 @@ module _ (F : Formula) (f : Stored) (all : List (ℕ × ℕ)) (i : ℕ) (u : ℕ
   passed G p k = record {
     now = with_unit u.0 left.now;
     kept = k;
-    on = λ q. left.on (subst (PassInTurn left.now) (sym split) (p, q));
-    back = λ q. (subst (PassInTurn left.now) split (left.back q)).1;
+    on = λ q. left.on (subst (UnitsPassInTurn left.now) (sym split) (p, q));
+    back = λ q. (subst (UnitsPassInTurn left.now) split (left.back q)).1;
     same = ap (λ us. with_units (firsts us) left.now) (sym split) ∙ left.same;
     count = count_unit u.0 left.now ∙ left.count;
   }
 
-  pub accepted_after : PassesByHashes left.now (u.0 ∷ []) (u.1 ∷ []) → PassAfter left.now (drop i all) → PassInTurn f all
-  accepted_after p q = left.on (subst (PassInTurn left.now) (sym split) (p, subst (PassAfter left.now) split q))
+  pub accepted_after : PassesByHashes left.now (u.0 ∷ []) (u.1 ∷ []) → OtherUnitsPassInTurn left.now (drop i all) → UnitsPassInTurn f all
+  accepted_after p q = left.on (subst (UnitsPassInTurn left.now) (sym split) (p, subst (OtherUnitsPassInTurn left.now) split q))
 
-  pub back_after : PassInTurn f all → PassAfter left.now (drop i all)
-  back_after q = subst (PassAfter left.now) (sym split) (subst (PassInTurn left.now) split (left.back q)).1
+  pub back_after : UnitsPassInTurn f all → OtherUnitsPassInTurn left.now (drop i all)
+  back_after q = subst (OtherUnitsPassInTurn left.now) (sym split) (subst (UnitsPassInTurn left.now) split (left.back q)).1
 
-  pub stopped : (PassesByHashes left.now (u.0 ∷ []) (u.1 ∷ []) → ⊥) → PassInTurn f all → ⊥
-  stopped n q = n (subst (PassInTurn left.now) split (left.back q)).0
+  pub stopped : (PassesByHashes left.now (u.0 ∷ []) (u.1 ∷ []) → ⊥) → UnitsPassInTurn f all → ⊥
+  stopped n q = n (subst (UnitsPassInTurn left.now) split (left.back q)).0
 
   pub spent_then : CountersExhausted (with_unit u.0 left.now) → CountersExhausted (with_units (firsts all) f)
   spent_then s = subst CountersExhausted (ap (λ us. with_units (firsts us) left.now) (sym split) ∙ left.same) (spent_units (firsts (drop (i + 1) all)) (with_unit u.0 left.now) s)
 
 -- no unit remains
-pub finished : (F : Formula) (f : Stored) (all : List (ℕ × ℕ)) (i : ℕ) → length all ≤ i → Left F f all (drop i all) → PassInTurn f all × RepresentsFormula F (with_units (firsts all) f)
-finished F f all i l left = let e = past all i l in (left.on (subst (PassInTurn left.now) (sym e) tt), subst (RepresentsFormula F) (ap (λ us. with_units (firsts us) left.now) (sym e) ∙ left.same) left.kept)
+pub finished : (F : Formula) (f : Stored) (all : List (ℕ × ℕ)) (i : ℕ) → length all ≤ i → Left F f all (drop i all) → UnitsPassInTurn f all × RepresentsFormula F (with_units (firsts all) f)
+finished F f all i l left = let e = past all i l in (left.on (subst (UnitsPassInTurn left.now) (sym e) tt), subst (RepresentsFormula F) (ap (λ us. with_units (firsts us) left.now) (sym e) ∙ left.same) left.kept)
   where
     past : (xs : List (ℕ × ℕ)) (i : ℕ) → length xs ≤ i → drop i xs ≡ []
     past [] zero l = refl
@@ -94,13 +94,13 @@ finished F f all i l left = let e = past all i l in (left.on (subst (PassInTurn 
     past (x ∷ xs) (suc i) l = past xs i (omega arith)
 
 -- After an error at a unit, the later units decide whether the units are refused or the error is returned.
-pub failed : (r : Result Bool StoreError) (fault : StoreError) (A B P K L : Type 0) (g h : Stored) → FormulaEffectIf (Err fault) A K g → (CountersExhausted g → CountersExhausted h) → (A → P → B) → (B → P)
-    → MatchResult r (λ passes. (passes ≡ false) × (P → ⊥)) (λ e. (e ≡ fault) × P) → FormulaEffectIf r B L h
+pub failed : (r : Result Bool StoreError) (fault : StoreError) (A B P K L : Type 0) (g h : Stored) → DecidesChange (Err fault) A K g → (CountersExhausted g → CountersExhausted h) → (A → P → B) → (B → P)
+    → MatchResult r (λ passes. (passes ≡ false) × (P → ⊥)) (λ e. (e ≡ fault) × P) → DecidesChange r B L h
 failed (Ok true) fault A B P K L g h t spent on back m = absurd (let e : true ≡ false = m.0 in cc)
 failed (Ok false) fault A B P K L g h t spent on back m = λ b. m.1 (back b)
-failed (Err e) fault A B P K L g h t spent on back m = subst (λ x. FormulaEffectIf (Err x) B L h) (sym m.0) (go fault t)
+failed (Err e) fault A B P K L g h t spent on back m = subst (λ x. DecidesChange (Err x) B L h) (sym m.0) (go fault t)
   where
-    go : (x : StoreError) → FormulaEffectIf (Err x) A K g → FormulaEffectIf (Err x) B L h
+    go : (x : StoreError) → DecidesChange (Err x) A K g → DecidesChange (Err x) B L h
     go OutOfMemory a = on a m.1
     go CounterEnd a = (on a.0 m.1, spent a.1)
 
@@ -117,12 +117,12 @@ pub known_units : (vs ls : List ℕ) (f : Stored) → with_units ls (with_known 
 known_units vs [] f = refl
 known_units vs (l ∷ ls) f = ap (with_units ls) (known_unit vs l f) ∙ known_units vs ls (with_unit l f)
 
-pub units_stored : (new : CheckerState) (f : Stored) (us : List (ℕ × ℕ)) → RepresentsFormula new.formula (with_units (firsts us) f) → KeepsVariables new.variables (with_literals_known (firsts us) f).variables → new.assumed ≡ canonical f.assumed → RepresentsStored new (effect (UnitClauses us) f)
+pub units_stored : (new : CheckerState) (f : Stored) (us : List (ℕ × ℕ)) → RepresentsFormula new.formula (with_units (firsts us) f) → StoresVariables new.variables (with_literals_known (firsts us) f).variables → new.assumed ≡ canonical f.assumed → RepresentsStored new (effect (UnitClauses us) f)
 units_stored new f us F V a =
     let s = units_same (firsts us) f in
     subst (RepresentsStored new) (sym (known_units (map variable (firsts us)) (firsts us) f)) (record {
       formula = loosened new.formula (with_units (firsts us) f) F;
-      variables = subst (λ g. KeepsVariables new.variables (with_literals_known (firsts us) (record f { variables = g })).variables) (sym s.variables) V;
+      variables = subst (λ g. StoresVariables new.variables (with_literals_known (firsts us) (record f { variables = g })).variables) (sym s.variables) V;
       assumed = a ∙ ap canonical (sym s.assumed);
     })
 

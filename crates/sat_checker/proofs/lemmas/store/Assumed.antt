@@ -3,14 +3,14 @@ use Rattle.std.proofs.Common.{ℕ, suc, ◌+◌, ◌<◌, ◌≤◌, ◌≡◌, 
 use Rattle.std.proofs.lemmas.Bool.{eqb-true, true≢false}
 use Rattle.sat_checker.specs.LiteralSets.{is_among, canonical, same_literals}
 use Rattle.sat_checker.specs.Looks.{total_length}
-use Rattle.sat_checker.specs.Stored.{Stored, hash_by}
+use Rattle.sat_checker.specs.Stored.{Stored, clause_hash_by}
 use Rattle.sat_checker.specs.Storing.{clause_with}
 use Rattle.sat_checker.specs.HasherView.{solver_name_of, width_of}
 use Rattle.sat_checker.specs.inner.Marks.{NoRepeats, IsIncreasing}
 use Rattle.sat_checker.specs.inner.OccurrenceView.{times_in}
 use Rattle.sat_checker.specs.inner.PairView.{first_of}
-use Rattle.sat_checker.specs.inner.SlotView.{Slot, slot_at, slot_count, literals_at, is_gone, is_filed, bucket_in, places_from, places_of, is_same_at, found_among, without_count_at}
-use Rattle.sat_checker.specs.inner.StoreView.{RepresentsClauses, store_count_in, with_less}
+use Rattle.sat_checker.specs.inner.SlotView.{Slot, slot_at, slot_count, literals_at, is_removed, is_filed, bucket_in, places_from, places_of, is_same_at, found_among, without_count_at}
+use Rattle.sat_checker.specs.inner.StoreView.{RepresentsClauses, store_count_in, with_count_removed}
 use Rattle.sat_checker.specs.declared.store.Store.{Store}
 use Rattle.sat_checker.proofs.lemmas.meaning.Clauses.{same}
 use Rattle.sat_checker.proofs.lemmas.sets.Canonical.{canonical_among, canonical_increasing, same_increasing}
@@ -47,7 +47,7 @@ canonical_reversed xs = same_increasing (canonical (reverse xs)) (canonical xs) 
 -- that the clause at a place is not removed, and has this hash
 pub record IsFiledAt (ss : List Slot) (hash place : ℕ) : Type 0 where
   pub inside : place < length ss
-  pub there : is_gone (slot_at ss place) ≡ false
+  pub there : is_removed (slot_at ss place) ≡ false
   pub hash_is : (slot_at ss place).hash ≡ hash
 
 filed_from : (ss : List Slot) (k hash p : ℕ) → Some p ≡ first_of (places_from k hash ss) → (i : ℕ) × (p ≡ k + i) × (i < length ss) × (is_filed hash (slot_at ss i) ≡ true)
@@ -67,7 +67,7 @@ pub first_filed : (ss : List Slot) (hash p : ℕ) → Some p ≡ first_of (place
 first_filed ss hash p e =
     let r = filed_from ss 0 hash p e in
     let q : r.0 ≡ p = (let z : p ≡ 0 + r.0 = r.1 in omega (arith, z)) in
-    let parts = both_parts (is_gone (slot_at ss r.0)) (eqb (slot_at ss r.0).hash hash) r.3 in
+    let parts = both_parts (is_removed (slot_at ss r.0)) (eqb (slot_at ss r.0).hash hash) r.3 in
     subst (IsFiledAt ss hash) q (record { inside = r.2; there = parts.0; hash_is = eqb-true (slot_at ss r.0).hash hash parts.1 })
 
 found_first : (ss : List Slot) (literals : List ℕ) (p : ℕ) (ps : List ℕ) → Some p ≡ first_of ps → is_same_at ss literals p ≡ true → Some p ≡ found_among ss literals ps
@@ -88,13 +88,13 @@ module _ (store : Store) (literals : List ℕ) (hash p : ℕ) (first : Some p �
   found = found_first store.clauses literals p (places_of hash store.clauses) first s
 
   module _ (f : Stored) (k : RepresentsClauses store f) where
-    hash_same : hash ≡ hash_by (solver_name_of store.hasher) (width_of store.hasher) literals
+    hash_same : hash ≡ clause_hash_by (solver_name_of store.hasher) (width_of store.hasher) literals
     hash_same =
         let filed = first_filed store.clauses hash p first in
-        sym filed.hash_is ∙ hashed_at store.hasher store.clauses p filed.inside k.hashed filed.there ∙ ap (hash_by (solver_name_of store.hasher) (width_of store.hasher)) (same (literals_at store.clauses p) literals s)
+        sym filed.hash_is ∙ hashed_at store.hasher store.clauses p filed.inside k.hashed filed.there ∙ ap (clause_hash_by (solver_name_of store.hasher) (width_of store.hasher)) (same (literals_at store.clauses p) literals s)
 
     pub count_of_first : (r : Bool) → store_count_in r (clause_with literals f.clauses) ≡ slot_count r (slot_at store.clauses p)
     count_of_first r = count_there store f k literals hash hash_same p found r
 
-    pub deleted_first : (r : Bool) (new : List Slot) → new ≡ without_count_at r p store.clauses → RepresentsClauses (record store { clauses = new }) (with_less r literals f)
+    pub deleted_first : (r : Bool) (new : List Slot) → new ≡ without_count_at r p store.clauses → RepresentsClauses (record store { clauses = new }) (with_count_removed r literals f)
     deleted_first r new n = deleted_one store f k literals hash hash_same p found r new n

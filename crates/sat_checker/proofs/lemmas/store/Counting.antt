@@ -3,18 +3,18 @@ use Rattle.std.proofs.Common.{ℕ, zero, suc, ◌+◌, ◌<◌, ◌≤◌, ◌^�
 use Rattle.std.proofs.lemmas.Bool.{eqb-true, or_parts}
 use Rattle.std.specs.List.{AllByRecursion}
 use Rattle.sat_checker.specs.LiteralSets.{is_among}
-use Rattle.sat_checker.specs.Stored.{StoredClause, hash_by}
+use Rattle.sat_checker.specs.Stored.{StoredClause, clause_hash_by}
 use Rattle.sat_checker.specs.Storing.{with_count, without_count}
 use Rattle.sat_checker.specs.inner.Marks.{IsIncreasing}
 use Rattle.sat_checker.specs.inner.OccurrenceView.{times_in, times_stored}
-use Rattle.sat_checker.specs.inner.SlotView.{Slot, stored_slot, slot_at, literals_at, all_lits, slot_count, is_gone, with_count_at, without_count_at, all_hashed_by}
+use Rattle.sat_checker.specs.inner.SlotView.{Slot, stored_slot, slot_at, literals_at, all_lits, slot_count, is_removed, with_count_at, without_count_at, all_hashed_by}
 use Rattle.sat_checker.proofs.lemmas.sets.Marks.{below_all}
 use Rattle.sat_checker.proofs.lemmas.store.Places.{gone_more, gone_not}
 
 module _ (l : ℕ) where
   -- how often the literal occurs in a slot's clause, or 0 if the clause is removed
   abbrev pub occurrences_of : Slot → ℕ
-  occurrences_of s = cond (is_gone s) 0 (times_in l s.clause.literals)
+  occurrences_of s = cond (is_removed s) 0 (times_in l s.clause.literals)
 
   -- after a slot is appended
   times_push : (ss : List Slot) (s : Slot) → times_stored l (ss ++ s ∷ []) ≡ times_stored l ss + occurrences_of s
@@ -32,7 +32,7 @@ module _ (l : ℕ) where
   times_set (s ∷ ss) zero t k = omega arith
   times_set (s ∷ ss) (suc i) t k = let ih : times_stored l (slice_set ss i t) + occurrences_of (slot_at ss i) ≡ times_stored l ss + occurrences_of t = times_set ss i t (omega arith) in omega (arith, ih)
 
-  at_state : (s : Slot) (b : Bool) → is_gone s ≡ b → occurrences_of s ≡ cond b 0 (times_in l s.clause.literals)
+  at_state : (s : Slot) (b : Bool) → is_removed s ≡ b → occurrences_of s ≡ cond b 0 (times_in l s.clause.literals)
   at_state s b e = ap (λ g. cond g 0 (times_in l s.clause.literals)) e
 
   counted_literals : (r : Bool) (c : StoredClause) → times_in l (with_count r c).literals ≡ times_in l c.literals
@@ -44,7 +44,7 @@ module _ (l : ℕ) where
   left_literals false c = refl
 
   -- after a count is added to a clause that is not removed
-  pub times_counted : (r : Bool) (i : ℕ) (ss : List Slot) → i < length ss → is_gone (slot_at ss i) ≡ false → times_stored l (with_count_at r i ss) ≡ times_stored l ss
+  pub times_counted : (r : Bool) (i : ℕ) (ss : List Slot) → i < length ss → is_removed (slot_at ss i) ≡ false → times_stored l (with_count_at r i ss) ≡ times_stored l ss
   times_counted r i ss k g =
       let c : StoredClause = (slot_at ss i).clause in
       let h : ℕ = (slot_at ss i).hash in
@@ -62,13 +62,13 @@ module _ (l : ℕ) where
     was : occurrences_of (slot_at ss i) ≡ times_in l (literals_at ss i)
     was = at_state (slot_at ss i) false (gone_not (slot_at ss i) r g)
 
-    pub times_left : is_gone (record { clause = without_count r (slot_at ss i).clause; hash = (slot_at ss i).hash }) ≡ false → times_stored l (without_count_at r i ss) ≡ times_stored l ss
+    pub times_left : is_removed (record { clause = without_count r (slot_at ss i).clause; hash = (slot_at ss i).hash }) ≡ false → times_stored l (without_count_at r i ss) ≡ times_stored l ss
     times_left h =
         let e : times_stored l (without_count_at r i ss) + occurrences_of (slot_at ss i) ≡ times_stored l ss + occurrences_of left = times_set ss i left k in
         let b : occurrences_of left ≡ times_in l (literals_at ss i) = at_state left false h ∙ left_literals r (slot_at ss i).clause in
         omega (arith, e, was, b)
 
-    pub times_gone : is_gone (record { clause = without_count r (slot_at ss i).clause; hash = (slot_at ss i).hash }) ≡ true → times_stored l (without_count_at r i ss) + times_in l (literals_at ss i) ≡ times_stored l ss
+    pub times_gone : is_removed (record { clause = without_count r (slot_at ss i).clause; hash = (slot_at ss i).hash }) ≡ true → times_stored l (without_count_at r i ss) + times_in l (literals_at ss i) ≡ times_stored l ss
     times_gone h =
         let e : times_stored l (without_count_at r i ss) + occurrences_of (slot_at ss i) ≡ times_stored l ss + occurrences_of left = times_set ss i left k in
         let b : occurrences_of left ≡ 0 = at_state left true h in
@@ -77,9 +77,9 @@ module _ (l : ℕ) where
   -- after all clauses are filed again
   pub times_hashed : (names : ℕ → Option ℕ) (width : ℕ) (ss : List Slot) → times_stored l (all_hashed_by names width ss) ≡ times_stored l ss
   times_hashed names width [] = refl
-  times_hashed names width (s ∷ ss) = go (is_gone s) refl (times_hashed names width ss)
+  times_hashed names width (s ∷ ss) = go (is_removed s) refl (times_hashed names width ss)
     where
-      go : (b : Bool) → is_gone s ≡ b → times_stored l (all_hashed_by names width ss) ≡ times_stored l ss → occurrences_of (cond b s (record s { hash = hash_by names width s.clause.literals })) + times_stored l (all_hashed_by names width ss) ≡ occurrences_of s + times_stored l ss
+      go : (b : Bool) → is_removed s ≡ b → times_stored l (all_hashed_by names width ss) ≡ times_stored l ss → occurrences_of (cond b s (record s { hash = clause_hash_by names width s.clause.literals })) + times_stored l (all_hashed_by names width ss) ≡ occurrences_of s + times_stored l ss
       go true e ih = ap (λ n. occurrences_of s + n) ih
       go false e ih = ap (λ n. occurrences_of s + n) ih
 
@@ -101,7 +101,7 @@ module _ (l : ℕ) where
 
   pub times_few : (ss : List Slot) → AllByRecursion IsIncreasing (all_lits ss) → times_stored l ss ≤ length ss
   times_few [] h = omega arith
-  times_few (s ∷ ss) h = go (is_gone s) (times_few ss h.1) (times_once s.clause.literals h.0)
+  times_few (s ∷ ss) h = go (is_removed s) (times_few ss h.1) (times_once s.clause.literals h.0)
     where
       go : (b : Bool) → times_stored l ss ≤ length ss → times_in l s.clause.literals ≤ 1 → cond b 0 (times_in l s.clause.literals) + times_stored l ss ≤ length (s ∷ ss)
       go true ih k = omega (arith, ih)

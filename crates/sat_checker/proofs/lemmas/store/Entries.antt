@@ -6,7 +6,7 @@ use Rattle.std.proofs.lemmas.Bool.Decides.{nat_tests}
 use Rattle.std.specs.List.{All, AllByRecursion}
 use Rattle.sat_checker.specs.Storing.{with_count, without_count}
 use Rattle.sat_checker.specs.inner.Marks.{IsIncreasing}
-use Rattle.sat_checker.specs.inner.SlotView.{lits_in, LitsWithin, Slot, slot_at, all_lits, slot_ids, unstored, with_count_at, without_count_at, with_hash_at}
+use Rattle.sat_checker.specs.inner.SlotView.{lits_in, LitsWithin, Slot, slot_at, all_lits, slot_ids, removed_slot, with_count_at, without_count_at, with_hash_at}
 use Rattle.sat_checker.specs.inner.EntryView.{slot_of, IsEntry}
 use Rattle.sat_checker.specs.declared.store.filed_hash.FiledHash.{FiledHash}
 use Rattle.sat_checker.specs.declared.store.slots.Entry.{Entry}
@@ -23,7 +23,7 @@ module _ (buffer : List ℕ) (es : List Entry) (value : List Slot) (i : ℕ) (x 
   pub slot_read : slot_of buffer x ≡ slot_at value i
   slot_read =
       subst (λ v. slot_of buffer x ≡ slot_at v i) is
-      (ap (slot_of buffer) read ∙ sym (get_or-map (slot_of buffer) es i x (unstored 0 0 []) here))
+      (ap (slot_of buffer) read ∙ sym (get_or-map (slot_of buffer) es i x (removed_slot 0 0 []) here))
 
 -- the ids of entries are the ids of their slots
 pub entry_ids : (buffer : List ℕ) (es : List Entry) (value : List Slot) → map (slot_of buffer) es ≡ value → map (λ (e : Entry). e.id) es ≡ slot_ids value

@@ -7,7 +7,7 @@ use Rattle.sat_checker.specs.inner.IndexView.{IndexesSlots}
 use Rattle.sat_checker.specs.inner.PairView.{Indexed, places_in, without_pair, mixed}
 use Rattle.sat_checker.specs.inner.OccurrenceView.{count_at, times_in, times_stored, SlotsInvariant}
 use Rattle.sat_checker.specs.Storing.{with_count, without_count}
-use Rattle.sat_checker.specs.inner.SlotView.{Slot, unstored, stored_slot, slot_at, literals_at, is_gone, slot_count, with_count_at, without_count_at, all_hashed_by}
+use Rattle.sat_checker.specs.inner.SlotView.{Slot, removed_slot, stored_slot, slot_at, literals_at, is_removed, slot_count, with_count_at, without_count_at, all_hashed_by}
 use Rattle.sat_checker.specs.declared.store.occurrences.Occurrences.{Occurrences}
 use Rattle.sat_checker.proofs.lemmas.store.Places.{agrees_stored, agrees_counted, agrees_left, agrees_removed, stored_last, after, gone_there}
 use Rattle.sat_checker.proofs.lemmas.pairs.Order.{all_weaker, all_filter, all_push, order_filter, order_push, places_push}
@@ -17,7 +17,7 @@ use Rattle.sat_checker.proofs.lemmas.store.Counting.{times_more, times_counted, 
 
 -- after a new clause is stored once
 pub kept_stored : (ss new all : List Slot) (index next : Indexed) (o mid p : Occurrences) (r : Bool) (id hash place : ℕ) (literals : List ℕ) → SlotsInvariant ss index o → ((l : ℕ) → count_at mid l ≡ count_at o l) → place ≡ length ss
-    → next ≡ record { pairs = index.pairs ++ (record { hash = mixed hash; place = index.places }) ∷ []; places = index.places + 1 } → new ≡ ss ++ unstored id hash literals ∷ [] → all ≡ with_count_at r place new → ((l : ℕ) → count_at p l ≡ count_at mid l + times_in l literals) → SlotsInvariant all next p
+    → next ≡ record { pairs = index.pairs ++ (record { hash = mixed hash; place = index.places }) ∷ []; places = index.places + 1 } → new ≡ ss ++ removed_slot id hash literals ∷ [] → all ≡ with_count_at r place new → ((l : ℕ) → count_at p l ≡ count_at mid l + times_in l literals) → SlotsInvariant all next p
 kept_stored ss new all index next o mid p r id hash place literals k m is h e s a = record {
   files = subst (λ x. IndexesSlots x all) (sym h) (record {
     filed = agrees_stored (λ q. places_in (mixed q) index.pairs) (λ q. places_in (mixed q) (index.pairs ++ (record { hash = mixed hash; place = index.places }) ∷ [])) r id hash place literals ss new all k.files.filed is
@@ -38,7 +38,7 @@ kept_stored ss new all index next o mid p r id hash place literals k m is h e s 
     length_more (y ∷ ys) x = let ih : length (ys ++ x ∷ []) ≡ length ys + 1 = length_more ys x in omega arith
 
 -- after a count is added
-pub kept_counted : (old ss new : List Slot) (index : Indexed) (o : Occurrences) (r : Bool) (i : ℕ) → old ≡ ss → i < length ss → is_gone (slot_at ss i) ≡ false → SlotsInvariant old index o → new ≡ with_count_at r i old → SlotsInvariant new index o
+pub kept_counted : (old ss new : List Slot) (index : Indexed) (o : Occurrences) (r : Bool) (i : ℕ) → old ≡ ss → i < length ss → is_removed (slot_at ss i) ≡ false → SlotsInvariant old index o → new ≡ with_count_at r i old → SlotsInvariant new index o
 kept_counted old ss new index o r i is l n k e = record {
   files = record {
     filed = agrees_counted (λ q. places_in (mixed q) index.pairs) r i old ss new is l n k.files.filed e;
@@ -51,7 +51,7 @@ kept_counted old ss new index o r i is l n k e = record {
 
 -- after a count is removed
 module _ (old ss new : List Slot) (index : Indexed) (o : Occurrences) (r : Bool) (i : ℕ) (is : old ≡ ss) (l : i < length ss) (c : 0 < slot_count r (slot_at ss i)) (k : SlotsInvariant old index o) (e : new ≡ without_count_at r i old) where
-  there : is_gone (slot_at new i) ≡ is_gone (record { clause = without_count r (slot_at ss i).clause; hash = (slot_at ss i).hash })
+  there : is_removed (slot_at new i) ≡ is_removed (record { clause = without_count r (slot_at ss i).clause; hash = (slot_at ss i).hash })
   there = gone_there (λ q. places_in (mixed q) index.pairs) r i old ss new is l c k.files.filed e
 
   now : (q : ℕ) → times_stored q new ≡ times_stored q (without_count_at r i ss)
@@ -60,14 +60,14 @@ module _ (old ss new : List Slot) (index : Indexed) (o : Occurrences) (r : Bool)
   length_left : length new ≡ length old
   length_left = ap length e ∙ length-set old i (record (slot_at old i) { clause = without_count r (slot_at old i).clause })
 
-  pub kept_left : is_gone (slot_at new i) ≡ false → SlotsInvariant new index o
+  pub kept_left : is_removed (slot_at new i) ≡ false → SlotsInvariant new index o
   kept_left n = record {
     files = record { filed = agrees_left (λ q. places_in (mixed q) index.pairs) r i old ss new is l c k.files.filed e n; places = k.files.places ∙ sym length_left; in_order = k.files.in_order; below = k.files.below };
     counted = λ q. k.counted q ∙ ap (times_stored q) is ∙ sym (times_left q r i ss l c (sym there ∙ n)) ∙ sym (now q);
   }
 
   -- the literals of a clause that is then removed were counted
-  pub were_counted : (literals : List ℕ) → ((q : ℕ) → times_in q literals ≡ times_in q (literals_at ss i)) → is_gone (slot_at new i) ≡ true → (q : ℕ) → times_in q literals ≤ count_at o q
+  pub were_counted : (literals : List ℕ) → ((q : ℕ) → times_in q literals ≡ times_in q (literals_at ss i)) → is_removed (slot_at new i) ≡ true → (q : ℕ) → times_in q literals ≤ count_at o q
   were_counted literals s g q =
       let a : times_stored q (without_count_at r i ss) + times_in q (literals_at ss i) ≡ times_stored q ss = times_gone q r i ss l c (sym there ∙ g) in
       let b : count_at o q ≡ times_stored q ss = k.counted q ∙ ap (times_stored q) is in
@@ -75,7 +75,7 @@ module _ (old ss new : List Slot) (index : Indexed) (o : Occurrences) (r : Bool)
       omega (arith, a, b, d)
 
   pub kept_removed : (next : Indexed) (p : Occurrences) (literals : List ℕ) → next ≡ record index { pairs = without_pair i index.pairs }
-      → ((q : ℕ) → times_in q literals ≡ times_in q (literals_at ss i)) → ((q : ℕ) → count_at p q + times_in q literals ≡ count_at o q) → is_gone (slot_at new i) ≡ true → SlotsInvariant new next p
+      → ((q : ℕ) → times_in q literals ≡ times_in q (literals_at ss i)) → ((q : ℕ) → count_at p q + times_in q literals ≡ count_at o q) → is_removed (slot_at new i) ≡ true → SlotsInvariant new next p
   kept_removed next p literals w s m g = record {
     files = subst (λ x. IndexesSlots x new) (sym w) (record {
       filed = agrees_removed (λ q. places_in (mixed q) index.pairs) r i old ss new is l c k.files.filed e (λ q. places_in (mixed q) (without_pair i index.pairs)) (λ q. places_without (mixed q) i index.pairs) g;

@@ -1,11 +1,11 @@
 -- The clause that a lookup finds.
 use Rattle.std.proofs.Common.{ℕ, ◌≡◌, Bool, true, false, cond, List, [], ◌∷◌, None, Some, refl, sym, ◌∙◌, ap}
 use Rattle.sat_checker.specs.LiteralSets.{same_literals}
-use Rattle.sat_checker.specs.Stored.{Stored, StoredClause, hash_by}
+use Rattle.sat_checker.specs.Stored.{Stored, StoredClause, clause_hash_by}
 use Rattle.sat_checker.specs.Storing.{clause_with}
 use Rattle.sat_checker.specs.HasherView.{solver_name_of, width_of}
 use Rattle.sat_checker.specs.inner.SlotView.{Slot, literals_at, slot_at, slot_count, places_of, found_among}
-use Rattle.sat_checker.specs.inner.StoreView.{RepresentsClauses, found_in}
+use Rattle.sat_checker.specs.inner.StoreView.{RepresentsClauses, found_clause}
 use Rattle.sat_checker.specs.declared.store.Store.{Store}
 use Rattle.sat_checker.proofs.lemmas.meaning.Clauses.{same}
 use Rattle.sat_checker.proofs.lemmas.store.Storing.{stands_found, stands_none}
@@ -28,12 +28,12 @@ literals_there ss literals p (q ∷ ps) e = go (literals_there ss literals p ps)
     go ih true n e = let r : p ≡ q = cc in sym (ap (literals_at ss) r ∙ same (literals_at ss q) literals n)
     go ih false n e = ih e
 
-module _ (store : Store) (f : Stored) (k : RepresentsClauses store f) (literals : List ℕ) (hash : ℕ) (e : hash ≡ hash_by (solver_name_of store.hasher) (width_of store.hasher) literals) where
+module _ (store : Store) (f : Stored) (k : RepresentsClauses store f) (literals : List ℕ) (hash : ℕ) (e : hash ≡ clause_hash_by (solver_name_of store.hasher) (width_of store.hasher) literals) where
   pub none_found : None ≡ found_among store.clauses literals (places_of hash store.clauses) → clause_with literals f.clauses ≡ None
   none_found found = ap (clause_with literals) (sym k.clauses) ∙ (stands_none store.hasher store.clauses literals hash k.hashed e found).none
 
   pub one_found : (p : ℕ) → Some p ≡ found_among store.clauses literals (places_of hash store.clauses) → (id irredundant redundant : ℕ) → id ≡ (slot_at store.clauses p).clause.id → irredundant ≡ slot_count false (slot_at store.clauses p)
-      → redundant ≡ slot_count true (slot_at store.clauses p) → clause_with literals f.clauses ≡ found_in literals (Some (record { id = id; irredundant = irredundant; redundant = redundant }))
+      → redundant ≡ slot_count true (slot_at store.clauses p) → clause_with literals f.clauses ≡ found_clause literals (Some (record { id = id; irredundant = irredundant; redundant = redundant }))
   one_found p found id irredundant redundant i n r =
       was ∙ ap (λ ls. Some (signed there.id ls there.irredundant there.redundant)) (literals_found literals there f.clauses was) ∙ ap (λ x. Some (signed x literals there.irredundant there.redundant)) (sym i)
       ∙ ap (λ x. Some (signed id literals x there.redundant)) (sym n) ∙ ap (λ x. Some (signed id literals irredundant x)) (sym r)

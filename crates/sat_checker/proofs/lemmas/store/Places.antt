@@ -5,7 +5,7 @@ use Rattle.std.specs.List.{AllByRecursion}
 use Rattle.sat_checker.specs.Stored.{StoredClause}
 use Rattle.sat_checker.specs.Storing.{with_count, without_count}
 use Rattle.sat_checker.specs.inner.IndexView.{without_place}
-use Rattle.sat_checker.specs.inner.SlotView.{Slot, unstored, stored_slot, slot_at, slot_count, with_count_at, without_count_at, is_gone, is_filed, places_from, places_of}
+use Rattle.sat_checker.specs.inner.SlotView.{Slot, removed_slot, stored_slot, slot_at, slot_count, with_count_at, without_count_at, is_removed, is_filed, places_from, places_of}
 
 pub eqb_comm : (x y : ℕ) → eqb x y ≡ eqb y x
 eqb_comm x y = go (eqb x y) refl (eqb y x) refl
@@ -44,10 +44,10 @@ get_last [] s d = refl
 get_last (x ∷ ss) s d = get_last ss s d
 
 -- after an appended clause gets its first count
-pub counted_last : (redundant : Bool) (id hash : ℕ) (literals : List ℕ) (ss : List Slot) → with_count_at redundant (length ss) (ss ++ unstored id hash literals ∷ []) ≡ ss ++ stored_slot redundant id hash literals ∷ []
+pub counted_last : (redundant : Bool) (id hash : ℕ) (literals : List ℕ) (ss : List Slot) → with_count_at redundant (length ss) (ss ++ removed_slot id hash literals ∷ []) ≡ ss ++ stored_slot redundant id hash literals ∷ []
 counted_last redundant id hash literals ss =
-    ap (λ (s : Slot). slice_set (ss ++ unstored id hash literals ∷ []) (length ss) (record s { clause = with_count redundant s.clause })) (get_last ss (unstored id hash literals) (unstored 0 0 []))
-    ∙ set_last ss (unstored id hash literals) (stored_slot redundant id hash literals)
+    ap (λ (s : Slot). slice_set (ss ++ removed_slot id hash literals ∷ []) (length ss) (record s { clause = with_count redundant s.clause })) (get_last ss (removed_slot id hash literals) (removed_slot 0 0 []))
+    ∙ set_last ss (removed_slot id hash literals) (stored_slot redundant id hash literals)
 
 filed_new : (redundant : Bool) (q id hash : ℕ) (literals : List ℕ) → is_filed q (stored_slot redundant id hash literals) ≡ eqb q hash
 filed_new true q id hash literals = eqb_comm hash q
@@ -96,8 +96,8 @@ without_lower p (x ∷ xs) h =
 without_absent : (k q : ℕ) (ss : List Slot) (i : ℕ) → i < length ss → eqb q (slot_at ss i).hash ≡ false → (n : ℕ) → k + i ≡ n → without_place n (places_from k q ss) ≡ places_from k q ss
 without_absent k q [] i l d n e = absurd (omega arith)
 without_absent k q (s ∷ ss) zero l d n e =
-    ap (λ b. without_place n (cond (not (is_gone s) && b) (k ∷ places_from (k + 1) q ss) (places_from (k + 1) q ss))) (eqb_comm s.hash q ∙ d) ∙ go (is_gone s)
-    ∙ sym (ap (λ b. cond (not (is_gone s) && b) (k ∷ places_from (k + 1) q ss) (places_from (k + 1) q ss)) (eqb_comm s.hash q ∙ d))
+    ap (λ b. without_place n (cond (not (is_removed s) && b) (k ∷ places_from (k + 1) q ss) (places_from (k + 1) q ss))) (eqb_comm s.hash q ∙ d) ∙ go (is_removed s)
+    ∙ sym (ap (λ b. cond (not (is_removed s) && b) (k ∷ places_from (k + 1) q ss) (places_from (k + 1) q ss)) (eqb_comm s.hash q ∙ d))
   where
     rest : without_place n (places_from (k + 1) q ss) ≡ places_from (k + 1) q ss
     rest = without_lower n (places_from (k + 1) q ss) (places_above n (k + 1) q ss (omega arith))
@@ -115,7 +115,7 @@ without_absent k q (s ∷ ss) (suc i) l d n e = go (is_filed q s) (without_absen
     go false ih = ih
 
 -- a clause that is removed loses its place
-places_gone : (k q : ℕ) (ss : List Slot) (i : ℕ) (t : Slot) → i < length ss → is_gone t ≡ true → is_gone (slot_at ss i) ≡ false → places_from k q (slice_set ss i t) ≡ cond (eqb q (slot_at ss i).hash) (without_place (k + i) (places_from k q ss)) (places_from k q ss)
+places_gone : (k q : ℕ) (ss : List Slot) (i : ℕ) (t : Slot) → i < length ss → is_removed t ≡ true → is_removed (slot_at ss i) ≡ false → places_from k q (slice_set ss i t) ≡ cond (eqb q (slot_at ss i).hash) (without_place (k + i) (places_from k q ss)) (places_from k q ss)
 places_gone k q [] i t l g n = absurd (omega arith)
 places_gone k q (s ∷ ss) zero t l g n =
     ap (λ b. cond (not b && eqb t.hash q) (k ∷ places_from (k + 1) q ss) (places_from (k + 1) q ss)) g
@@ -151,7 +151,7 @@ places_gone k q (s ∷ ss) (suc i) t l g n =
     go false false = refl
 
 -- a clause with a count is not removed
-pub gone_not : (s : Slot) (r : Bool) → 0 < slot_count r s → is_gone s ≡ false
+pub gone_not : (s : Slot) (r : Bool) → 0 < slot_count r s → is_removed s ≡ false
 gone_not s true h = let e : eqb s.clause.redundant 0 ≡ false = ne_eqb s.clause.redundant 0 (λ z. let k : 0 < s.clause.redundant = h in omega arith) in ap (λ b. eqb s.clause.irredundant 0 && b) e ∙ and_false (eqb s.clause.irredundant 0)
   where
     and_false : (b : Bool) → (b && false) ≡ false
@@ -159,24 +159,24 @@ gone_not s true h = let e : eqb s.clause.redundant 0 ≡ false = ne_eqb s.clause
     and_false false = refl
 gone_not s false h = let e : eqb s.clause.irredundant 0 ≡ false = ne_eqb s.clause.irredundant 0 (λ z. let k : 0 < s.clause.irredundant = h in omega arith) in ap (λ b. b && eqb s.clause.redundant 0) e
 
-pub gone_more : (c : StoredClause) (h : ℕ) (r : Bool) → is_gone (record { clause = with_count r c; hash = h }) ≡ false
+pub gone_more : (c : StoredClause) (h : ℕ) (r : Bool) → is_removed (record { clause = with_count r c; hash = h }) ≡ false
 gone_more c h true = gone_not (record { clause = with_count true c; hash = h }) true (omega arith)
 gone_more c h false = gone_not (record { clause = with_count false c; hash = h }) false (omega arith)
 
 -- after a count is added to a clause that is not removed
-pub places_counted : (q : ℕ) (r : Bool) (i : ℕ) (ss : List Slot) → i < length ss → is_gone (slot_at ss i) ≡ false → places_of q (with_count_at r i ss) ≡ places_of q ss
+pub places_counted : (q : ℕ) (r : Bool) (i : ℕ) (ss : List Slot) → i < length ss → is_removed (slot_at ss i) ≡ false → places_of q (with_count_at r i ss) ≡ places_of q ss
 places_counted q r i ss l n =
     places_same 0 q ss i (record { clause = with_count r (slot_at ss i).clause; hash = (slot_at ss i).hash }) l
     (ap (λ b. not b && eqb (slot_at ss i).hash q) (gone_more (slot_at ss i).clause (slot_at ss i).hash r ∙ sym n))
 
 -- after a count is removed from a clause, which may remove the clause
 
-pub places_left : (q : ℕ) (r : Bool) (i : ℕ) (ss : List Slot) → i < length ss → 0 < slot_count r (slot_at ss i) → is_gone (record { clause = without_count r (slot_at ss i).clause; hash = (slot_at ss i).hash }) ≡ false → places_of q (without_count_at r i ss) ≡ places_of q ss
+pub places_left : (q : ℕ) (r : Bool) (i : ℕ) (ss : List Slot) → i < length ss → 0 < slot_count r (slot_at ss i) → is_removed (record { clause = without_count r (slot_at ss i).clause; hash = (slot_at ss i).hash }) ≡ false → places_of q (without_count_at r i ss) ≡ places_of q ss
 places_left q r i ss l c n =
     places_same 0 q ss i (record { clause = without_count r (slot_at ss i).clause; hash = (slot_at ss i).hash }) l
     (ap (λ b. not b && eqb (slot_at ss i).hash q) (n ∙ sym (gone_not (slot_at ss i) r c)))
 
-pub places_removed : (q : ℕ) (r : Bool) (i : ℕ) (ss : List Slot) → i < length ss → 0 < slot_count r (slot_at ss i) → is_gone (record { clause = without_count r (slot_at ss i).clause; hash = (slot_at ss i).hash }) ≡ true → places_of q (without_count_at r i ss) ≡ cond (eqb q (slot_at ss i).hash) (without_place i (places_of q ss)) (places_of q ss)
+pub places_removed : (q : ℕ) (r : Bool) (i : ℕ) (ss : List Slot) → i < length ss → 0 < slot_count r (slot_at ss i) → is_removed (record { clause = without_count r (slot_at ss i).clause; hash = (slot_at ss i).hash }) ≡ true → places_of q (without_count_at r i ss) ≡ cond (eqb q (slot_at ss i).hash) (without_place i (places_of q ss)) (places_of q ss)
 places_removed q r i ss l c g =
     let z : 0 + i ≡ i = omega arith in
     places_gone 0 q ss i (record { clause = without_count r (slot_at ss i).clause; hash = (slot_at ss i).hash }) l g (gone_not (slot_at ss i) r c)
@@ -191,15 +191,15 @@ set_at (s ∷ ss) (suc i) t l = set_at ss i t (omega arith)
 abbrev Agrees : (ℕ → List ℕ) → List Slot → Type 0
 Agrees f ss = (q : ℕ) → f q ≡ places_of q ss
 
-pub agrees_counted : (f : ℕ → List ℕ) (r : Bool) (i : ℕ) (old ss new : List Slot) → old ≡ ss → i < length ss → is_gone (slot_at ss i) ≡ false → Agrees f old → new ≡ with_count_at r i old → Agrees f new
+pub agrees_counted : (f : ℕ → List ℕ) (r : Bool) (i : ℕ) (old ss new : List Slot) → old ≡ ss → i < length ss → is_removed (slot_at ss i) ≡ false → Agrees f old → new ≡ with_count_at r i old → Agrees f new
 agrees_counted f r i old ss new is l n a e = λ q.
     a q ∙ ap (places_of q) is ∙ sym (places_counted q r i ss l n) ∙ ap (λ x. places_of q (with_count_at r i x)) (sym is) ∙ ap (places_of q) (sym e)
 
-pub stored_last : (r : Bool) (id hash place : ℕ) (literals : List ℕ) (old new all : List Slot) → place ≡ length old → new ≡ old ++ unstored id hash literals ∷ [] → all ≡ with_count_at r place new → all ≡ old ++ stored_slot r id hash literals ∷ []
+pub stored_last : (r : Bool) (id hash place : ℕ) (literals : List ℕ) (old new all : List Slot) → place ≡ length old → new ≡ old ++ removed_slot id hash literals ∷ [] → all ≡ with_count_at r place new → all ≡ old ++ stored_slot r id hash literals ∷ []
 stored_last r id hash place literals old new all p e s =
     s ∙ ap (λ n. with_count_at r n new) p ∙ ap (with_count_at r (length old)) e ∙ counted_last r id hash literals old
 
-pub agrees_stored : (f g : ℕ → List ℕ) (r : Bool) (id hash place : ℕ) (literals : List ℕ) (old new all : List Slot) → Agrees f old → place ≡ length old → ((q : ℕ) → g q ≡ cond (eqb q hash) (f q ++ place ∷ []) (f q)) → new ≡ old ++ unstored id hash literals ∷ [] → all ≡ with_count_at r place new → Agrees g all
+pub agrees_stored : (f g : ℕ → List ℕ) (r : Bool) (id hash place : ℕ) (literals : List ℕ) (old new all : List Slot) → Agrees f old → place ≡ length old → ((q : ℕ) → g q ≡ cond (eqb q hash) (f q ++ place ∷ []) (f q)) → new ≡ old ++ removed_slot id hash literals ∷ [] → all ≡ with_count_at r place new → Agrees g all
 agrees_stored f g r id hash place literals old new all a p h e s = λ q.
     h q ∙ ap (λ n. cond (eqb q hash) (f q ++ n ∷ []) (f q)) p ∙ ap (λ ps. cond (eqb q hash) (ps ++ length old ∷ []) ps) (a q)
     ∙ sym (places_stored r q id hash literals old) ∙ ap (places_of q) (sym (stored_last r id hash place literals old new all p e s))
@@ -208,13 +208,13 @@ module _ (f : ℕ → List ℕ) (r : Bool) (i : ℕ) (old ss new : List Slot) (i
   pub after : new ≡ without_count_at r i ss
   after = e ∙ ap (without_count_at r i) is
 
-  pub gone_there : is_gone (slot_at new i) ≡ is_gone (record { clause = without_count r (slot_at ss i).clause; hash = (slot_at ss i).hash })
-  gone_there = ap (λ x. is_gone (slot_at x i)) after ∙ ap is_gone (set_at ss i (record { clause = without_count r (slot_at ss i).clause; hash = (slot_at ss i).hash }) l)
+  pub gone_there : is_removed (slot_at new i) ≡ is_removed (record { clause = without_count r (slot_at ss i).clause; hash = (slot_at ss i).hash })
+  gone_there = ap (λ x. is_removed (slot_at x i)) after ∙ ap is_removed (set_at ss i (record { clause = without_count r (slot_at ss i).clause; hash = (slot_at ss i).hash }) l)
 
-  pub agrees_left : is_gone (slot_at new i) ≡ false → Agrees f new
+  pub agrees_left : is_removed (slot_at new i) ≡ false → Agrees f new
   agrees_left n = λ q. a q ∙ ap (places_of q) is ∙ sym (places_left q r i ss l c (sym gone_there ∙ n)) ∙ ap (places_of q) (sym after)
 
-  pub agrees_removed : (g : ℕ → List ℕ) → ((q : ℕ) → g q ≡ without_place i (f q)) → is_gone (slot_at new i) ≡ true → Agrees g new
+  pub agrees_removed : (g : ℕ → List ℕ) → ((q : ℕ) → g q ≡ without_place i (f q)) → is_removed (slot_at new i) ≡ true → Agrees g new
   agrees_removed g w n = λ q. w q ∙ ap (without_place i) (a q ∙ ap (places_of q) is) ∙ go q (eqb q (slot_at ss i).hash) refl ∙ sym (places_removed q r i ss l c (sym gone_there ∙ n)) ∙ ap (places_of q) (sym after)
     where
       go : (q : ℕ) (b : Bool) → eqb q (slot_at ss i).hash ≡ b → without_place i (places_of q ss) ≡ cond (eqb q (slot_at ss i).hash) (without_place i (places_of q ss)) (places_of q ss)

@@ -7,8 +7,8 @@ use Rattle.std.specs.List.{AllByRecursion}
 use Rattle.sat_base.specs.values.Literals.{variable}
 use Rattle.sat_checker.specs.LiteralSets.{is_among}
 use Rattle.sat_checker.specs.Stored.{Stored, Variable, Hide}
-use Rattle.sat_checker.specs.Accepts.{MayGetName}
-use Rattle.sat_checker.specs.inner.VariablesView.{known_if, mode_in, variable_of_data, variable_at, holder_at, KeepsVariables, HasDataRoom, HaveDataRoom}
+use Rattle.sat_checker.specs.Accepts.{CanGetName}
+use Rattle.sat_checker.specs.inner.VariablesView.{known_if, mode_in, variable_of_data, variable_at, holder_at, StoresVariables, HasDataRoom, HaveDataRoom}
 use Rattle.sat_checker.specs.declared.variables.Variables.{Variables}
 use Rattle.sat_checker.specs.declared.variables.VarData.{VarData}
 
@@ -35,12 +35,12 @@ known_next ls i v w d x y l e k =
     ∙ sym (twice (eqb v w) (is_among (map variable (drop (i + 1) ls)) v) x) ∙ ap (known_if (is_among (map variable (drop (i + 1) ls)) v)) (sym k)
 
 -- when a variable may get a name: no variable has the name, and the variable has none and is not hidden
-module _ (vs : Variables) (f : Stored) (k : KeepsVariables vs f.variables) (v name : ℕ) where
-  pub refused_taken : (o : Option ℕ) → o ≡ holder_at vs name → is_some o ≡ true → MayGetName f v name → ⊥
+module _ (vs : Variables) (f : Stored) (k : StoresVariables vs f.variables) (v name : ℕ) where
+  pub refused_taken : (o : Option ℕ) → o ≡ holder_at vs name → is_some o ≡ true → CanGetName f v name → ⊥
   refused_taken None e s h = true≢false (sym s)
   refused_taken (Some w) e s h = h.free w ((k.holders name w).0 (sym e))
 
-  pub refused_named : (d : VarData) → variable_of_data d ≡ variable_at vs v → is_some d.name ≡ true → MayGetName f v name → ⊥
+  pub refused_named : (d : VarData) → variable_of_data d ≡ variable_at vs v → is_some d.name ≡ true → CanGetName f v name → ⊥
   refused_named d e s h = named d.name refl s
     where
       none : d.name ≡ None
@@ -50,10 +50,10 @@ module _ (vs : Variables) (f : Stored) (k : KeepsVariables vs f.variables) (v na
       named None q s = true≢false (sym s)
       named (Some n) q s = let z : None ≡ Some n = sym none ∙ q in absurd (cc)
 
-  pub refused_hidden : (d : VarData) → variable_of_data d ≡ variable_at vs v → mode_in d.mode ≡ Hide → MayGetName f v name → ⊥
+  pub refused_hidden : (d : VarData) → variable_of_data d ≡ variable_at vs v → mode_in d.mode ≡ Hide → CanGetName f v name → ⊥
   refused_hidden d e s h = h.not_hidden (ap (λ (x : Variable). x.mode) (sym (k.each v) ∙ sym e) ∙ s)
 
-  pub may_get : (o : Option ℕ) (d : VarData) → o ≡ holder_at vs name → is_some o ≡ false → variable_of_data d ≡ variable_at vs v → is_some d.name ≡ false → (mode_in d.mode ≡ Hide → ⊥) → MayGetName f v name
+  pub may_get : (o : Option ℕ) (d : VarData) → o ≡ holder_at vs name → is_some o ≡ false → variable_of_data d ≡ variable_at vs v → is_some d.name ≡ false → (mode_in d.mode ≡ Hide → ⊥) → CanGetName f v name
   may_get o d e s q n m = record {
     free = λ w t. taken o e s w ((k.holders name w).1 t);
     nameless = sym (ap (λ (x : Variable). x.name) (k.each v)) ∙ sym (ap (λ (x : Variable). x.name) q) ∙ unnamed d.name n;
@@ -69,9 +69,9 @@ module _ (vs : Variables) (f : Stored) (k : KeepsVariables vs f.variables) (v na
       unnamed (Some x) s = absurd (true≢false s)
 
 -- a variable gets a name
-pub named_kept : (vs two : Variables) (g : ℕ → Variable) (v name : ℕ) (x : Variable) → KeepsVariables vs g → x.name ≡ Some name → (g v).name ≡ None → ((w : ℕ) → (g w).name ≡ Some name → ⊥)
+pub named_kept : (vs two : Variables) (g : ℕ → Variable) (v name : ℕ) (x : Variable) → StoresVariables vs g → x.name ≡ Some name → (g v).name ≡ None → ((w : ℕ) → (g w).name ≡ Some name → ⊥)
     → ((w : ℕ) → variable_at two w ≡ cond (eqb w v) x (variable_at vs w)) → ((n : ℕ) → holder_at two n ≡ cond (eqb n name) (Some v) (holder_at vs n))
-    → KeepsVariables two (λ w. cond (eqb w v) x (g w))
+    → StoresVariables two (λ w. cond (eqb w v) x (g w))
 named_kept vs two g v name x k xn gn free e h = record {
   each = λ w. e w ∙ ap (λ y. cond (eqb w v) x y) (k.each w);
   holders = λ n w. (by_two n w (eqb n name) refl (eqb w v) refl, back n w (eqb n name) refl (eqb w v) refl);
@@ -106,9 +106,9 @@ match_false true P Q m e = absurd (true≢false e)
 match_false false P Q m e = m
 
 -- a variable loses its name
-pub unnamed_kept : (vs two : Variables) (g : ℕ → Variable) (v name : ℕ) (x : Variable) → KeepsVariables vs g → x.name ≡ None → (g v).name ≡ Some name
+pub unnamed_kept : (vs two : Variables) (g : ℕ → Variable) (v name : ℕ) (x : Variable) → StoresVariables vs g → x.name ≡ None → (g v).name ≡ Some name
     → ((w : ℕ) → variable_at two w ≡ cond (eqb w v) x (variable_at vs w)) → ((n : ℕ) → holder_at two n ≡ cond (eqb n name) None (holder_at vs n))
-    → KeepsVariables two (λ w. cond (eqb w v) x (g w))
+    → StoresVariables two (λ w. cond (eqb w v) x (g w))
 unnamed_kept vs two g v name x k xn gn e h = record {
   each = λ w. e w ∙ ap (λ y. cond (eqb w v) x y) (k.each w);
   holders = λ n w. (by_two n w (eqb n name) refl (eqb w v) refl, back n w (eqb n name) refl (eqb w v) refl);
@@ -137,8 +137,8 @@ unnamed_kept vs two g v name x k xn gn e h = record {
     back n w false a false c t = h n ∙ ap (λ b. cond b None (holder_at vs n)) a ∙ (k.holders n w).1 t
 
 -- other data of a variable is set, and its name stays the same
-pub set_kept : (vs one : Variables) (g : ℕ → Variable) (v : ℕ) (x : Variable) → KeepsVariables vs g → x.name ≡ (g v).name
-    → ((w : ℕ) → variable_at one w ≡ cond (eqb w v) x (variable_at vs w)) → ((n : ℕ) → holder_at one n ≡ holder_at vs n) → KeepsVariables one (λ w. cond (eqb w v) x (g w))
+pub set_kept : (vs one : Variables) (g : ℕ → Variable) (v : ℕ) (x : Variable) → StoresVariables vs g → x.name ≡ (g v).name
+    → ((w : ℕ) → variable_at one w ≡ cond (eqb w v) x (variable_at vs w)) → ((n : ℕ) → holder_at one n ≡ holder_at vs n) → StoresVariables one (λ w. cond (eqb w v) x (g w))
 set_kept vs one g v x k xn e h = record {
   each = λ w. e w ∙ ap (λ y. cond (eqb w v) x y) (k.each w);
   holders = λ n w. ((λ t. sym (name_same w (eqb w v) refl) ∙ (k.holders n w).0 (sym (h n) ∙ t)), (λ t. h n ∙ (k.holders n w).1 (name_same w (eqb w v) refl ∙ t)));
@@ -168,8 +168,8 @@ known_name true x = refl
 known_name false x = refl
 
 -- some variables become known
-pub learnt : (old new : Variables) (g : ℕ → Variable) (test : ℕ → Bool) → KeepsVariables old g → ((v : ℕ) → variable_at new v ≡ known_if (test v) (variable_at old v)) → ((name : ℕ) → holder_at new name ≡ holder_at old name)
-    → KeepsVariables new (λ v. known_if (test v) (g v))
+pub learnt : (old new : Variables) (g : ℕ → Variable) (test : ℕ → Bool) → StoresVariables old g → ((v : ℕ) → variable_at new v ≡ known_if (test v) (variable_at old v)) → ((name : ℕ) → holder_at new name ≡ holder_at old name)
+    → StoresVariables new (λ v. known_if (test v) (g v))
 learnt old new g test k e h = record {
   each = λ v. e v ∙ ap (known_if (test v)) (k.each v);
   holders = λ name v. ((λ t. known_name (test v) (g v) ∙ (k.holders name v).0 (sym (h name) ∙ t)), (λ t. h name ∙ (k.holders name v).1 (sym (known_name (test v) (g v)) ∙ t)));
@@ -182,7 +182,7 @@ only_one v w = eqb_comm w v ∙ go (eqb v w)
     go true = refl
     go false = refl
 
-pub kept_same : (vs : Variables) (g h : ℕ → Variable) → ((v : ℕ) → g v ≡ h v) → KeepsVariables vs g → KeepsVariables vs h
+pub kept_same : (vs : Variables) (g h : ℕ → Variable) → ((v : ℕ) → g v ≡ h v) → StoresVariables vs g → StoresVariables vs h
 kept_same vs g h e k = record { each = λ v. k.each v ∙ e v; holders = λ name v. ((λ t. ap (λ x. x.name) (sym (e v)) ∙ (k.holders name v).0 t), (λ t. (k.holders name v).1 (ap (λ x. x.name) (e v) ∙ t))) }
 
 eqb_itself : (n : ℕ) → eqb n n ≡ true

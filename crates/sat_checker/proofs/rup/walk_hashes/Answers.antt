@@ -1,10 +1,10 @@
 use Rattle.std.proofs.Common.{ℕ, ◌≡◌, ◌*◌, length, get_or, ◌∙◌, arith}
 use Rattle.std.proofs.lemmas.Result.{err_from_is_err_and}
-use Rattle.sat_checker.specs.inner.SlotView.{bucket_in, bucket_of, live, live_length}
+use Rattle.sat_checker.specs.inner.SlotView.{bucket_in, bucket_of, live_clauses, live_literal_count}
 use Rattle.sat_checker.specs.inner.AssumedRoom.{HasClausesRoom, HasStoredRoom}
-use Rattle.sat_checker.specs.inner.Look.{AssumesMore}
-use Rattle.sat_checker.specs.inner.Looking.{LooksUpTo}
-use Rattle.sat_checker.specs.inner.Reasons.{named}
+use Rattle.sat_checker.specs.inner.WalkResults.{AssumesMore}
+use Rattle.sat_checker.specs.inner.LookCounts.{LooksUpTo}
+use Rattle.sat_checker.specs.inner.Reasons.{clauses_by_hashes}
 use Rattle.sat_checker.proofs.lemmas.propagation.Walking.{Extends-further, buckets-open}
 use Rattle.sat_checker.proofs.lemmas.store.Buckets.{bucket_roomy, stored_further, walked_more, walked_within}
 use Rattle.sat_checker.proofs.lemmas.announcements.Noting.{leads_hash}
@@ -16,16 +16,16 @@ module _ (c : After-walk_bucket) where
   abbrev hash : ℕ
   hash = get_or c.args.hashes.now c.loop-hash.hash-index 0
 
-  looked : LooksUpTo (length c.args.hashes.now * live_length c.args.clauses.now) c.args.looks.now c.walk_bucket.new.looks
+  looked : LooksUpTo (length c.args.hashes.now * live_literal_count c.args.clauses.now) c.args.looks.now c.walk_bucket.new.looks
   looked = record {
     rise = omega (arith, c.loop-hash.invariant.rise, c.walk_bucket.ensures.looks.rise);
     most = walked_within c.args.looks.now c.loop-hash.looks c.walk_bucket.new.looks c.loop-hash.hash-index (length c.args.hashes.now) hash c.args.clauses.now c.loop-hash.invariant.looks c.walk_bucket.ensures.looks.most c.loop-hash-test.true;
   }
 
-  roomy : HasStoredRoom c.args.assigned.now.room (live c.args.clauses.now) → HasClausesRoom c.loop-hash.assigned.room (bucket_in hash c.args.clauses.now)
-  roomy h = bucket_roomy c.loop-hash.assigned.room hash c.args.clauses.now (stored_further c.args.assigned.now.room c.loop-hash.assigned.room (live c.args.clauses.now) c.loop-hash.invariant.extends.room h)
+  roomy : HasStoredRoom c.args.assigned.now.room (live_clauses c.args.clauses.now) → HasClausesRoom c.loop-hash.assigned.room (bucket_in hash c.args.clauses.now)
+  roomy h = bucket_roomy c.loop-hash.assigned.room hash c.args.clauses.now (stored_further c.args.assigned.now.room c.loop-hash.assigned.room (live_clauses c.args.clauses.now) c.loop-hash.invariant.extends.room h)
 
-  same : HasStoredRoom c.args.assigned.now.room (live c.args.clauses.now) → c.walk_bucket.new.assigned.room ≡ c.args.assigned.now.room
+  same : HasStoredRoom c.args.assigned.now.room (live_clauses c.args.clauses.now) → c.walk_bucket.new.assigned.room ≡ c.args.assigned.now.room
   same h = c.walk_bucket.ensures.same (roomy h) ∙ c.loop-hash.invariant.same h
 
   extends : AssumesMore c.args.assigned.now c.walk_bucket.new.assigned
@@ -51,7 +51,7 @@ loop-hash-preserved c =
       looks = walked_more c.args.looks.now c.loop-hash.looks c.walk_bucket.new.looks c.loop-hash.hash-index (get_or c.args.hashes.now c.loop-hash.hash-index 0) c.args.clauses.now
           c.loop-hash.invariant.looks c.walk_bucket.ensures.looks.most;
       leads = leads_hash c.args.clauses.now c.args.passed.now c.loop-hash.passed c.walk_bucket.new.passed c.args.assigned.now.literals c.loop-hash.assigned.literals c.walk_bucket.new.assigned.literals c.args.hashes.now c.loop-hash.hash-index c.loop-hash-test.true
-          (named c.args.hashes.now c.args.clauses.now) c.loop-hash.invariant.leads (rw c.in-Open.is at c.in_ok-walk_bucket.ensures.noted);
+          (clauses_by_hashes c.args.hashes.now c.args.clauses.now) c.loop-hash.invariant.leads (rw c.in-Open.is at c.in_ok-walk_bucket.ensures.noted);
       read = omega (arith, c.loop-hash.invariant.read, c.in_ok-walk_bucket.ensures.read);
       rise = omega (arith, c.loop-hash.invariant.rise, c.walk_bucket.ensures.looks.rise);
     }

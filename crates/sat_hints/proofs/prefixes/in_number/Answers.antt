@@ -1,6 +1,6 @@
 use Rattle.std.proofs.Common.{◌≡◌, ◌≢◌, ◌≤◌, ◌⊎◌, ℕ, inl, inr, [], ◌∷◌, Some, subst, sym, arith}
 use Rattle.sat_hints.specs.inner.Prefixes.{limit_of, LeadsToPlace, ReachesPlace}
-use Rattle.sat_base.specs.text.NumberWords.{NoDigit}
+use Rattle.sat_base.specs.text.NumberWords.{NoNumberContinues}
 use Rattle.sat_hints.specs.declared.prefixes.Place.TheVariants.{Digits, Item}
 use Rattle.sat_hints.proofs.lemmas.Prefixes.{number_ends, number_goes, number_stops}
 use Rattle.sat_hints.proofs.lemmas.Reaching.{reaches_end, reaches_more}
@@ -16,7 +16,7 @@ returns-then-number-gt0-clause-leads c = subst (λ b. LeadsToPlace (Digits c.arg
 
 pub returns-in_err-more-clause-leads : goal.returns-in_err-more-clause-leads
 returns-in_err-more-clause-leads c =
-    let none : NoDigit (limit_of c.args.part) c.args.number c.args.byte = subst (λ limit. NoDigit limit c.args.number c.args.byte) c.limit.ensures.is c.in_err-more.ensures in
+    let none : NoNumberContinues (limit_of c.args.part) c.args.number c.args.byte = subst (λ limit. NoNumberContinues limit c.args.number c.args.byte) c.limit.ensures.is c.in_err-more.ensures in
     rw c.from_residual.ensures (number_stops c.args.part c.args.number c.args.byte (omega arith) (at_zero c.args.byte c.args.number c.else-byte-eq32.either) none)
 
 pub returns-clause-leads : goal.returns-clause-leads

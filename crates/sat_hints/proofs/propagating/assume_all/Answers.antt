@@ -2,7 +2,7 @@ use Rattle.std.proofs.lemmas.Grind.{common_steps}
 use Rattle.std.proofs.Common.{◌<◌, ◌∷◌, length, sym, ap, subst, ◌∙◌, arith}
 use Rattle.sat_base.specs.values.Literals.{negated}
 use Rattle.sat_checker.specs.LiteralSets.{is_among}
-use Rattle.sat_checker.specs.inner.AssumedRoom.{LiteralsAndRoom, RoomStays, signed}
+use Rattle.sat_checker.specs.inner.AssumedRoom.{LiteralsAndRoom, RoomIsKept, signed}
 use Rattle.sat_checker.proofs.lemmas.sets.Rooms.{room_stays, stays_further}
 use Rattle.sat_hints.proofs.lemmas.Signs.{lit_at, length-signed, both_met, assumes_same, assumes_more, assumes_all}
 use Rattle.sat_hints.proofs.propagating.assume_all.Goals as goal
@@ -40,7 +40,7 @@ loop-literal-preserved c =
           (ap (is_among c.loop-literal.assumed.literals) (sym (c.not.ensures ∙ ap negated e)) ∙ sym c.is_true.ensures ∙ c.if-is_true.false);
       stays =
           stays_further c.args.assumed.now.room c.loop-literal.assumed.room c.assume.new.self.room c.loop-literal.invariant.stays
-          (subst (RoomStays c.loop-literal.assumed.room) (sym (ap (λ (t : LiteralsAndRoom). t.room) c.in-Ok.ensures.ok)) (room_stays c.bitxor-lit.result c.loop-literal.assumed.room));
+          (subst (RoomIsKept c.loop-literal.assumed.room) (sym (ap (λ (t : LiteralsAndRoom). t.room) c.in-Ok.ensures.ok)) (room_stays c.bitxor-lit.result c.loop-literal.assumed.room));
     }
 
 pub returns-clause-assumes : goal.returns-clause-assumes

@@ -12,7 +12,7 @@ assume_in_room-requires-clause-room c = grind (arith, common_steps, opens_in_roo
 
 pub returns-in-Falsified : goal.returns-in-Falsified
 returns-in-Falsified c =
-    let s = c.args.standing.now in
+    let s = c.args.active.now in
     let i = c.loop-turn.turn in
     let ids = c.args.ids.now in
     let assumed = c.loop-turn.assumed.literals in

@@ -5,12 +5,12 @@ use Rattle.std.proofs.lemmas.List.{take_all, length-take-le}
 use Rattle.std.proofs.lemmas.List.Sums.{sum_by_push}
 use Rattle.std.proofs.lemmas.List.Elements.{filter-append, filter_passes, All-contains, Contains-push_cases}
 use Rattle.std.specs.List.{Contains, sum_by, count_by}
-use Rattle.sat_store.specs.clause.Buffer.{IsClause, HoldsClauses, SameClauseAt, AppendsClause, ChangesAt, header_at, lits_at}
-use Rattle.sat_store.specs.clause.Header.{Header, index_of}
+use Rattle.sat_store.specs.clause.Buffer.{IsClause, HoldsClauses, SameClauseAt, AppendsClause, ChangesClauseAt, header_at, lits_at}
+use Rattle.sat_store.specs.clause.Header.{Header, tier_index}
 use Rattle.sat_store.specs.declared.clause.tier.Tier.{Tier}
 use Rattle.sat_store.specs.declared.clause.tier.Tier.TheVariants.{Irred}
 use Rattle.sat_store.proofs.lemmas.clause.HeldClauses.{same_count, clause_within, kept_below}
-use Rattle.sat_parts.specs.clause.Db.{Db, is_live, live_refs, is_live_in_tier, garbage_of, AreStrictlyIncreasing, DbMatchesBuffer, tier_count_more, tier_count_less, AddsLongClause, PutsHeader, DeletesClause, MovesClause, ShortensClause}
+use Rattle.sat_parts.specs.clause.Db.{Db, is_live, live_refs, is_live_in_tier, garbage_of, AreStrictlyIncreasing, DbMatchesBuffer, tier_count_more, tier_count_less, AddsLongClause, PutsHeader, DeletesClause, MovesClauseToTier, ShortensClause}
 use Rattle.sat_parts.proofs.lemmas.prop.BuildLemmas.{live_in, live_same}
 use Rattle.sat_parts.proofs.lemmas.clause.ListLemmas.{rising_push, sum_same, sum_changed, count_less, counted_some, filter_without, filter_same}
 
@@ -29,7 +29,7 @@ live_is words refs o h = All-contains (λ x. is_live words x ≡ true) (live_ref
 -- replacing a header by one of the same length, as `set_header` does
 -- a header written in place, where no literal is dropped
 pub header_put : (words words' refs : List ℕ) (o : ℕ) (h : Header) → HoldsClauses words refs → Contains refs o →
-    header_at words' o ≡ h → lits_at words' o ≡ lits_at words o → ChangesAt words words' o → PutsHeader words words' refs o h
+    header_at words' o ≡ h → lits_at words' o ≡ lits_at words o → ChangesClauseAt words words' o → PutsHeader words words' refs o h
 header_put words words' refs o h holds_clauses has header lits change = record {
   size = change.size;
   holds_clauses = change.holds_clauses refs has holds_clauses;
@@ -39,24 +39,24 @@ header_put words words' refs o h holds_clauses has header lits change = record {
 }
 
 pub puts_header : (words words' refs : List ℕ) (o : ℕ) (h : Header) → HoldsClauses words refs → Contains refs o → h.len ≡ (header_at words o).len →
-    header_at words' o ≡ h → lits_at words' o ≡ take h.len (lits_at words o) → ChangesAt words words' o → PutsHeader words words' refs o h
+    header_at words' o ≡ h → lits_at words' o ≡ take h.len (lits_at words o) → ChangesClauseAt words words' o → PutsHeader words words' refs o h
 puts_header words words' refs o h holds_clauses has len header lits change =
     header_put words words' refs o h holds_clauses has header
     (lits ∙ take_all h.len (lits_at words o) (omega (arith, same_count words o (holds_clauses.clauses o has)))) change
 
 -- a live clause counts for a tier exactly if its header has this tier
-counted_live : (words : List ℕ) (t : Tier) (o : ℕ) (tier : Tier) → is_live words o ≡ true → (header_at words o).tier ≡ tier → is_live_in_tier words t o ≡ (index_of tier == index_of t)
-counted_live words t o tier live is = ap (λ b. b && (index_of (header_at words o).tier == index_of t)) live ∙ ap (λ x. index_of x == index_of t) is
+counted_live : (words : List ℕ) (t : Tier) (o : ℕ) (tier : Tier) → is_live words o ≡ true → (header_at words o).tier ≡ tier → is_live_in_tier words t o ≡ (tier_index tier == tier_index t)
+counted_live words t o tier live is = ap (λ b. b && (tier_index (header_at words o).tier == tier_index t)) live ∙ ap (λ x. tier_index x == tier_index t) is
 
 counted_dead : (words : List ℕ) (t : Tier) (o : ℕ) → is_live words o ≡ false → is_live_in_tier words t o ≡ false
-counted_dead words t o dead = ap (λ b. b && (index_of (header_at words o).tier == index_of t)) dead
+counted_dead words t o dead = ap (λ b. b && (tier_index (header_at words o).tier == tier_index t)) dead
 
 abbrev one : Bool → ℕ
 one b = cond b 1 0
 
 -- unchanged clauses count as before
 kept_counted : (words words' : List ℕ) (t : Tier) (p : ℕ) → header_at words' p ≡ header_at words p → is_live_in_tier words' t p ≡ is_live_in_tier words t p
-kept_counted words words' t p e = ap (λ (h : Header). not h.deleted && (index_of h.tier == index_of t)) e
+kept_counted words words' t p e = ap (λ (h : Header). not h.deleted && (tier_index h.tier == tier_index t)) e
 
 kept_garbage : (words words' : List ℕ) (p : ℕ) → SameClauseAt words words' p → garbage_of words' p ≡ garbage_of words p
 kept_garbage words words' p k =
@@ -75,26 +75,26 @@ garbage_changed words words' refs o h rising has put =
     sum_changed (garbage_of words) (garbage_of words') refs o rising has (λ p c n. kept_garbage words words' p (put.others p c n))
 
 -- the count of a live clause's tier is not 0
-pub counted_one : (words : List ℕ) (db : Db) (o : ℕ) → DbMatchesBuffer words db → Contains (live_refs words db.refs) o → 0 < get_or db.counts (index_of (header_at words o).tier) 0
-counted_one words db o h c = elim (cases_eq (get_or db.counts (index_of (header_at words o).tier) 0) 0) [
+pub counted_one : (words : List ℕ) (db : Db) (o : ℕ) → DbMatchesBuffer words db → Contains (live_refs words db.refs) o → 0 < get_or db.counts (tier_index (header_at words o).tier) 0
+counted_one words db o h c = elim (cases_eq (get_or db.counts (tier_index (header_at words o).tier) 0) 0) [
   | inl e ↦
       let tier : Tier = (header_at words o).tier in
-      let yes : is_live_in_tier words (header_at words o).tier o ≡ true = counted_live words tier o tier (live_is words db.refs o c) refl ∙ eq-eqb (index_of tier) (index_of tier) refl in
+      let yes : is_live_in_tier words (header_at words o).tier o ≡ true = counted_live words tier o tier (live_is words db.refs o c) refl ∙ eq-eqb (tier_index tier) (tier_index tier) refl in
       let some : 0 < count_by (is_live_in_tier words (header_at words o).tier) db.refs = counted_some (is_live_in_tier words (header_at words o).tier) db.refs o (live_in words db.refs o c) yes in
       absurd (omega (arith, h.counts (header_at words o).tier))
   | inr n ↦ omega arith
 ]
 
-index_small : (t : Tier) → index_of t < 4
+index_small : (t : Tier) → tier_index t < 4
 index_small Irred = omega arith
 index_small e = omega arith
 
 -- reading the counts after one of them was set
-set_there : (counts : List ℕ) (a b : Tier) (x : ℕ) → length counts ≡ 4 → index_of a ≡ index_of b → get_or (set counts (index_of a) x) (index_of b) 0 ≡ x
-set_there counts a b x n e = ap (λ k. get_or (set counts (index_of a) x) k 0) (sym e) ∙ get_or-set_same counts (index_of a) x 0 (omega (arith, index_small a))
+set_there : (counts : List ℕ) (a b : Tier) (x : ℕ) → length counts ≡ 4 → tier_index a ≡ tier_index b → get_or (set counts (tier_index a) x) (tier_index b) 0 ≡ x
+set_there counts a b x n e = ap (λ k. get_or (set counts (tier_index a) x) k 0) (sym e) ∙ get_or-set_same counts (tier_index a) x 0 (omega (arith, index_small a))
 
-set_elsewhere : (counts : List ℕ) (a b : Tier) (x : ℕ) → index_of a ≢ index_of b → get_or (set counts (index_of a) x) (index_of b) 0 ≡ get_or counts (index_of b) 0
-set_elsewhere counts a b x n = get_or-set_other counts (index_of a) (index_of b) x 0 (λ e. n (sym e))
+set_elsewhere : (counts : List ℕ) (a b : Tier) (x : ℕ) → tier_index a ≢ tier_index b → get_or (set counts (tier_index a) x) (tier_index b) 0 ≡ get_or counts (tier_index b) 0
+set_elsewhere counts a b x n = get_or-set_other counts (tier_index a) (tier_index b) x 0 (λ e. n (sym e))
 
 held_more : (sum x limit : ℕ) → min (min sum limit + x) limit ≡ min (sum + x) limit
 held_more sum x limit = grind arith
@@ -126,19 +126,19 @@ deletes words db words' o h c put =
       holds = record {
         holds_clauses = put.holds_clauses;
         rising = h.rising;
-        tiers = length-set db.counts (index_of tier) (get_or db.counts (index_of tier) 0 - 1) ∙ h.tiers;
+        tiers = length-set db.counts (tier_index tier) (get_or db.counts (tier_index tier) 0 - 1) ∙ h.tiers;
         counts = λ t.
             let q : count_by (is_live_in_tier words' t) db.refs + one (is_live_in_tier words t o) ≡ count_by (is_live_in_tier words t) db.refs + one (is_live_in_tier words' t o) =
             counts_changed words words' db.refs o (record (header_at words o) { deleted = true }) t h.rising has put in
             let gone : one (is_live_in_tier words' t o) ≡ 0 = ap (λ b. one b) (counted_dead words' t o dead) in
-            elim (cases_eq (index_of tier) (index_of t)) [
+            elim (cases_eq (tier_index tier) (tier_index t)) [
               | inl e ↦
-                  let yes : one (is_live_in_tier words t o) ≡ 1 = ap (λ b. one b) (counted_live words t o tier live refl ∙ eq-eqb (index_of tier) (index_of t) e) in
-                  let same : get_or db.counts (index_of tier) 0 ≡ get_or db.counts (index_of t) 0 = ap (λ k. get_or db.counts k 0) e in
-                  omega (arith, set_there db.counts tier t (get_or db.counts (index_of tier) 0 - 1) h.tiers e, h.counts t, q, gone, yes, same)
+                  let yes : one (is_live_in_tier words t o) ≡ 1 = ap (λ b. one b) (counted_live words t o tier live refl ∙ eq-eqb (tier_index tier) (tier_index t) e) in
+                  let same : get_or db.counts (tier_index tier) 0 ≡ get_or db.counts (tier_index t) 0 = ap (λ k. get_or db.counts k 0) e in
+                  omega (arith, set_there db.counts tier t (get_or db.counts (tier_index tier) 0 - 1) h.tiers e, h.counts t, q, gone, yes, same)
               | inr n ↦
-                  let no : one (is_live_in_tier words t o) ≡ 0 = ap (λ b. one b) (counted_live words t o tier live refl ∙ ne_eqb (index_of tier) (index_of t) n) in
-                  omega (arith, set_elsewhere db.counts tier t (get_or db.counts (index_of tier) 0 - 1) n, h.counts t, q, gone, no)
+                  let no : one (is_live_in_tier words t o) ≡ 0 = ap (λ b. one b) (counted_live words t o tier live refl ∙ ne_eqb (tier_index tier) (tier_index t) n) in
+                  omega (arith, set_elsewhere db.counts tier t (get_or db.counts (tier_index tier) 0 - 1) n, h.counts t, q, gone, no)
             ];
         garbage =
             let q : sum_by (garbage_of words') db.refs + garbage_of words o ≡ sum_by (garbage_of words) db.refs + garbage_of words' o =
@@ -180,46 +180,46 @@ garbage_put words words' refs o h rising has live live' put =
     omega arith
 
 -- moving a live clause to another tier preserves the invariant of the list of clauses
-pub moves : (words : List ℕ) (db : Db) (words' : List ℕ) (o : ℕ) (tier : Tier) → DbMatchesBuffer words db → Contains (live_refs words db.refs) o → index_of (header_at words o).tier ≢ index_of tier →
-    PutsHeader words words' db.refs o (record (header_at words o) { tier = tier }) → MovesClause words db words' (after_move words o tier db) o tier
+pub moves : (words : List ℕ) (db : Db) (words' : List ℕ) (o : ℕ) (tier : Tier) → DbMatchesBuffer words db → Contains (live_refs words db.refs) o → tier_index (header_at words o).tier ≢ tier_index tier →
+    PutsHeader words words' db.refs o (record (header_at words o) { tier = tier }) → MovesClauseToTier words db words' (after_move words o tier db) o tier
 moves words db words' o tier h c differ put =
     let old : Tier = (header_at words o).tier in
     let has : Contains db.refs o = live_in words db.refs o c in
     let live : is_live words o ≡ true = live_is words db.refs o c in
     let live' : is_live words' o ≡ true = ap (λ (x : Header). not x.deleted) put.header_there ∙ live in
     let less : List ℕ = tier_count_less old db.counts in
-    let size : length (tier_count_less old db.counts) ≡ 4 = length-set db.counts (index_of old) (get_or db.counts (index_of old) 0 - 1) ∙ h.tiers in
+    let size : length (tier_count_less old db.counts) ≡ 4 = length-set db.counts (tier_index old) (get_or db.counts (tier_index old) 0 - 1) ∙ h.tiers in
     record {
       put = put;
       holds = record {
         holds_clauses = put.holds_clauses;
         rising = h.rising;
-        tiers = length-set less (index_of tier) (get_or less (index_of tier) 0 + 1) ∙ size;
+        tiers = length-set less (tier_index tier) (get_or less (tier_index tier) 0 + 1) ∙ size;
         counts = λ t.
             let q : count_by (is_live_in_tier words' t) db.refs + one (is_live_in_tier words t o) ≡ count_by (is_live_in_tier words t) db.refs + one (is_live_in_tier words' t o) =
             counts_changed words words' db.refs o (record (header_at words o) { tier = tier }) t h.rising has put in
-            let was : is_live_in_tier words t o ≡ (index_of old == index_of t) = counted_live words t o old live refl in
-            let is : is_live_in_tier words' t o ≡ (index_of tier == index_of t) = counted_live words' t o tier live' (ap (λ (x : Header). x.tier) put.header_there) in
-            elim (cases_eq (index_of tier) (index_of t)) [
+            let was : is_live_in_tier words t o ≡ (tier_index old == tier_index t) = counted_live words t o old live refl in
+            let is : is_live_in_tier words' t o ≡ (tier_index tier == tier_index t) = counted_live words' t o tier live' (ap (λ (x : Header). x.tier) put.header_there) in
+            elim (cases_eq (tier_index tier) (tier_index t)) [
               | inl e ↦
-                  let n : index_of old ≢ index_of t = λ f. differ (f ∙ sym e) in
-                  let no : one (is_live_in_tier words t o) ≡ 0 = ap (λ b. one b) (was ∙ ne_eqb (index_of old) (index_of t) n) in
-                  let yes : one (is_live_in_tier words' t o) ≡ 1 = ap (λ b. one b) (is ∙ eq-eqb (index_of tier) (index_of t) e) in
-                  let same : get_or less (index_of tier) 0 ≡ get_or less (index_of t) 0 = ap (λ k. get_or less k 0) e in
-                  let kept : get_or less (index_of t) 0 ≡ get_or db.counts (index_of t) 0 = set_elsewhere db.counts old t (get_or db.counts (index_of old) 0 - 1) n in
-                  omega (arith, set_there less tier t (get_or less (index_of tier) 0 + 1) size e, h.counts t, q, no, yes, same, kept)
+                  let n : tier_index old ≢ tier_index t = λ f. differ (f ∙ sym e) in
+                  let no : one (is_live_in_tier words t o) ≡ 0 = ap (λ b. one b) (was ∙ ne_eqb (tier_index old) (tier_index t) n) in
+                  let yes : one (is_live_in_tier words' t o) ≡ 1 = ap (λ b. one b) (is ∙ eq-eqb (tier_index tier) (tier_index t) e) in
+                  let same : get_or less (tier_index tier) 0 ≡ get_or less (tier_index t) 0 = ap (λ k. get_or less k 0) e in
+                  let kept : get_or less (tier_index t) 0 ≡ get_or db.counts (tier_index t) 0 = set_elsewhere db.counts old t (get_or db.counts (tier_index old) 0 - 1) n in
+                  omega (arith, set_there less tier t (get_or less (tier_index tier) 0 + 1) size e, h.counts t, q, no, yes, same, kept)
               | inr m ↦
-                  let none : one (is_live_in_tier words' t o) ≡ 0 = ap (λ b. one b) (is ∙ ne_eqb (index_of tier) (index_of t) m) in
-                  let there : get_or (set less (index_of tier) (get_or less (index_of tier) 0 + 1)) (index_of t) 0 ≡ get_or less (index_of t) 0 = set_elsewhere less tier t (get_or less (index_of tier) 0 + 1) m in
-                  elim (cases_eq (index_of old) (index_of t)) [
+                  let none : one (is_live_in_tier words' t o) ≡ 0 = ap (λ b. one b) (is ∙ ne_eqb (tier_index tier) (tier_index t) m) in
+                  let there : get_or (set less (tier_index tier) (get_or less (tier_index tier) 0 + 1)) (tier_index t) 0 ≡ get_or less (tier_index t) 0 = set_elsewhere less tier t (get_or less (tier_index tier) 0 + 1) m in
+                  elim (cases_eq (tier_index old) (tier_index t)) [
                     | inl e ↦
-                        let yes : one (is_live_in_tier words t o) ≡ 1 = ap (λ b. one b) (was ∙ eq-eqb (index_of old) (index_of t) e) in
-                        let same : get_or db.counts (index_of old) 0 ≡ get_or db.counts (index_of t) 0 = ap (λ k. get_or db.counts k 0) e in
-                        let taken : get_or less (index_of t) 0 ≡ get_or db.counts (index_of old) 0 - 1 = set_there db.counts old t (get_or db.counts (index_of old) 0 - 1) h.tiers e in
+                        let yes : one (is_live_in_tier words t o) ≡ 1 = ap (λ b. one b) (was ∙ eq-eqb (tier_index old) (tier_index t) e) in
+                        let same : get_or db.counts (tier_index old) 0 ≡ get_or db.counts (tier_index t) 0 = ap (λ k. get_or db.counts k 0) e in
+                        let taken : get_or less (tier_index t) 0 ≡ get_or db.counts (tier_index old) 0 - 1 = set_there db.counts old t (get_or db.counts (tier_index old) 0 - 1) h.tiers e in
                         omega (arith, there, taken, h.counts t, q, yes, none, same)
                     | inr n ↦
-                        let no : one (is_live_in_tier words t o) ≡ 0 = ap (λ b. one b) (was ∙ ne_eqb (index_of old) (index_of t) n) in
-                        let kept : get_or less (index_of t) 0 ≡ get_or db.counts (index_of t) 0 = set_elsewhere db.counts old t (get_or db.counts (index_of old) 0 - 1) n in
+                        let no : one (is_live_in_tier words t o) ≡ 0 = ap (λ b. one b) (was ∙ ne_eqb (tier_index old) (tier_index t) n) in
+                        let kept : get_or less (tier_index t) 0 ≡ get_or db.counts (tier_index t) 0 = set_elsewhere db.counts old t (get_or db.counts (tier_index old) 0 - 1) n in
                         omega (arith, there, kept, h.counts t, q, no, none)
                   ]
             ];
@@ -251,20 +251,20 @@ adds words db words' o header lits h new three few added =
       holds = record {
         holds_clauses = added.holds_clauses db.refs h.holds_clauses;
         rising = rising_push db.refs o h.rising (λ p c. omega (arith, clause_within words p (h.holds_clauses.clauses p c), added.place));
-        tiers = length-set db.counts (index_of tier) (get_or db.counts (index_of tier) 0 + 1) ∙ h.tiers;
+        tiers = length-set db.counts (tier_index tier) (get_or db.counts (tier_index tier) 0 + 1) ∙ h.tiers;
         counts = λ t.
             let q : count_by (is_live_in_tier words' t) (db.refs ++ o ∷ []) ≡ count_by (is_live_in_tier words' t) db.refs + one (is_live_in_tier words' t o) = sum_by_push (λ p. one (is_live_in_tier words' t p)) db.refs o in
             let same : count_by (is_live_in_tier words' t) db.refs ≡ count_by (is_live_in_tier words t) db.refs =
             sum_same (λ p. one (is_live_in_tier words t p)) (λ p. one (is_live_in_tier words' t p)) db.refs (λ p c. ap (λ b. one b) (kept_counted words words' t p (keeps p c).header)) in
-            let is : is_live_in_tier words' t o ≡ (index_of tier == index_of t) = counted_live words' t o tier live (ap (λ (x : Header). x.tier) added.header_there) in
-            elim (cases_eq (index_of tier) (index_of t)) [
+            let is : is_live_in_tier words' t o ≡ (tier_index tier == tier_index t) = counted_live words' t o tier live (ap (λ (x : Header). x.tier) added.header_there) in
+            elim (cases_eq (tier_index tier) (tier_index t)) [
               | inl e ↦
-                  let yes : one (is_live_in_tier words' t o) ≡ 1 = ap (λ b. one b) (is ∙ eq-eqb (index_of tier) (index_of t) e) in
-                  let there : get_or db.counts (index_of tier) 0 ≡ get_or db.counts (index_of t) 0 = ap (λ k. get_or db.counts k 0) e in
-                  omega (arith, set_there db.counts tier t (get_or db.counts (index_of tier) 0 + 1) h.tiers e, h.counts t, q, same, yes, there)
+                  let yes : one (is_live_in_tier words' t o) ≡ 1 = ap (λ b. one b) (is ∙ eq-eqb (tier_index tier) (tier_index t) e) in
+                  let there : get_or db.counts (tier_index tier) 0 ≡ get_or db.counts (tier_index t) 0 = ap (λ k. get_or db.counts k 0) e in
+                  omega (arith, set_there db.counts tier t (get_or db.counts (tier_index tier) 0 + 1) h.tiers e, h.counts t, q, same, yes, there)
               | inr n ↦
-                  let no : one (is_live_in_tier words' t o) ≡ 0 = ap (λ b. one b) (is ∙ ne_eqb (index_of tier) (index_of t) n) in
-                  omega (arith, set_elsewhere db.counts tier t (get_or db.counts (index_of tier) 0 + 1) n, h.counts t, q, same, no)
+                  let no : one (is_live_in_tier words' t o) ≡ 0 = ap (λ b. one b) (is ∙ ne_eqb (tier_index tier) (tier_index t) n) in
+                  omega (arith, set_elsewhere db.counts tier t (get_or db.counts (tier_index tier) 0 + 1) n, h.counts t, q, same, no)
             ];
         garbage =
             let none : garbage_of words' o ≡ 0 = cond-true (is_live words' o) 0 (length (lits_at words' o) + 3) live in
@@ -288,13 +288,13 @@ pub live_clause : (words : List ℕ) (db : Db) (o : ℕ) → DbMatchesBuffer wor
 live_clause words db o h c = h.holds_clauses.clauses o (live_in words db.refs o c)
 
 -- the count of a tier that the clause is not in can grow by one
-pub room_in_tier : (words : List ℕ) (db : Db) (o : ℕ) (tier : Tier) → DbMatchesBuffer words db → Contains (live_refs words db.refs) o → index_of (header_at words o).tier ≢ index_of tier →
-    get_or (tier_count_less (header_at words o).tier db.counts) (index_of tier) 0 + 1 < 2 ^ 64
+pub room_in_tier : (words : List ℕ) (db : Db) (o : ℕ) (tier : Tier) → DbMatchesBuffer words db → Contains (live_refs words db.refs) o → tier_index (header_at words o).tier ≢ tier_index tier →
+    get_or (tier_count_less (header_at words o).tier db.counts) (tier_index tier) 0 + 1 < 2 ^ 64
 room_in_tier words db o tier h c differ =
     let old : Tier = (header_at words o).tier in
-    let no : is_live_in_tier words tier o ≡ false = counted_live words tier o old (live_is words db.refs o c) refl ∙ ne_eqb (index_of old) (index_of tier) differ in
+    let no : is_live_in_tier words tier o ≡ false = counted_live words tier o old (live_is words db.refs o c) refl ∙ ne_eqb (tier_index old) (tier_index tier) differ in
     let less : count_by (is_live_in_tier words tier) db.refs < length db.refs = count_less (is_live_in_tier words tier) db.refs o (live_in words db.refs o c) no in
-    omega (arith, set_elsewhere db.counts old tier (get_or db.counts (index_of old) 0 - 1) differ, h.counts tier, less, h.few)
+    omega (arith, set_elsewhere db.counts old tier (get_or db.counts (tier_index old) 0 - 1) differ, h.counts tier, less, h.few)
 
 -- deletion, with the length from the header
 pub deleted_by : (words : List ℕ) (db : Db) (words' : List ℕ) (o : ℕ) → DbMatchesBuffer words db → Contains (live_refs words db.refs) o →
@@ -320,7 +320,7 @@ added_by words db db' inside words' items tier o header lits same is items_is ti
 
 -- shortening the clause at o, as `set_header` does it
 pub shortens : (words : List ℕ) (db : Db) (words' : List ℕ) (o len : ℕ) → DbMatchesBuffer words db → Contains (live_refs words db.refs) o → 3 ≤ len → len ≤ length (lits_at words o) →
-    header_at words' o ≡ record (header_at words o) { len = len } → lits_at words' o ≡ take len (lits_at words o) → ChangesAt words words' o → ShortensClause words db words' o len
+    header_at words' o ≡ record (header_at words o) { len = len } → lits_at words' o ≡ take len (lits_at words o) → ChangesClauseAt words words' o → ShortensClause words db words' o len
 shortens words db words' o len h c long fits header lits change =
     let has : Contains db.refs o = live_in words db.refs o c in
     let live : is_live words o ≡ true = live_is words db.refs o c in
@@ -346,7 +346,7 @@ shortens words db words' o len h c long fits header lits change =
         counts = λ t.
             h.counts t
             ∙ sym (sum_same (λ p. one (is_live_in_tier words t p)) (λ p. one (is_live_in_tier words' t p)) db.refs
-            (λ p d. ap (λ b. one (b && (index_of (header_at words' p).tier == index_of t))) (flags p d).0 ∙ ap (λ x. one (is_live words p && (index_of x == index_of t))) (flags p d).1));
+            (λ p d. ap (λ b. one (b && (tier_index (header_at words' p).tier == tier_index t))) (flags p d).0 ∙ ap (λ x. one (is_live words p && (tier_index x == tier_index t))) (flags p d).1));
         garbage = h.garbage
             ∙ ap (λ x. min x (2 ^ 64 - 1)) (sym (sum_same (garbage_of words) (garbage_of words') db.refs (λ p d. elim (cases_eq p o) [
               | inl e ↦

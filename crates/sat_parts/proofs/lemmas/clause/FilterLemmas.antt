@@ -26,7 +26,7 @@ pub filtering_none : {F : Type 0} (R : F → ℕ → Bool → F → Type 0) (f :
 filtering_none R f words refs holds_clauses = record {
   answers = [];
   size = refl;
-  asked = refl;
+  returned_in_turn = refl;
   live = refl;
   front = λ k a b e. absurd (omega arith);
   rest = λ k a b. keeps_itself words refs (get_or refs k 0) holds_clauses (place_in refs k b);
@@ -41,7 +41,7 @@ filtering_skip R f f' old new refs at h lt dead =
     record {
       answers = h.answers;
       size = h.size ∙ ap (λ (xs : List ℕ). length xs) (sym before);
-      asked = subst (λ (xs : List ℕ). ReturnsInTurn R f h.answers xs f') (sym before) h.asked;
+      returned_in_turn = subst (λ (xs : List ℕ). ReturnsInTurn R f h.answers xs f') (sym before) h.returned_in_turn;
       live = live_skip new refs at lt dead ∙ h.live ∙ ap (λ (xs : List ℕ). items_where_true h.answers xs) (sym before);
       front = λ k a b e. elim (cases_eq k at) [
         | inl q ↦ h.rest k (omega arith) b
@@ -93,16 +93,16 @@ filtering_alive R f f' old new refs at o h lt e alive = live_place old refs at o
 -- the test returns true, and the clause stays
 pub filtering_keep : {F : Type 0} (R : F → ℕ → Bool → F → Type 0) (f f' f'' : F) (old new refs : List ℕ) (at p : ℕ) → FilterInvariant R f old new refs at f' → at < length refs →
     p ≡ get_or refs at 0 → is_live new p ≡ true → R f' p true f'' → FilterInvariant R f old new refs (at + 1) f''
-filtering_keep R f f' f'' old new refs at p h lt is live asked =
+filtering_keep R f f' f'' old new refs at p h lt is live returned_in_turn =
     let o : ℕ = get_or refs at 0 in
     let alive : is_live new (get_or refs at 0) ≡ true = subst (λ z. is_live new z ≡ true) is live in
-    let r : R f' (get_or refs at 0) true f'' = subst (λ z. R f' z true f'') is asked in
+    let r : R f' (get_or refs at 0) true f'' = subst (λ z. R f' z true f'') is returned_in_turn in
     let before : live_refs old (take (at + 1) refs) ≡ live_refs old (take at refs) ++ get_or refs at 0 ∷ [] =
     live_next old refs at lt (live_kept old new (get_or refs at 0) (h.rest at (omega arith) lt) ∙ alive) in
     record {
       answers = h.answers ++ true ∷ [];
       size = length_push h.answers true ∙ ap (λ n. n + 1) h.size ∙ sym (length_push (live_refs old (take at refs)) o) ∙ ap (λ (xs : List ℕ). length xs) (sym before);
-      asked = subst (λ (xs : List ℕ). ReturnsInTurn R f (h.answers ++ true ∷ []) xs f'') (sym before) (asked_push R f f' f'' h.answers (live_refs old (take at refs)) o true h.size h.asked r);
+      returned_in_turn = subst (λ (xs : List ℕ). ReturnsInTurn R f (h.answers ++ true ∷ []) xs f'') (sym before) (asked_push R f f' f'' h.answers (live_refs old (take at refs)) o true h.size h.returned_in_turn r);
       live = live_next new refs at lt alive ∙ ap (λ (xs : List ℕ). xs ++ o ∷ []) h.live ∙ sym (picked_true h.answers (live_refs old (take at refs)) o h.size)
           ∙ ap (λ (xs : List ℕ). items_where_true (h.answers ++ true ∷ []) xs) (sym before);
       front = λ k a b e. elim (cases_eq k at) [
@@ -116,10 +116,10 @@ filtering_keep R f f' f'' old new refs at p h lt is live asked =
 pub filtering_drop : {F : Type 0} (R : F → ℕ → Bool → F → Type 0) (f f' f'' : F) (old new new' refs : List ℕ) (at p : ℕ) → AreStrictlyIncreasing refs → FilterInvariant R f old new refs at f' → at < length refs →
     p ≡ get_or refs at 0 → is_live new p ≡ true → R f' p false f'' → PutsHeader new new' refs p (record (header_at new p) { deleted = true }) →
     FilterInvariant R f old new' refs (at + 1) f''
-filtering_drop R f f' f'' old new new' refs at p rising h lt is live asked puts =
+filtering_drop R f f' f'' old new new' refs at p rising h lt is live returned_in_turn puts =
     let o : ℕ = get_or refs at 0 in
     let alive : is_live new (get_or refs at 0) ≡ true = subst (λ z. is_live new z ≡ true) is live in
-    let r : R f' (get_or refs at 0) false f'' = subst (λ z. R f' z false f'') is asked in
+    let r : R f' (get_or refs at 0) false f'' = subst (λ z. R f' z false f'') is returned_in_turn in
     let put : PutsHeader new new' refs (get_or refs at 0) (record (header_at new (get_or refs at 0)) { deleted = true }) =
     subst (λ z. PutsHeader new new' refs z (record (header_at new z) { deleted = true })) is puts in
     let first : List ℕ = live_refs old (take at refs) in
@@ -131,7 +131,7 @@ filtering_drop R f f' f'' old new new' refs at p rising h lt is live asked puts 
     record {
       answers = h.answers ++ false ∷ [];
       size = length_push h.answers false ∙ ap (λ n. n + 1) h.size ∙ sym (length_push (live_refs old (take at refs)) o) ∙ ap (λ (xs : List ℕ). length xs) (sym before);
-      asked = subst (λ (xs : List ℕ). ReturnsInTurn R f (h.answers ++ false ∷ []) xs f'') (sym before) (asked_push R f f' f'' h.answers first o false h.size h.asked r);
+      returned_in_turn = subst (λ (xs : List ℕ). ReturnsInTurn R f (h.answers ++ false ∷ []) xs f'') (sym before) (asked_push R f f' f'' h.answers first o false h.size h.returned_in_turn r);
       live = live_skip new' refs at lt dead ∙ front_same new new' refs at (λ k a b. (other k b (omega arith)).header) ∙ h.live
           ∙ sym (picked_false h.answers first o h.size) ∙ ap (λ (xs : List ℕ). items_where_true (h.answers ++ false ∷ []) xs) (sym before);
       front = λ k a b e. elim (cases_eq k at) [
@@ -148,7 +148,7 @@ pub filtering_all : {F : Type 0} (R : F → ℕ → Bool → F → Type 0) (f f'
     IsFiltered R f (live_refs old refs) (live_refs new refs) × SameClausesAt old new (live_refs new refs)
 filtering_all R f f' old new refs at h e =
     let all : take at refs ≡ refs = take_all at refs (omega arith) in (
-      subst (λ (xs : List ℕ). IsFiltered R f (live_refs old xs) (live_refs new xs)) all (h.answers, f', h.size, h.asked, h.live),
+      subst (λ (xs : List ℕ). IsFiltered R f (live_refs old xs) (live_refs new xs)) all (h.answers, f', h.size, h.returned_in_turn, h.live),
       λ o c.
           let d : Contains refs o = live_in new refs o c in
           let q : get_or refs d.0 0 ≡ o = at_place refs o d in

@@ -7,14 +7,14 @@ use Rattle.std.proofs.lemmas.List.Elements.{filter-append, All-filter, All-conta
 use Rattle.std.specs.List.{Contains, filter, sum_by, count_by}
 use Rattle.sat_base.specs.values.Literals.{variable}
 use Rattle.sat_store.specs.clause.Buffer.{IsClause, HoldsClauses, SameClauseAt, AppendsClause, header_at, lits_at}
-use Rattle.sat_store.specs.clause.Header.{Header, index_of}
+use Rattle.sat_store.specs.clause.Header.{Header, tier_index}
 use Rattle.sat_store.proofs.lemmas.clause.HeldClauses.{same_count, clause_within, ends_before}
 use Rattle.sat_parts.specs.declared.prop.graph.ImplNode.{ImplNode}
 use Rattle.sat_parts.specs.declared.prop.graph.Reason.{Reason}
 use Rattle.sat_parts.specs.declared.prop.graph.Reason.TheVariants.{Unit as NoCause, Binary, Long}
 use Rattle.sat_parts.specs.clause.Db.{Db, is_live, live_refs, is_live_in_tier, garbage_of, AreStrictlyIncreasing, DbMatchesBuffer}
 use Rattle.sat_parts.specs.clause.Stored.{lit_of}
-use Rattle.sat_parts.specs.clause.Collected.{Copies, CopyInvariant, words_of, FollowsClause, FollowsFirst, AreFollowed, AreFirsts, Collects, after_collection}
+use Rattle.sat_parts.specs.clause.Collected.{CopiesClauses, CopyInvariant, clause_word_count, ReasonNamesCopy, ReasonNamesCopyOfFirst, ReasonsNameCopiesOfFirst, ReasonsHaveLitFirst, CollectsGarbage, after_collection}
 use Rattle.sat_parts.specs.prop.Graphs.{node_of, with_node, new_node}
 use Rattle.sat_parts.proofs.lemmas.prop.BuildLemmas.{live_in, live_next, live_skip}
 use Rattle.sat_parts.proofs.lemmas.clause.ListLemmas.{in_head, in_tail, at_place, place_in, rising_push, rising_tail, rising_above}
@@ -56,9 +56,9 @@ sums_along f g (x ∷ xs) (y ∷ ys) n h =
     omega (arith, sum_by-cons g y ys, sum_by-cons f x xs)
 
 -- appending a clause keeps the buffer packed: it has only the words of its clauses
-packed_more : (w r w2 : List ℕ) (c : ℕ) (h : Header) (ls : List ℕ) → HoldsClauses w r → length w ≡ words_of w r → AppendsClause w w2 c h ls → length w2 ≡ words_of w2 (r ++ c ∷ [])
+packed_more : (w r w2 : List ℕ) (c : ℕ) (h : Header) (ls : List ℕ) → HoldsClauses w r → length w ≡ clause_word_count w r → AppendsClause w w2 c h ls → length w2 ≡ clause_word_count w2 (r ++ c ∷ [])
 packed_more w r w2 c h ls holds_clauses packed added =
-    let kept : words_of w2 r ≡ words_of w r =
+    let kept : clause_word_count w2 r ≡ clause_word_count w r =
     sums_along (λ o. length (lits_at w o) + 3) (λ o. length (lits_at w2 o) + 3) r r refl
     (λ k lt. ap (λ (xs : List ℕ). length xs + 3) (added.others (get_or r k 0) (holds_clauses.clauses (get_or r k 0) (place_in r k lt))).lits) in
     let own : length (lits_at w2 c) ≡ length ls = ap (λ (xs : List ℕ). length xs) added.lits_there in
@@ -69,7 +69,7 @@ pub copying_skip : (words refs w r : List ℕ) (i : ℕ) → CopyInvariant words
 copying_skip words refs w r i h lt dead =
     let e : live_refs words (take i refs) ≡ live_refs words (take (i + 1) refs) = sym (live_skip words refs i lt dead) in
     record {
-      copies = subst (λ (xs : List ℕ). Copies words xs w r) e h.copies;
+      copies = subst (λ (xs : List ℕ). CopiesClauses words xs w r) e h.copies;
       holds_clauses = h.holds_clauses;
       rising = h.rising;
       low = subst (λ (xs : List ℕ). (k : ℕ) → k < length r → get_or r k 0 ≤ get_or xs k 0) e h.low;
@@ -77,7 +77,7 @@ copying_skip words refs w r i h lt dead =
       packed = h.packed;
     }
 
-copies_more : (words live w r w2 : List ℕ) (c o : ℕ) → Copies words live w r → HoldsClauses w r → IsClause words o → AppendsClause w w2 c (header_at words o) (lits_at words o) → Copies words (live ++ o ∷ []) w2 (r ++ c ∷ [])
+copies_more : (words live w r w2 : List ℕ) (c o : ℕ) → CopiesClauses words live w r → HoldsClauses w r → IsClause words o → AppendsClause w w2 c (header_at words o) (lits_at words o) → CopiesClauses words (live ++ o ∷ []) w2 (r ++ c ∷ [])
 copies_more words live w r w2 c o h holds_clauses clause added =
     let n : length (live ++ o ∷ []) ≡ length live + 1 = length_push live o in
     let m : length (r ++ c ∷ []) ≡ length r + 1 = length_push r c in
@@ -115,7 +115,7 @@ copying_more words refs w r w2 i c o holds_clauses rising h lt o_is live added =
       | inr d ↦ omega (arith, more_front r c k (omega arith), more_front live_i o k (omega arith), h.low k (omega arith))
     ] in
     record {
-      copies = subst (λ (xs : List ℕ). Copies words xs w2 (r ++ c ∷ [])) e (copies_more words live_i w r w2 c o h.copies h.holds_clauses (holds_clauses.clauses o has) added);
+      copies = subst (λ (xs : List ℕ). CopiesClauses words xs w2 (r ++ c ∷ [])) e (copies_more words live_i w r w2 c o h.copies h.holds_clauses (holds_clauses.clauses o has) added);
       holds_clauses = added.holds_clauses r h.holds_clauses;
       rising = rising_push r c h.rising (λ p q. omega (arith, clause_within w p (h.holds_clauses.clauses p q), added.place));
       low = subst (λ (xs : List ℕ). (k : ℕ) → k < length (r ++ c ∷ []) → get_or (r ++ c ∷ []) k 0 ≤ get_or xs k 0) e low;
@@ -127,10 +127,10 @@ copying_more words refs w r w2 i c o holds_clauses rising h lt o_is live added =
     }
 
 -- after all clauses, exactly the live ones were copied, none to a larger offset
-pub copying_all : (words refs w r : List ℕ) (i : ℕ) → CopyInvariant words refs w r i → i ≡ length refs → Copies words (live_refs words refs) w r × ((k : ℕ) → k < length r → get_or r k 0 ≤ get_or (live_refs words refs) k 0)
+pub copying_all : (words refs w r : List ℕ) (i : ℕ) → CopyInvariant words refs w r i → i ≡ length refs → CopiesClauses words (live_refs words refs) w r × ((k : ℕ) → k < length r → get_or r k 0 ≤ get_or (live_refs words refs) k 0)
 copying_all words refs w r i h e =
     let all : live_refs words (take i refs) ≡ live_refs words refs = ap (λ (xs : List ℕ). live_refs words xs) (take_all i refs (omega arith)) in
-    (subst (λ (xs : List ℕ). Copies words xs w r) all h.copies, subst (λ (xs : List ℕ). (k : ℕ) → k < length r → get_or r k 0 ≤ get_or xs k 0) all h.low)
+    (subst (λ (xs : List ℕ). CopiesClauses words xs w r) all h.copies, subst (λ (xs : List ℕ). (k : ℕ) → k < length r → get_or r k 0 ≤ get_or xs k 0) all h.low)
 
 -- REASONS, after one more clause was replaced by its copy
 
@@ -153,7 +153,7 @@ no_long' ls o e = cc
 
 -- the reason names this clause, and then its copy
 follows_moved : (live refs' : List ℕ) (n : ℕ) (r0 r1 r2 : Reason) → r1 ≡ Long (get_or live n 0) → r2 ≡ Long (get_or refs' n 0) →
-    ((k : ℕ) → k < n → get_or refs' k 0 < get_or live n 0) → FollowsFirst live refs' n r0 r1 → FollowsFirst live refs' (n + 1) r0 r2
+    ((k : ℕ) → k < n → get_or refs' k 0 < get_or live n 0) → ReasonNamesCopyOfFirst live refs' n r0 r1 → ReasonNamesCopyOfFirst live refs' (n + 1) r0 r2
 follows_moved live refs' n NoCause r1 r2 e f low h = absurd (no_long (get_or live n 0) (sym h ∙ e))
 follows_moved live refs' n (Binary ls) r1 r2 e f low h = absurd (no_long' ls (get_or live n 0) (sym h ∙ e))
 follows_moved live refs' n (Long o) r1 r2 e f low h = elim h [
@@ -165,7 +165,7 @@ follows_moved live refs' n (Long o) r1 r2 e f low h = elim h [
 
 -- the reason does not name this clause
 follows_kept : (live refs' : List ℕ) (n : ℕ) (r0 r1 r2 : Reason) → r2 ≡ r1 → ((o : ℕ) → r0 ≡ Long o → r1 ≡ Long o → get_or live n 0 ≢ o) →
-    FollowsFirst live refs' n r0 r1 → FollowsFirst live refs' (n + 1) r0 r2
+    ReasonNamesCopyOfFirst live refs' n r0 r1 → ReasonNamesCopyOfFirst live refs' (n + 1) r0 r2
 follows_kept live refs' n NoCause r1 r2 e other h = e ∙ h
 follows_kept live refs' n (Binary ls) r1 r2 e other h = e ∙ h
 follows_kept live refs' n (Long o) r1 r2 e other h = elim h [
@@ -179,7 +179,7 @@ follows_kept live refs' n (Long o) r1 r2 e other h = elim h [
   )
 ]
 
-follows_all : (live refs' : List ℕ) (n : ℕ) (r0 r : Reason) → n ≡ length live → ((o : ℕ) → r0 ≡ Long o → Contains live o) → FollowsFirst live refs' n r0 r → FollowsClause live refs' r0 r
+follows_all : (live refs' : List ℕ) (n : ℕ) (r0 r : Reason) → n ≡ length live → ((o : ℕ) → r0 ≡ Long o → Contains live o) → ReasonNamesCopyOfFirst live refs' n r0 r → ReasonNamesCopy live refs' r0 r
 follows_all live refs' n NoCause r e there h = h
 follows_all live refs' n (Binary ls) r e there h = h
 follows_all live refs' n (Long o) r e there h = elim h [
@@ -190,10 +190,10 @@ follows_all live refs' n (Long o) r e there h = elim h [
 ]
 
 -- the reason that names the next clause follows it to its copy
-pub followed_more : (words live refs' lits : List ℕ) (n first : ℕ) (nodes one two : List ImplNode) → AreFollowed live refs' lits n nodes one → AreFirsts words live lits nodes →
+pub followed_more : (words live refs' lits : List ℕ) (n first : ℕ) (nodes one two : List ImplNode) → ReasonsNameCopiesOfFirst live refs' lits n nodes one → ReasonsHaveLitFirst words live lits nodes →
     first ≡ lit_of words (get_or live n 0) 0 → ((k : ℕ) → k < n → get_or refs' k 0 < get_or live n 0) →
     ((node_of one (variable first)).reason ≡ Long (get_or live n 0) → two ≡ with_node (variable first) (record (node_of one (variable first)) { reason = Long (get_or refs' n 0) }) one) →
-    (((node_of one (variable first)).reason ≡ Long (get_or live n 0) → ⊥) → two ≡ one) → AreFollowed live refs' lits (n + 1) nodes two
+    (((node_of one (variable first)).reason ≡ Long (get_or live n 0) → ⊥) → two ≡ one) → ReasonsNameCopiesOfFirst live refs' lits (n + 1) nodes two
 followed_more words live refs' lits n first nodes one two h firsts first_is low moved kept =
     let w : ℕ = variable first in
     let o : ℕ = get_or live n 0 in
@@ -300,7 +300,7 @@ count_filtered q r [] = refl
 count_filtered q r (x ∷ xs) = one_counted q r x xs (q x) refl (count_filtered q r xs)
 
 -- every copy is live
-copy_live_is : (words live w r : List ℕ) → Copies words live w r → ((x : ℕ) → Contains live x → is_live words x ≡ true) → (x : ℕ) → Contains r x → is_live w x ≡ true
+copy_live_is : (words live w r : List ℕ) → CopiesClauses words live w r → ((x : ℕ) → Contains live x → is_live words x ≡ true) → (x : ℕ) → Contains r x → is_live w x ≡ true
 copy_live_is words live w r h all x c =
     let lt : c.0 < length live = omega (arith, c.1, h.size) in
     ap (λ z. is_live w z) (sym (at_place r x c)) ∙ ap (λ (y : Header). not y.deleted) (h.headers c.0 lt) ∙ all (get_or live c.0 0) (place_in live c.0 lt)
@@ -308,7 +308,7 @@ copy_live_is words live w r h all x c =
 -- the list of the copies has the invariant of the list of clauses
 pub holds_copies : (words w r : List ℕ) (db : Db) (i : ℕ) → DbMatchesBuffer words db → CopyInvariant words db.refs w r i → i ≡ length db.refs → DbMatchesBuffer w (after_collection r db)
 holds_copies words w r db i h x e =
-    let c : Copies words (live_refs words db.refs) w r = (copying_all words db.refs w r i x e).0 in
+    let c : CopiesClauses words (live_refs words db.refs) w r = (copying_all words db.refs w r i x e).0 in
     let live : (p : ℕ) → Contains r p → is_live w p ≡ true = copy_live_is words (live_refs words db.refs) w r c (λ p d. live_is words db.refs p d) in
     record {
       holds_clauses = x.holds_clauses;
@@ -316,10 +316,10 @@ holds_copies words w r db i h x e =
       tiers = h.tiers;
       counts = λ t.
           let q : count_by (is_live_in_tier words t) (live_refs words db.refs) ≡ count_by (is_live_in_tier words t) db.refs =
-          count_filtered (is_live words) (λ p. index_of (header_at words p).tier == index_of t) db.refs in
+          count_filtered (is_live words) (λ p. tier_index (header_at words p).tier == tier_index t) db.refs in
           let s : count_by (is_live_in_tier w t) r ≡ count_by (is_live_in_tier words t) (live_refs words db.refs) =
           sums_along (λ p. cond (is_live_in_tier words t p) 1 0) (λ p. cond (is_live_in_tier w t p) 1 0) (live_refs words db.refs) r c.size
-          (λ k lt. ap (λ (y : Header). cond (not y.deleted && (index_of y.tier == index_of t)) 1 0) (c.headers k lt)) in
+          (λ k lt. ap (λ (y : Header). cond (not y.deleted && (tier_index y.tier == tier_index t)) 1 0) (c.headers k lt)) in
           h.counts t ∙ sym q ∙ sym s;
       garbage = ap (λ z. min z (2 ^ 64 - 1)) (sym (sum_none (garbage_of w) r (λ p d. cond-true (is_live w p) 0 (length (lits_at w p) + 3) (live p d))));
       few = omega (arith, h.few, c.size, length-filter (is_live words) db.refs, count_by-le-length (is_live words) db.refs);
@@ -332,10 +332,10 @@ holds_copies words w r db i h x e =
 
 -- copied clauses and reasons that follow them are a garbage collection
 pub collected : (words w r lits : List ℕ) (db : Db) (i n : ℕ) (nodes nodes' : List ImplNode) → DbMatchesBuffer words db → CopyInvariant words db.refs w r i → i ≡ length db.refs →
-    AreFirsts words (live_refs words db.refs) lits nodes → AreFollowed (live_refs words db.refs) r lits n nodes nodes' → n ≡ length (live_refs words db.refs) →
-    Collects words db nodes lits w (after_collection r db) nodes'
+    ReasonsHaveLitFirst words (live_refs words db.refs) lits nodes → ReasonsNameCopiesOfFirst (live_refs words db.refs) r lits n nodes nodes' → n ≡ length (live_refs words db.refs) →
+    CollectsGarbage words db nodes lits w (after_collection r db) nodes'
 collected words w r lits db i n nodes nodes' h x e firsts f all =
-    let c : Copies words (live_refs words db.refs) w r = (copying_all words db.refs w r i x e).0 in
+    let c : CopiesClauses words (live_refs words db.refs) w r = (copying_all words db.refs w r i x e).0 in
     record {
       copies = c;
       holds = holds_copies words w r db i h x e;
@@ -372,10 +372,10 @@ rising_filter p (x ∷ xs) h = rising_kept p x xs (p x) refl h (rising_filter p 
 
 -- one iteration of the loop, in the variables of the code
 pub followed_by : (words : List ℕ) (db : Db) (refs' lits : List ℕ) (n first from to : ℕ) (nodes one two : List ImplNode) → DbMatchesBuffer words db → length refs' ≡ length (live_refs words db.refs) →
-    ((k : ℕ) → k < length refs' → get_or refs' k 0 ≤ get_or (live_refs words db.refs) k 0) → AreFollowed (live_refs words db.refs) refs' lits n nodes one →
-    AreFirsts words (live_refs words db.refs) lits nodes → n < length refs' → from ≡ get_or (live_refs words db.refs) n 0 → first ≡ lit_of words from 0 → to ≡ get_or refs' n 0 →
+    ((k : ℕ) → k < length refs' → get_or refs' k 0 ≤ get_or (live_refs words db.refs) k 0) → ReasonsNameCopiesOfFirst (live_refs words db.refs) refs' lits n nodes one →
+    ReasonsHaveLitFirst words (live_refs words db.refs) lits nodes → n < length refs' → from ≡ get_or (live_refs words db.refs) n 0 → first ≡ lit_of words from 0 → to ≡ get_or refs' n 0 →
     ((node_of one (variable first)).reason ≡ Long from → two ≡ with_node (variable first) (record (node_of one (variable first)) { reason = Long to }) one) →
-    (((node_of one (variable first)).reason ≡ Long from → ⊥) → two ≡ one) → AreFollowed (live_refs words db.refs) refs' lits (n + 1) nodes two
+    (((node_of one (variable first)).reason ≡ Long from → ⊥) → two ≡ one) → ReasonsNameCopiesOfFirst (live_refs words db.refs) refs' lits (n + 1) nodes two
 followed_by words db refs' lits n first from to nodes one two h size low f firsts lt from_is first_is to_is moved kept =
     let rising : AreStrictlyIncreasing (live_refs words db.refs) = rising_filter (is_live words) db.refs h.rising in
     followed_more words (live_refs words db.refs) refs' lits n first nodes one two f firsts (first_is ∙ ap (λ z. lit_of words z 0) from_is)

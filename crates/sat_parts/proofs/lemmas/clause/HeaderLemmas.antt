@@ -5,13 +5,13 @@ use Rattle.std.proofs.lemmas.List.{append-nil}
 use Rattle.std.proofs.lemmas.List.Elements.{filter_more}
 use Rattle.std.specs.List.{Contains, filter}
 use Rattle.sat_store.specs.clause.Buffer.{header_at, lits_at}
-use Rattle.sat_store.specs.clause.Header.{Header, index_of}
+use Rattle.sat_store.specs.clause.Header.{Header, tier_index}
 use Rattle.sat_parts.specs.clause.Db.{Db, is_live, live_refs, is_live_in_tier, garbage_of, DbMatchesBuffer, PutsHeader}
-use Rattle.sat_parts.specs.clause.Activity.{PutsHeaders, PutsFirst}
+use Rattle.sat_parts.specs.clause.Activity.{PutsHeaders, PutsFirstHeaders}
 use Rattle.sat_parts.proofs.lemmas.clause.ListLemmas.{at_place, sum_same, filter_same}
 
 -- once the first n clauses are all clauses, all have their new headers
-pub first_all : (words one refs : List ℕ) (f : ℕ → Header) (n : ℕ) → PutsFirst words one refs f n → n ≡ length refs → PutsHeaders words one refs f
+pub first_all : (words one refs : List ℕ) (f : ℕ → Header) (n : ℕ) → PutsFirstHeaders words one refs f n → n ≡ length refs → PutsHeaders words one refs f
 first_all words one refs f n x e = record {
   size = x.size;
   holds_clauses = x.holds_clauses;
@@ -35,7 +35,7 @@ holds_headers words one db f h x dead tier =
       tiers = h.tiers;
       counts = λ t. h.counts t
           ∙ sym (sum_same (λ p. cond (is_live_in_tier words t p) 1 0) (λ p. cond (is_live_in_tier one t p) 1 0) db.refs
-          (λ p c. ap (λ b. cond (b && (index_of (header_at one p).tier == index_of t)) 1 0) (live p c) ∙ ap (λ y. cond (is_live words p && (index_of y == index_of t)) 1 0) (same p c)));
+          (λ p c. ap (λ b. cond (b && (tier_index (header_at one p).tier == tier_index t)) 1 0) (live p c) ∙ ap (λ y. cond (is_live words p && (tier_index y == tier_index t)) 1 0) (same p c)));
       garbage = h.garbage
           ∙ ap (λ s. min s (2 ^ 64 - 1)) (sym (sum_same (garbage_of words) (garbage_of one) db.refs
           (λ p c. ap (λ b. cond b 0 (length (lits_at one p) + 3)) (live p c) ∙ ap (λ (ls : List ℕ). cond (is_live words p) 0 (length ls + 3)) (x.lits p c))));

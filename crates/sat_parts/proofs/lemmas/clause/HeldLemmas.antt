@@ -1,7 +1,7 @@
 -- The invariant of the list of clauses holds if at most the order of literals changed.
 use Rattle.std.proofs.Common.{ℕ, ◌+◌, ◌-◌, ◌^◌, ◌≤◌, min, List, length, sym, ap, ◌∙◌, subst, not, ◌&&◌, ◌==◌, cond}
 use Rattle.sat_store.specs.clause.Buffer.{lits_at}
-use Rattle.sat_store.specs.clause.Header.{Header, index_of}
+use Rattle.sat_store.specs.clause.Header.{Header, tier_index}
 use Rattle.sat_parts.specs.clause.Db.{Db, DbMatchesBuffer, is_live, live_refs, is_live_in_tier, garbage_of}
 use Rattle.sat_parts.specs.clause.Orders.{SameUpToOrder, PermutesClauses}
 use Rattle.sat_parts.proofs.lemmas.clause.ListLemmas.{sum_same}
@@ -13,7 +13,7 @@ held_kept old new db h k = record {
   rising = h.rising;
   tiers = h.tiers;
   counts = λ t. h.counts t ∙ sym (sum_same (λ p. cond (is_live_in_tier old t p) 1 0) (λ p. cond (is_live_in_tier new t p) 1 0) db.refs
-      (λ p c. ap (λ (y : Header). cond (not y.deleted && (index_of y.tier == index_of t)) 1 0) (k.headers p c)));
+      (λ p c. ap (λ (y : Header). cond (not y.deleted && (tier_index y.tier == tier_index t)) 1 0) (k.headers p c)));
   garbage = h.garbage ∙ ap (λ z. min z (2 ^ 64 - 1)) (sym (sum_same (garbage_of old) (garbage_of new) db.refs
       (λ p c. ap (λ (y : Header). cond (not y.deleted) 0 (length (lits_at new p) + 3)) (k.headers p c) ∙ ap (λ n. cond (is_live old p) 0 (n + 3)) (k.lits p c).size)));
   few = h.few;

@@ -4,7 +4,7 @@ use Rattle.std.proofs.lemmas.Bool.{cases_eq, cases_lt, ne_eqb, eq-eqb}
 use Rattle.std.proofs.lemmas.List.{get_or_default, length_push, get_or_append_left, get_or_push}
 use Rattle.std.proofs.lemmas.List.Sums.{sum_by-cons, count_by-le-length}
 use Rattle.std.specs.List.{Contains, filter, sum_by, count_by}
-use Rattle.sat_parts.specs.clause.Db.{AreStrictlyIncreasing, without}
+use Rattle.sat_parts.specs.clause.Db.{AreStrictlyIncreasing, without_ref}
 
 pub in_tail : (x : ℕ) (xs : List ℕ) (p : ℕ) → Contains xs p → Contains (x ∷ xs) p
 in_tail x xs p h = (suc h.0, omega (arith, h.1), h.2)
@@ -106,15 +106,15 @@ counted_some p (x ∷ xs) o c e = elim (cases_eq x o) [
 ]
 
 -- dropping o from a list whose first item may be left out drops it from the rest
-pub one_dropped : (b : Bool) (o x : ℕ) (xs : List ℕ) → cond (b && not (eqb x o)) (x ∷ without o xs) (without o xs) ≡ without o (cond b (x ∷ xs) xs)
+pub one_dropped : (b : Bool) (o x : ℕ) (xs : List ℕ) → cond (b && not (eqb x o)) (x ∷ without_ref o xs) (without_ref o xs) ≡ without_ref o (cond b (x ∷ xs) xs)
 one_dropped true o x xs = refl
 one_dropped false o x xs = refl
 
 -- a filter that drops one more item
-pub filter_without : (p q : ℕ → Bool) (o : ℕ) (xs : List ℕ) → ((x : ℕ) → Contains xs x → q x ≡ (p x && not (eqb x o))) → filter q xs ≡ without o (filter p xs)
+pub filter_without : (p q : ℕ → Bool) (o : ℕ) (xs : List ℕ) → ((x : ℕ) → Contains xs x → q x ≡ (p x && not (eqb x o))) → filter q xs ≡ without_ref o (filter p xs)
 filter_without p q o [] h = refl
 filter_without p q o (x ∷ xs) h =
-    let rest : filter q xs ≡ without o (filter p xs) = filter_without p q o xs (λ z c. h z (in_tail x xs z c)) in
+    let rest : filter q xs ≡ without_ref o (filter p xs) = filter_without p q o xs (λ z c. h z (in_tail x xs z c)) in
     ap (λ b. cond b (x ∷ filter q xs) (filter q xs)) (h x (in_head x xs)) ∙ ap (λ (zs : List ℕ). cond (p x && not (eqb x o)) (x ∷ zs) zs) rest ∙ one_dropped (p x) o x (filter p xs)
 
 -- filters whose tests agree on the list
@@ -125,19 +125,19 @@ filter_same p q (x ∷ xs) h =
     ap (λ b. cond b (x ∷ filter q xs) (filter q xs)) (h x (in_head x xs)) ∙ ap (λ (zs : List ℕ). cond (p x) (x ∷ zs) zs) rest
 
 -- what is in the list without o is in the list, and is not o
-pub in_without : (o p : ℕ) (xs : List ℕ) → Contains (without o xs) p → Contains xs p × (p ≢ o)
+pub in_without : (o p : ℕ) (xs : List ℕ) → Contains (without_ref o xs) p → Contains xs p × (p ≢ o)
 in_without o p [] c = absurd (omega (arith, c.1))
 in_without o p (x ∷ xs) c = elim (cases_eq x o) [
   | inl e ↦
-      let gone : without o (x ∷ xs) ≡ without o xs = ap (λ b. cond (not b) (x ∷ without o xs) (without o xs)) (eq-eqb x o e) in
+      let gone : without_ref o (x ∷ xs) ≡ without_ref o xs = ap (λ b. cond (not b) (x ∷ without_ref o xs) (without_ref o xs)) (eq-eqb x o e) in
       let r : Contains xs p × (p ≢ o) = in_without o p xs (subst (λ (zs : List ℕ). Contains zs p) gone c) in
       (in_tail x xs p r.0, r.1)
   | inr n ↦
-      let stays : without o (x ∷ xs) ≡ x ∷ without o xs = ap (λ b. cond (not b) (x ∷ without o xs) (without o xs)) (ne_eqb x o n) in
+      let stays : without_ref o (x ∷ xs) ≡ x ∷ without_ref o xs = ap (λ b. cond (not b) (x ∷ without_ref o xs) (without_ref o xs)) (ne_eqb x o n) in
       elim (cases_eq x p) [
         | inl q ↦ (subst (λ z. Contains (x ∷ xs) z) q (in_head x xs), λ m. n (q ∙ m))
         | inr m ↦
-            let r : Contains xs p × (p ≢ o) = in_without o p xs (there x (without o xs) p m (subst (λ (zs : List ℕ). Contains zs p) stays c)) in
+            let r : Contains xs p × (p ≢ o) = in_without o p xs (there x (without_ref o xs) p m (subst (λ (zs : List ℕ). Contains zs p) stays c)) in
             (in_tail x xs p r.0, r.1)
       ]
 ]

@@ -6,9 +6,9 @@ use Rattle.std.proofs.lemmas.List.{set-get_or}
 use Rattle.std.proofs.lemmas.List.Edits.{swap_is}
 use Rattle.std.proofs.lemmas.List.Sorted.{IsPermutation-refl, IsPermutation-trans, IsPermutation-swap}
 use Rattle.std.specs.List.{Contains}
-use Rattle.sat_store.specs.clause.Buffer.{IsClause, SameClauseAt, ChangesAt, header_at, lits_at, swapped}
+use Rattle.sat_store.specs.clause.Buffer.{IsClause, SameClauseAt, ChangesClauseAt, header_at, lits_at, swapped}
 use Rattle.sat_parts.specs.clause.Orders.{IsReordering, PermutesClause, SameUpToOrder, PermutesClauses}
-use Rattle.sat_parts.specs.clause.Stored.{AreClauses, lit_of, size_of}
+use Rattle.sat_parts.specs.clause.Stored.{AreLongClauses, lit_of, size_of}
 
 -- the index, before i and j were swapped, of the literal now at k
 abbrev pub other : ℕ → ℕ → ℕ → ℕ
@@ -125,7 +125,7 @@ shuffles_trans a b c o x y = record {
 
 -- `swap_lits` permutes the literals of one clause
 pub shuffles_swap : (a b : List ℕ) (o i j : ℕ) → i < size_of a o → j < size_of a o →
-    header_at b o ≡ header_at a o → lits_at b o ≡ swapped (lits_at a o) i j → ChangesAt a b o → PermutesClause a b o
+    header_at b o ≡ header_at a o → lits_at b o ≡ swapped (lits_at a o) i j → ChangesClauseAt a b o → PermutesClause a b o
 shuffles_swap a b o i j p q e f c = record {
   size = c.size;
   clause = c.clause;
@@ -136,7 +136,7 @@ shuffles_swap a b o i j p q e f c = record {
 }
 
 -- two literals of a clause, written one after the other, so that its literals are only reordered
-pub shuffles_two : (a m b : List ℕ) (o : ℕ) → header_at m o ≡ header_at a o → ChangesAt a m o → header_at b o ≡ header_at m o → ChangesAt m b o →
+pub shuffles_two : (a m b : List ℕ) (o : ℕ) → header_at m o ≡ header_at a o → ChangesClauseAt a m o → header_at b o ≡ header_at m o → ChangesClauseAt m b o →
     IsReordering (lits_at a o) (lits_at b o) → PermutesClause a b o
 shuffles_two a m b o e c f d lits = record {
   size = d.size ∙ c.size;
@@ -152,8 +152,8 @@ shuffles_two a m b o e c f d lits = record {
 
 -- the second literal of a clause is swapped with the one at a later position
 pub shuffles_second : (a m b : List ℕ) (o second found at : ℕ) → 2 ≤ at → at < size_of a o → lit_of a o 1 ≡ second → found ≡ lit_of a o at →
-    header_at m o ≡ header_at a o → lits_at m o ≡ set (lits_at a o) 1 found → ChangesAt a m o →
-    header_at b o ≡ header_at m o → lits_at b o ≡ set (lits_at m o) at second → ChangesAt m b o →
+    header_at m o ≡ header_at a o → lits_at m o ≡ set (lits_at a o) 1 found → ChangesClauseAt a m o →
+    header_at b o ≡ header_at m o → lits_at b o ≡ set (lits_at m o) at second → ChangesClauseAt m b o →
     PermutesClause a b o
 shuffles_second a m b o second found at following within is there e l c f k d =
     let swap : lits_at b o ≡ swapped (lits_at a o) 1 at = k ∙ ap (λ (x : List ℕ). set x at second) l ∙ rw (there, ← is) refl in
@@ -170,8 +170,8 @@ first_two_written ls code other long either = elim either [
 
 -- one of the first two literals is written to the second position, and the other one to the first
 pub shuffles_oriented : (a m b : List ℕ) (o code other : ℕ) → 2 ≤ size_of a o → (lit_of a o 0 ≡ code) ⊎ (lit_of a o 1 ≡ code) → other ≡ lit_of a o 0 + lit_of a o 1 - code →
-    header_at m o ≡ header_at a o → lits_at m o ≡ set (lits_at a o) 0 other → ChangesAt a m o →
-    header_at b o ≡ header_at m o → lits_at b o ≡ set (lits_at m o) 1 code → ChangesAt m b o →
+    header_at m o ≡ header_at a o → lits_at m o ≡ set (lits_at a o) 0 other → ChangesClauseAt a m o →
+    header_at b o ≡ header_at m o → lits_at b o ≡ set (lits_at m o) 1 code → ChangesClauseAt m b o →
     PermutesClause a b o
 shuffles_oriented a m b o code other long one is e l c f k d =
     let new : lits_at b o ≡ set (set (lits_at a o) 0 other) 1 code = k ∙ ap (λ (x : List ℕ). set x 1 code) l in
@@ -216,8 +216,8 @@ reorders_one a b live o g s = record {
   };
 }
 
--- permuting the literals of clauses preserves `AreClauses`
-pub kept_clauses : (a b live : List ℕ) (count : ℕ) → AreClauses a live count → PermutesClauses a b live → AreClauses b live count
+-- permuting the literals of clauses preserves `AreLongClauses`
+pub kept_clauses : (a b live : List ℕ) (count : ℕ) → AreLongClauses a live count → PermutesClauses a b live → AreLongClauses b live count
 kept_clauses a b live count h r =
     let k : SameUpToOrder a b live = r.all live (λ o g. g) h.holds_clauses in
     record {

@@ -13,11 +13,11 @@ use Rattle.sat_parts.proofs.lemmas.parts.LevelLemmas.{model_found, complete_now}
 pub is_modelled : (p : SearchState) → SearchStateInvariant p → IsFullyPropagated p → AllAssigned p → ClausesAreSatisfied p
 is_modelled p h done all = record {
   long = λ o c.
-      model_found p.clauses p.db.refs p.watchlists p.binary.implied (state p) o h.below.asks done c
+      model_found p.clauses p.db.refs p.watchlists p.binary.implied (state p) o h.below.propagation done c
       (λ k b. elim (open_or_true p.assignment.current (variable (lit_of p.clauses o k))) [
-        | inl e ↦ absurd ((all (variable (lit_of p.clauses o k)) (omega (arith, h.below.asks.clauses.below o k c b)) e).long o k c b refl)
+        | inl e ↦ absurd ((all (variable (lit_of p.clauses o k)) (omega (arith, h.below.propagation.clauses.below o k c b)) e).long o k c b refl)
         | inr x ↦ (_, ap (λ v. value_of p.assignment.current v) (sym x.1.0) ∙ x.1.1)
       ]);
   binary = λ l k b holds.
-      ((complete_now p.clauses p.db.refs p.watchlists p.binary.implied (state p) h.below.asks done).binary l k b (holds, level_low (state p) l h.below.asks.agrees holds)).0;
+      ((complete_now p.clauses p.db.refs p.watchlists p.binary.implied (state p) h.below.propagation done).binary l k b (holds, level_low (state p) l h.below.propagation.agrees holds)).0;
 }

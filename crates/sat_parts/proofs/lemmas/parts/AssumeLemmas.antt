@@ -6,21 +6,21 @@ use Rattle.std.specs.List.{Contains}
 use Rattle.sat_base.specs.values.Literals.{variable}
 use Rattle.sat_parts.specs.declared.prop.graph.ImplNode.{ImplNode}
 use Rattle.sat_parts.specs.declared.prop.graph.Reason.TheVariants.{Unit as NoCause}
-use Rattle.sat_parts.specs.prop.Graphs.{node_at}
+use Rattle.sat_parts.specs.prop.Graphs.{enqueued_node}
 use Rattle.sat_parts.specs.prop.Values.{IsTrueLit, IsUnassignedLit}
-use Rattle.sat_parts.specs.prop.Trails.{LevelIs, with_level}
+use Rattle.sat_parts.specs.prop.Trails.{IsAtLevel, with_level}
 use Rattle.sat_parts.specs.prop.State.{PropagationState, node, level, lit_at, StateIsConsistent}
-use Rattle.sat_parts.specs.prop.TrailWord.{IsLevelled, BeginsNoLevel, decided_on}
+use Rattle.sat_parts.specs.prop.TrailWord.{LevelsBeginWithDecisions, BeginsNoLevel, decided_on}
 use Rattle.sat_parts.proofs.lemmas.prop.StateLemmas.{level_low, lit_last, node_new, true_new}
 use Rattle.sat_parts.proofs.lemmas.clause.ListLemmas.{place_in}
-use Rattle.sat_parts.specs.parts.Frame.{KeepsTo}
-use Rattle.sat_parts.specs.parts.Assumed.{variables_of_lits, IsPlaced, AreDecided}
+use Rattle.sat_parts.specs.parts.Frame.{KeepsLevelsTo}
+use Rattle.sat_parts.specs.parts.Assumed.{variables_of_lits, AreConsideredUpTo, DecisionsAreAmong}
 
 -- true assumptions are passed
-pub placed_passed : (ls below : List ℕ) (place next : ℕ) (s : PropagationState) → StateIsConsistent s → IsPlaced ls below place s → place ≤ next → next ≤ length ls →
-    ((k : ℕ) → place ≤ k → k < next → IsTrueLit s.values (get_or ls k 0)) → IsPlaced ls below next s
+pub placed_passed : (ls below : List ℕ) (place next : ℕ) (s : PropagationState) → StateIsConsistent s → AreConsideredUpTo ls below place s → place ≤ next → next ≤ length ls →
+    ((k : ℕ) → place ≤ k → k < next → IsTrueLit s.values (get_or ls k 0)) → AreConsideredUpTo ls below next s
 placed_passed ls below place next s h x le within holds = elim (cases_lt (length below) (length s.trail.starts)) [
-  | inl lt ↦ subst (λ k. IsPlaced ls below k s) (let e : place ≡ next = omega (arith, x.all lt) in e) x
+  | inl lt ↦ subst (λ k. AreConsideredUpTo ls below k s) (let e : place ≡ next = omega (arith, x.all lt) in e) x
   | inr ge ↦ record {
     levels = x.levels;
     within = within;
@@ -36,8 +36,8 @@ placed_passed ls below place next s h x le within holds = elim (cases_lt (length
 ]
 
 -- the places stay right if the levels that assumptions began are kept
-pub placed_kept : (ls below : List ℕ) (place top : ℕ) (s s' : PropagationState) → IsPlaced ls below place s → KeepsTo top s s' → length below ≤ top → length below ≤ length s'.trail.starts →
-    (length below < length s'.trail.starts → place ≡ length ls) → IsPlaced ls below place s'
+pub placed_kept : (ls below : List ℕ) (place top : ℕ) (s s' : PropagationState) → AreConsideredUpTo ls below place s → KeepsLevelsTo top s s' → length below ≤ top → length below ≤ length s'.trail.starts →
+    (length below < length s'.trail.starts → place ≡ length ls) → AreConsideredUpTo ls below place s'
 placed_kept ls below place top s s' x k high deep more = record {
   levels = deep;
   within = x.within;
@@ -49,8 +49,8 @@ placed_kept ls below place top s s' x k high deep more = record {
 }
 
 -- at least one level that an assumption began is undone
-pub placed_cut : (ls below : List ℕ) (place top : ℕ) (s s' : PropagationState) → IsPlaced ls below place s → KeepsTo top s s' → top < length below → length s'.trail.starts ≡ top →
-    IsPlaced ls (take top below) (get_or below top 0) s'
+pub placed_cut : (ls below : List ℕ) (place top : ℕ) (s s' : PropagationState) → AreConsideredUpTo ls below place s → KeepsLevelsTo top s s' → top < length below → length s'.trail.starts ≡ top →
+    AreConsideredUpTo ls (take top below) (get_or below top 0) s'
 placed_cut ls below place top s s' x k lt at =
     let size : length (take top below) ≡ top = length-take-le top below (omega arith) in
     let same : (j : ℕ) → j < top → get_or (take top below) j 0 ≡ get_or below j 0 = λ j b. get_or-take top below j 0 b in
@@ -65,8 +65,8 @@ placed_cut ls below place top s s' x k lt at =
     }
 
 -- a level begins with the next assumption
-pub placed_next : (ls below : List ℕ) (place l : ℕ) (s : PropagationState) → IsPlaced ls below place s → place < length ls → get_or ls place 0 ≡ l → StateIsConsistent s → IsUnassignedLit s.values l → variable l < length s.values →
-    KeepsTo (length s.trail.starts) s (decided_on l s) → IsPlaced ls (below ++ place ∷ []) (place + 1) (decided_on l s)
+pub placed_next : (ls below : List ℕ) (place l : ℕ) (s : PropagationState) → AreConsideredUpTo ls below place s → place < length ls → get_or ls place 0 ≡ l → StateIsConsistent s → IsUnassignedLit s.values l → variable l < length s.values →
+    KeepsLevelsTo (length s.trail.starts) s (decided_on l s) → AreConsideredUpTo ls (below ++ place ∷ []) (place + 1) (decided_on l s)
 placed_next ls below place l s x lt is h free there k =
     let s' : PropagationState = decided_on l s in
     let r : PropagationState = record s { trail = with_level s.trail } in
@@ -75,7 +75,7 @@ placed_next ls below place l s x lt is h free there k =
     let deeper : length (s.trail.starts ++ length s.trail.lits ∷ []) ≡ length s.trail.starts + 1 = length_push s.trail.starts (length s.trail.lits) in
     let old : (j : ℕ) → j < length below → get_or (below ++ place ∷ []) j 0 ≡ get_or below j 0 = λ j b. get_or_append_left below (place ∷ []) 0 j b in
     let new : get_or (below ++ place ∷ []) (length below) 0 ≡ place = get_or_push below place 0 (length below) refl in
-    let node : node (decided_on l s) l ≡ node_at r.trail NoCause = node_new r l NoCause (omega (arith, h.nodes)) in
+    let node : node (decided_on l s) l ≡ enqueued_node r.trail NoCause = node_new r l NoCause (omega (arith, h.nodes)) in
     let itself : level (decided_on l s) l ≡ length s.trail.starts + 1 = ap (λ (n : ImplNode). n.level) node ∙ deeper in
     let low : (i j : ℕ) → IsTrueLit s.values (get_or ls i 0) × (level s (get_or ls i 0) ≤ j) → j ≤ length below → IsTrueLit s'.values (get_or ls i 0) × (level s' (get_or ls i 0) ≤ j) = λ i j p le.
     (let q = k.low (get_or ls i 0) p.0 (omega (arith, p.1)) in (q.0, omega (arith, q.1, p.1))) in
@@ -123,15 +123,15 @@ begins_or_not (x ∷ xs) i = elim (cases_eq x i) [
 ]
 
 -- while an assumption is left, assumptions began all levels
-pub levels_assumed : (ls below : List ℕ) (place : ℕ) (s : PropagationState) → IsPlaced ls below place s → place < length ls → length below ≡ length s.trail.starts
+pub levels_assumed : (ls below : List ℕ) (place : ℕ) (s : PropagationState) → AreConsideredUpTo ls below place s → place < length ls → length below ≡ length s.trail.starts
 levels_assumed ls below place s x lt = elim (cases_lt (length below) (length s.trail.starts)) [ inl less ↦ absurd (omega (arith, x.all less)) | inr ge ↦ omega (arith, x.levels) ]
 
 -- while an assumption is left, every literal above level 0 without a clause as its reason is an assumption
-pub decided_assumed : (ls below : List ℕ) (place : ℕ) (s : PropagationState) → StateIsConsistent s → IsLevelled s → IsPlaced ls below place s → place < length ls → AreDecided ls s
+pub decided_assumed : (ls below : List ℕ) (place : ℕ) (s : PropagationState) → StateIsConsistent s → LevelsBeginWithDecisions s → AreConsideredUpTo ls below place s → place < length ls → DecisionsAreAmong ls s
 decided_assumed ls below place s h levelled x lt i b high unit = elim (begins_or_not s.trail.starts i) [
   | inl y ↦ subst (λ j. Contains ls (lit_at s j)) y.1.1 (x.begun y.0 (elim (cases_lt (length below) (length s.trail.starts)) [ inl less ↦ absurd (omega (arith, x.all less)) | inr ge ↦ omega (arith, y.1.0) ]))
   | inr none ↦
-      let at : LevelIs s.trail.starts i (level s (lit_at s i)) = h.levels i b in
+      let at : IsAtLevel s.trail.starts i (level s (lit_at s i)) = h.levels i b in
       absurd (true≢false (sym unit ∙ levelled.caused i 0 (omega (arith, at.within)) (at.begun 0 high) b none))
 ]
 

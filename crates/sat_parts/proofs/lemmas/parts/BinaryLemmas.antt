@@ -12,19 +12,19 @@ use Rattle.sat_parts.specs.declared.prop.graph.Reason.TheVariants.{Binary, Long}
 use Rattle.sat_parts.specs.clause.Db.{Db, live_refs}
 use Rattle.sat_parts.specs.prop.Binaries.{Binaries, implied_by, with_implied, with_binary}
 use Rattle.sat_parts.specs.prop.Values.{Values, value_of, with_true_lit, IsTrueLit, IsFalseLit}
-use Rattle.sat_parts.specs.prop.Trails.{Trailed, with_lit}
-use Rattle.sat_parts.specs.prop.Graphs.{with_node, node_at}
-use Rattle.sat_parts.specs.prop.WatchLists.{Watching}
+use Rattle.sat_parts.specs.prop.Trails.{TrailState, with_lit}
+use Rattle.sat_parts.specs.prop.Graphs.{with_node, enqueued_node}
+use Rattle.sat_parts.specs.prop.WatchLists.{WatchState}
 use Rattle.sat_parts.specs.prop.State.{PropagationState, level, current_level, lit_at, HasLeftQueue, StateIsConsistent, TrailGrows, enqueued}
-use Rattle.sat_parts.specs.prop.Reasons.{Implies, AreUnitInTurn}
+use Rattle.sat_parts.specs.prop.Reasons.{ReasonImplies, ReasonsAreUnit}
 use Rattle.sat_parts.specs.prop.Ready.{state_of}
-use Rattle.sat_parts.specs.prop.Propagation.{PropagationInvariant, EnqueuePrecondition, IsOwnBinary}
+use Rattle.sat_parts.specs.prop.Propagation.{PropagationInvariant, EnqueuePrecondition, IsBinaryReason}
 use Rattle.sat_parts.proofs.lemmas.prop.StateLemmas.{grows_enqueued, lit_last, negated_variable}
 use Rattle.sat_parts.proofs.lemmas.prop.ReasonLemmas.{false_before_forth}
 use Rattle.sat_parts.proofs.lemmas.prop.RoomLemmas.{room_for}
 use Rattle.sat_parts.proofs.lemmas.prop.StepLemmas.{asks_enqueued}
 use Rattle.sat_parts.proofs.lemmas.prop.WordLemmas.{levels_stay}
-use Rattle.sat_parts.specs.parts.Round.{IsUnused, IsSoundBelow, RoundInvariant}
+use Rattle.sat_parts.specs.parts.Round.{IsInNoClause, PartsInvariantBelow, RoundInvariant}
 use Rattle.sat_parts.specs.parts.Learned.{IsUnitAfterBacktracking}
 use Rattle.sat_parts.proofs.lemmas.parts.ValueLemmas.{not_false}
 use Rattle.sat_parts.proofs.lemmas.parts.TurnLemmas.{turns_by, turns_enqueued, units_enqueued}
@@ -90,9 +90,9 @@ binary_length x a b =
     length-set one (negated b) (implied_by one (negated b) ++ a ∷ []) ∙ length-set x.implied (negated a) (implied_by x.implied (negated a) ++ b ∷ [])
 
 -- a binary clause was added, which may be the reason of the next literal
-pub asks_binary_added : (words refs : List ℕ) (w : Watching) (x : Binaries) (s : PropagationState) (top lit a b : ℕ) (r : Reason) → PropagationInvariant words refs w x.implied s top → a < 2 * length s.values → b < 2 * length s.values →
-    (HasLeftQueue s (negated a) → level s (negated a) < top → (IsTrueLit s.values b × (level s b ≤ level s (negated a))) ⊎ (IsOwnBinary r lit (negated a) b × (current_level s ≤ level s (negated a)))) →
-    (HasLeftQueue s (negated b) → level s (negated b) < top → (IsTrueLit s.values a × (level s a ≤ level s (negated b))) ⊎ (IsOwnBinary r lit (negated b) a × (current_level s ≤ level s (negated b)))) →
+pub asks_binary_added : (words refs : List ℕ) (w : WatchState) (x : Binaries) (s : PropagationState) (top lit a b : ℕ) (r : Reason) → PropagationInvariant words refs w x.implied s top → a < 2 * length s.values → b < 2 * length s.values →
+    (HasLeftQueue s (negated a) → level s (negated a) < top → (IsTrueLit s.values b × (level s b ≤ level s (negated a))) ⊎ (IsBinaryReason r lit (negated a) b × (current_level s ≤ level s (negated a)))) →
+    (HasLeftQueue s (negated b) → level s (negated b) < top → (IsTrueLit s.values a × (level s a ≤ level s (negated b))) ⊎ (IsBinaryReason r lit (negated b) a × (current_level s ≤ level s (negated b)))) →
     EnqueuePrecondition lit r words refs w (with_binary a b x).implied s top
 asks_binary_added words refs w x s top lit a b r h small_a small_b one two =
     let first : negated a < length x.implied = omega (arith, h.ranges.room) in
@@ -112,17 +112,17 @@ asks_binary_added words refs w x s top lit a b r h small_a small_b one two =
       };
       binary = λ l k left d lt.
           binary_all x a b
-          (λ l m. HasLeftQueue s l → level s l < top → (IsTrueLit s.values m × (level s m ≤ level s l)) ⊎ (IsOwnBinary r lit l m × (current_level s ≤ level s l)))
+          (λ l m. HasLeftQueue s l → level s l < top → (IsTrueLit s.values m × (level s m ≤ level s l)) ⊎ (IsBinaryReason r lit l m × (current_level s ≤ level s l)))
           first second (λ l k b f d. inl (h.binary l k f d b)) one two l k lt left d;
     }
 
 pub turns_binary : (words live : List ℕ) (x : Binaries) (s : PropagationState) (a b : ℕ) → negated a < length x.implied → negated b < length x.implied →
-    AreUnitInTurn words live x.implied s 0 → AreUnitInTurn words live (with_binary a b x).implied s 0
+    ReasonsAreUnit words live x.implied s 0 → ReasonsAreUnit words live (with_binary a b x).implied s 0
 turns_binary words live x s a b first second h =
     turns_by words words live live x.implied (with_binary a b x).implied s (λ i o lt e c. (c, refl)) (λ i ls lt e c. binary_kept x a b (negated (get_or ls 0 0)) (lit_at s i) first second c) h
 
 pub unused_binary : (words live : List ℕ) (x : Binaries) (a b v : ℕ) → negated a < length x.implied → negated b < length x.implied → variable a ≢ v → variable b ≢ v →
-    IsUnused words live x.implied v → IsUnused words live (with_binary a b x).implied v
+    IsInNoClause words live x.implied v → IsInNoClause words live (with_binary a b x).implied v
 unused_binary words live x a b v first second not_a not_b u = record {
   long = u.long;
   binary = binary_all x a b (λ l m. (variable l ≢ v) × (variable m ≢ v)) first second u.binary
@@ -133,37 +133,37 @@ no_binary : (ls : List ℕ) (o : ℕ) → Binary ls ≡ Long o → ⊥
 no_binary ls o e = cc
 
 -- a learned binary clause
-pub sound_binary : (words : List ℕ) (db : Db) (w : Watching) (x : Binaries) (a : Values) (g : List ImplNode) (t : Trailed) (q : Queue) (ls : List ℕ) →
+pub sound_binary : (words : List ℕ) (db : Db) (w : WatchState) (x : Binaries) (a : Values) (g : List ImplNode) (t : TrailState) (q : Queue) (ls : List ℕ) →
     RoundInvariant words db w x a g t q → IsUnitAfterBacktracking (state_of a g t) q ls → length ls ≡ 2 →
     RoundInvariant words db w (with_binary (get_or ls 0 0) (get_or ls 1 0) x) (with_true_lit (get_or ls 0 0) a)
-    (with_node (variable (get_or ls 0 0)) (node_at t (Binary (get_or ls 1 0 ∷ []))) g) (with_lit (get_or ls 0 0) t) q
+    (with_node (variable (get_or ls 0 0)) (enqueued_node t (Binary (get_or ls 1 0 ∷ []))) g) (with_lit (get_or ls 0 0) t) q
 sound_binary words db w x a g t q ls h p two =
     let c : ℕ = get_or ls 0 0 in
     let d : ℕ = get_or ls 1 0 in
     let r : Reason = Binary (get_or ls 1 0 ∷ []) in
     let s : PropagationState = state_of a g t in
-    let y : IsSoundBelow words db w x a g t q (length t.starts + 1) = h.below in
-    let agrees : StateIsConsistent (state_of a g t) = y.asks.agrees in
+    let y : PartsInvariantBelow words db w x a g t q (length t.starts + 1) = h.below in
+    let agrees : StateIsConsistent (state_of a g t) = y.propagation.agrees in
     let small_c : get_or ls 0 0 < 2 * length a.current = pending_below s q ls p 0 (omega arith) in
     let small_d : get_or ls 1 0 < 2 * length a.current = pending_below s q ls p 1 (omega arith) in
-    let first : negated (get_or ls 0 0) < length x.implied = omega (arith, y.asks.ranges.room) in
-    let second : negated (get_or ls 1 0) < length x.implied = omega (arith, y.asks.ranges.room) in
+    let first : negated (get_or ls 0 0) < length x.implied = omega (arith, y.propagation.ranges.room) in
+    let second : negated (get_or ls 1 0) < length x.implied = omega (arith, y.propagation.ranges.room) in
     let false_d : IsFalseLit a.current (get_or ls 1 0) = p.rest 1 (omega arith) (omega arith) in
     let new : PropagationState = enqueued (get_or ls 0 0) r s in
     let grown : TrailGrows s new = grows_enqueued s (get_or ls 0 0) r agrees p.open_first p.there (room_for s (get_or ls 0 0) r agrees p.open_first p.there) in
-    let cause : Implies words (live_refs words db.refs) (with_binary (get_or ls 0 0) (get_or ls 1 0) x).implied (enqueued (get_or ls 0 0) (Binary (get_or ls 1 0 ∷ [])) (state_of a g t)) (length t.lits) (Binary (get_or ls 1 0 ∷ [])) = (
+    let cause : ReasonImplies words (live_refs words db.refs) (with_binary (get_or ls 0 0) (get_or ls 1 0) x).implied (enqueued (get_or ls 0 0) (Binary (get_or ls 1 0 ∷ [])) (state_of a g t)) (length t.lits) (Binary (get_or ls 1 0 ∷ [])) = (
       subst (λ m. Contains (implied_by (with_binary c d x).implied (negated d)) m) (sym (lit_last s (get_or ls 0 0) r)) (binary_new x (get_or ls 0 0) (get_or ls 1 0) first second),
       false_before_forth s new (length t.lits) (get_or ls 1 0) grown (false_at_end s (get_or ls 1 0) agrees false_d),
     ) in
     record {
       below = record {
-        held = y.held;
-        asks = asks_enqueued words db.refs w (with_binary c d x).implied s (length t.starts + 1) (get_or ls 0 0) r p.open_first p.there (λ o e. absurd (no_binary (get_or ls 1 0 ∷ []) o e))
-            (asks_binary_added words db.refs w x s (length t.starts + 1) (get_or ls 0 0) (get_or ls 0 0) (get_or ls 1 0) r y.asks small_c small_d
+        db_matches = y.db_matches;
+        propagation = asks_enqueued words db.refs w (with_binary c d x).implied s (length t.starts + 1) (get_or ls 0 0) r p.open_first p.there (λ o e. absurd (no_binary (get_or ls 1 0 ∷ []) o e))
+            (asks_binary_added words db.refs w x s (length t.starts + 1) (get_or ls 0 0) (get_or ls 0 0) (get_or ls 1 0) r y.propagation small_c small_d
             (λ left due. absurd (open_not_left s (get_or ls 0 0) agrees p.open_first left))
             (λ left due. inr ((refl, refl), omega (arith, p.second (omega arith), level_same s (get_or ls 1 0)))));
-        turns = turns_enqueued words (live_refs words db.refs) (with_binary c d x).implied s (get_or ls 0 0) r agrees p.open_first p.there cause
-            (turns_binary words (live_refs words db.refs) x s (get_or ls 0 0) (get_or ls 1 0) first second y.turns);
+        reasons = turns_enqueued words (live_refs words db.refs) (with_binary c d x).implied s (get_or ls 0 0) r agrees p.open_first p.there cause
+            (turns_binary words (live_refs words db.refs) x s (get_or ls 0 0) (get_or ls 1 0) first second y.reasons);
         levelled = levels_stay.caused s (get_or ls 0 0) r agrees p.open_first p.there refl y.levelled;
         queue = y.queue ∙ sym (length-set a.current (variable c) (Some (is_positive c)));
         ready = λ u lt none.

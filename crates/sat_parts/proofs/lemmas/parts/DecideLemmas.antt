@@ -9,18 +9,18 @@ use Rattle.sat_parts.specs.declared.prop.graph.Reason.TheVariants.{Unit as NoCau
 use Rattle.sat_parts.specs.clause.Db.{Db, live_refs}
 use Rattle.sat_parts.specs.prop.Binaries.{Binaries}
 use Rattle.sat_parts.specs.prop.Values.{Values, value_of, with_true_lit, IsUnassignedLit}
-use Rattle.sat_parts.specs.prop.Trails.{Trailed, with_lit, with_level}
-use Rattle.sat_parts.specs.prop.Graphs.{with_node, node_at}
-use Rattle.sat_parts.specs.prop.WatchLists.{Watching}
+use Rattle.sat_parts.specs.prop.Trails.{TrailState, with_lit, with_level}
+use Rattle.sat_parts.specs.prop.Graphs.{with_node, enqueued_node}
+use Rattle.sat_parts.specs.prop.WatchLists.{WatchState}
 use Rattle.sat_parts.specs.prop.State.{PropagationState, StateIsConsistent}
 use Rattle.sat_parts.specs.prop.Ready.{state_of}
 use Rattle.sat_parts.specs.prop.Propagation.{PropagationPrecondition}
-use Rattle.sat_parts.specs.prop.TrailWord.{IsLevelled}
+use Rattle.sat_parts.specs.prop.TrailWord.{LevelsBeginWithDecisions}
 use Rattle.sat_parts.proofs.lemmas.prop.RoomLemmas.{room_for}
 use Rattle.sat_parts.proofs.lemmas.prop.StepLemmas.{raised, agrees_raised, asks_raised, asks_for_reason, asks_enqueued}
 use Rattle.sat_parts.proofs.lemmas.prop.WordLemmas.{levels_stay}
 use Rattle.sat_parts.proofs.lemmas.parts.ValueLemmas.{some_none}
-use Rattle.sat_parts.specs.parts.Round.{AreReady, LevelZeroInvariant, KeepsPicks, IsSoundBelow, RoundInvariant}
+use Rattle.sat_parts.specs.parts.Round.{UnassignedArePickable, LevelZeroInvariant, KeepsPickable, PartsInvariantBelow, RoundInvariant}
 use Rattle.sat_parts.proofs.lemmas.parts.TurnLemmas.{turns_enqueued, turns_raised, units_enqueued}
 
 pub still_open : (values : List (Option Bool)) (l u : ℕ) (b : Bool) → variable l < length values → value_of (set values (variable l) (Some b)) u ≡ None → (u ≢ variable l) × (value_of values u ≡ None)
@@ -29,8 +29,8 @@ still_open values l u b below none = elim (cases_eq u (variable l)) [
   | inr n ↦ (n, sym (get_or-set_other values (variable l) u (Some b) None n) ∙ none)
 ]
 
-pub ready_enqueued : (words live : List ℕ) (implied : List (List ℕ)) (values : List (Option Bool)) (q q' : Queue) (l : ℕ) → variable l < length values → KeepsPicks values q q' (variable l) →
-    AreReady words live implied values q → AreReady words live implied (set values (variable l) (Some (is_positive l))) q'
+pub ready_enqueued : (words live : List ℕ) (implied : List (List ℕ)) (values : List (Option Bool)) (q q' : Queue) (l : ℕ) → variable l < length values → KeepsPickable values q q' (variable l) →
+    UnassignedArePickable words live implied values q → UnassignedArePickable words live implied (set values (variable l) (Some (is_positive l))) q'
 ready_enqueued words live implied values q q' l below keeps h u b none =
     let x : (u ≢ variable l) × (value_of values u ≡ None) = still_open values l u (is_positive l) below none in
     elim (h u (omega (arith, length-set values (variable l) (Some (is_positive l)))) x.1) [ inl p ↦ inl (keeps u x.0 x.1 p) | inr y ↦ inr y ]
@@ -39,12 +39,12 @@ pub no_long : (o : ℕ) → NoCause ≡ Long o → ⊥
 no_long o e = cc
 
 -- level k + 1 begins at position k or later
-ladder : (s : PropagationState) → IsLevelled s → (k : ℕ) → k < length s.trail.starts → k ≤ get_or s.trail.starts k 0
+ladder : (s : PropagationState) → LevelsBeginWithDecisions s → (k : ℕ) → k < length s.trail.starts → k ≤ get_or s.trail.starts k 0
 ladder s x zero b = omega arith
 ladder s x (suc k) b = omega (arith, ladder s x k (omega arith), x.strict k (suc k) (omega arith) b)
 
 -- while a variable is unassigned, there are few enough levels for one more
-pub few_levels : (s : PropagationState) (l : ℕ) → StateIsConsistent s → IsLevelled s → IsUnassignedLit s.values l → variable l < length s.values → length s.trail.starts + 1 < 2 ^ 32
+pub few_levels : (s : PropagationState) (l : ℕ) → StateIsConsistent s → LevelsBeginWithDecisions s → IsUnassignedLit s.values l → variable l < length s.values → length s.trail.starts + 1 < 2 ^ 32
 few_levels s l h x n below =
     let reach : (k : ℕ) → k < length s.trail.starts → k ≤ get_or s.trail.starts k 0 = ladder s x in
     let room : length s.trail.lits < s.trail.room = room_for s l NoCause h n below in
@@ -55,7 +55,7 @@ few_levels s l h x n below =
           omega (arith, reach (length s.trail.starts - 1) (omega arith), x.begun (length s.trail.starts - 1) (omega arith), h.trail.small)
     ]
 
-based_raised : (t : Trailed) (l : ℕ) → LevelZeroInvariant t → t.head ≡ length t.lits → LevelZeroInvariant (with_lit l (with_level t))
+based_raised : (t : TrailState) (l : ℕ) → LevelZeroInvariant t → t.head ≡ length t.lits → LevelZeroInvariant (with_lit l (with_level t))
 based_raised t l h done =
     let more : length (t.starts ++ length t.lits ∷ []) ≡ length t.starts + 1 = length_push t.starts (length t.lits) in
     record {
@@ -69,23 +69,23 @@ based_raised t l h done =
     }
 
 -- an unassigned literal is decided
-pub sound_decided : (words : List ℕ) (db : Db) (w : Watching) (b : Binaries) (a : Values) (g : List ImplNode) (t : Trailed) (q q' : Queue) (l : ℕ) →
-    RoundInvariant words db w b a g t q → t.head ≡ length t.lits → IsUnassignedLit a.current l → variable l < length a.current → KeepsPicks a.current q q' (variable l) → length q'.available ≡ length q.available →
-    RoundInvariant words db w b (with_true_lit l a) (with_node (variable l) (node_at (with_level t) NoCause) g) (with_lit l (with_level t)) q'
+pub sound_decided : (words : List ℕ) (db : Db) (w : WatchState) (b : Binaries) (a : Values) (g : List ImplNode) (t : TrailState) (q q' : Queue) (l : ℕ) →
+    RoundInvariant words db w b a g t q → t.head ≡ length t.lits → IsUnassignedLit a.current l → variable l < length a.current → KeepsPickable a.current q q' (variable l) → length q'.available ≡ length q.available →
+    RoundInvariant words db w b (with_true_lit l a) (with_node (variable l) (enqueued_node (with_level t) NoCause) g) (with_lit l (with_level t)) q'
 sound_decided words db w b a g t q q' l h done n below keeps size =
     let s : PropagationState = state_of a g t in
-    let x : IsSoundBelow words db w b a g t q (length t.starts + 1) = h.below in
-    let few : length t.starts + 1 < 2 ^ 32 = few_levels s l x.asks.agrees x.levelled n below in
+    let x : PartsInvariantBelow words db w b a g t q (length t.starts + 1) = h.below in
+    let few : length t.starts + 1 < 2 ^ 32 = few_levels s l x.propagation.agrees x.levelled n below in
     let r : PropagationState = raised (state_of a g t) in
-    let up : PropagationPrecondition words db.refs w b.implied (raised (state_of a g t)) = asks_raised words db.refs w b.implied s few done x.asks in
-    let agrees : StateIsConsistent (raised (state_of a g t)) = agrees_raised s x.asks.agrees few in
+    let up : PropagationPrecondition words db.refs w b.implied (raised (state_of a g t)) = asks_raised words db.refs w b.implied s few done x.propagation in
+    let agrees : StateIsConsistent (raised (state_of a g t)) = agrees_raised s x.propagation.agrees few in
     let more : length (t.starts ++ length t.lits ∷ []) ≡ length t.starts + 1 = length_push t.starts (length t.lits) in
     record {
       below = record {
-        held = x.held;
-        asks = asks_enqueued words db.refs w b.implied r (length (with_level t).starts + 1) l NoCause n below (λ o e. absurd (no_long o e)) (asks_for_reason words db.refs w b.implied r (length (with_level t).starts + 1) l NoCause up);
-        turns = turns_enqueued words (live_refs words db.refs) b.implied r l NoCause agrees n below tt (turns_raised words (live_refs words db.refs) b.implied s x.turns);
-        levelled = levels_stay.decides s l x.asks.agrees n below x.levelled;
+        db_matches = x.db_matches;
+        propagation = asks_enqueued words db.refs w b.implied r (length (with_level t).starts + 1) l NoCause n below (λ o e. absurd (no_long o e)) (asks_for_reason words db.refs w b.implied r (length (with_level t).starts + 1) l NoCause up);
+        reasons = turns_enqueued words (live_refs words db.refs) b.implied r l NoCause agrees n below tt (turns_raised words (live_refs words db.refs) b.implied s x.reasons);
+        levelled = levels_stay.decides s l x.propagation.agrees n below x.levelled;
         queue = size ∙ x.queue ∙ sym (length-set a.current (variable l) (Some (is_positive l)));
         ready = ready_enqueued words (live_refs words db.refs) b.implied a.current q q' l below keeps x.ready;
       };

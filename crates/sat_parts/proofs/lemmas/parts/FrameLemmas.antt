@@ -6,10 +6,10 @@ use Rattle.sat_base.specs.values.Literals.{variable}
 use Rattle.sat_parts.specs.declared.prop.graph.ImplNode.{ImplNode}
 use Rattle.sat_parts.specs.declared.prop.graph.Reason.{Reason}
 use Rattle.sat_parts.specs.declared.prop.graph.Reason.TheVariants.{Unit as NoCause}
-use Rattle.sat_parts.specs.prop.Graphs.{has_no_clause, node_at}
+use Rattle.sat_parts.specs.prop.Graphs.{has_no_clause, enqueued_node}
 use Rattle.sat_parts.specs.prop.Values.{Values, IsTrueLit, IsUnassignedLit}
-use Rattle.sat_parts.specs.prop.Trails.{Trailed, with_level, cut_to}
-use Rattle.sat_parts.specs.prop.Undone.{undone_to, undone_lits}
+use Rattle.sat_parts.specs.prop.Trails.{TrailState, with_level, without_levels_above}
+use Rattle.sat_parts.specs.prop.Undone.{with_levels_undone, lits_above_level}
 use Rattle.sat_parts.specs.prop.Backtracked.{BacktrackEffect}
 use Rattle.sat_parts.proofs.lemmas.prop.BacktrackLemmas.{keeps_low, undone_length}
 use Rattle.sat_parts.specs.prop.State.{PropagationState, node, level, lit_at, StateIsConsistent, TrailGrows, enqueued}
@@ -23,8 +23,8 @@ use Rattle.sat_parts.proofs.lemmas.prop.StateLemmas.{level_low}
 use Rattle.std.proofs.Common.{get_or-set_same, get_or-set_other, length-set}
 use Rattle.std.proofs.lemmas.List.{get_or_past}
 use Rattle.sat_parts.specs.prop.Graphs.{new_node}
-use Rattle.sat_parts.specs.parts.Units.{removed}
-use Rattle.sat_parts.specs.parts.Frame.{AddsNoUnit, TakesOffUnits}
+use Rattle.sat_parts.specs.parts.Units.{with_removed_units}
+use Rattle.sat_parts.specs.parts.Frame.{AddsNoUnit, ClearsUnits}
 
 -- all new literals are above level 0, or have clauses as their reasons
 pub carries_grown : (s s' : PropagationState) → StateIsConsistent s → TrailGrows s s' →
@@ -52,11 +52,11 @@ carries_grown s s' a g new = record {
 }
 
 -- levels that are undone
-pub carries_undone : (v : ℕ) (a : Values) (g : List ImplNode) (t : Trailed) → StateIsConsistent (state_of a g t) → v < length t.starts → AddsNoUnit (state_of a g t) (state_of (undone_to v t a) g (cut_to v t))
+pub carries_undone : (v : ℕ) (a : Values) (g : List ImplNode) (t : TrailState) → StateIsConsistent (state_of a g t) → v < length t.starts → AddsNoUnit (state_of a g t) (state_of (with_levels_undone v t a) g (without_levels_above v t))
 carries_undone v a g t h lt =
-    let k : BacktrackEffect v (state_of a g t) (state_of (undone_to v t a) g (cut_to v t)) = keeps_low v a g t h lt in
+    let k : BacktrackEffect v (state_of a g t) (state_of (with_levels_undone v t a) g (without_levels_above v t)) = keeps_low v a g t h lt in
     record {
-      size = undone_length (undone_lits v t) a;
+      size = undone_length (lits_above_level v t) a;
       units = λ l u. elim u [
         | inl r ↦ inl (record { holds = k.true_kept l r.holds; depth = r.depth; bottom = r.bottom })
         | inr b ↦ inr (record { place = b.place; within = omega (arith, b.within, k.shorter); there = sym (k.places b.place b.within) ∙ b.there; bottom = b.bottom; none = b.none })
@@ -71,7 +71,7 @@ carries_enqueued s l r a free below why =
     carries_grown s (enqueued l r s) a (grows_enqueued s l r a free below (room_for s l r a free below)) (λ i ge lt z u.
     let last : i ≡ length s.trail.lits = omega arith in
     let at : lit_at (enqueued l r s) i ≡ l = ap (λ k. lit_at (enqueued l r s) k) last ∙ lit_last s l r in
-    let its : node (enqueued l r s) (lit_at (enqueued l r s) i) ≡ node_at s.trail r = ap (λ m. node (enqueued l r s) m) at ∙ node_new s l r (omega (arith, a.nodes)) in
+    let its : node (enqueued l r s) (lit_at (enqueued l r s) i) ≡ enqueued_node s.trail r = ap (λ m. node (enqueued l r s) m) at ∙ node_new s l r (omega (arith, a.nodes)) in
     elim why [
       | inl n ↦ true≢false (sym u ∙ ap (λ (x : ImplNode). has_no_clause x.reason) its ∙ n)
       | inr some ↦ (let e : length s.trail.starts ≡ 0 = sym (ap (λ (x : ImplNode). x.level) its) ∙ z in omega arith)
@@ -115,12 +115,12 @@ marked_level g u v z = elim (cases_eq v u) [
   ]
 ]
 
-removed_level : (ls : List ℕ) (g : List ImplNode) (v : ℕ) → (node_of g v).level ≡ 0 → (node_of (removed ls g) v).level ≡ 0
+removed_level : (ls : List ℕ) (g : List ImplNode) (v : ℕ) → (node_of g v).level ≡ 0 → (node_of (with_removed_units ls g) v).level ≡ 0
 removed_level [] g v z = z
 removed_level (l ∷ ls) g v z = removed_level ls (with_node (variable l) removed_node g) v (marked_level g (variable l) v z)
 
 -- units are taken off the trail
-pub clears_cleared : (a : Values) (g : List ImplNode) (t : Trailed) → StateIsConsistent (state_of a g t) → t.starts ≡ [] → TakesOffUnits (state_of a g t) (state_of a (removed t.lits g) (with_cleared t))
+pub clears_cleared : (a : Values) (g : List ImplNode) (t : TrailState) → StateIsConsistent (state_of a g t) → t.starts ≡ [] → ClearsUnits (state_of a g t) (state_of a (with_removed_units t.lits g) (with_cleared t))
 clears_cleared a g t h bottom =
     let s : PropagationState = state_of a g t in
     let none : length t.starts ≡ 0 = ap (λ (xs : List ℕ). length xs) bottom in

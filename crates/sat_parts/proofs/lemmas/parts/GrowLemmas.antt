@@ -13,16 +13,16 @@ use Rattle.sat_parts.specs.clause.Db.{Db, live_refs}
 use Rattle.sat_parts.specs.clause.Stored.{lit_of}
 use Rattle.sat_parts.specs.prop.Binaries.{Binaries, implied_by, with_binary_lists}
 use Rattle.sat_parts.specs.prop.Graphs.{with_nodes, new_node, node_of, has_no_clause}
-use Rattle.sat_parts.specs.prop.Trails.{Trailed, LevelIs}
+use Rattle.sat_parts.specs.prop.Trails.{TrailState, IsAtLevel}
 use Rattle.sat_parts.specs.prop.Values.{Values, value_of, with_var_count, IsTrueLit}
-use Rattle.sat_parts.specs.prop.WatchLists.{Watching, watches_of, no_watch, with_lists}
-use Rattle.sat_parts.specs.prop.State.{PropagationState, node, level, lit_at, HasLeftQueue, IsRemoved, StateIsConsistent, IsSatisfied}
-use Rattle.sat_parts.specs.prop.Reasons.{Implies}
+use Rattle.sat_parts.specs.prop.WatchLists.{WatchState, watches_of, no_watch, with_lists}
+use Rattle.sat_parts.specs.prop.State.{PropagationState, node, level, lit_at, HasLeftQueue, IsRemovedUnit, StateIsConsistent, IsSatisfied}
+use Rattle.sat_parts.specs.prop.Reasons.{ReasonImplies}
 use Rattle.sat_parts.specs.prop.Ready.{state_of, AreWatched, HasWatch, IsSoundWatch}
-use Rattle.sat_parts.specs.parts.Round.{IsSoundBelow, RoundInvariant}
+use Rattle.sat_parts.specs.parts.Round.{PartsInvariantBelow, RoundInvariant}
 use Rattle.sat_parts.specs.declared.parts.SearchState.{SearchState}
 use Rattle.sat_parts.specs.parts.Whole.{SearchStateInvariant}
-use Rattle.sat_parts.specs.parts.Frame.{IsUnitLit, KeepsTo, AddsVars}
+use Rattle.sat_parts.specs.parts.Frame.{IsUnitLit, KeepsLevelsTo, AddsVars}
 use Rattle.sat_parts.proofs.lemmas.parts.TurnLemmas.{implies_by}
 
 same_everywhere : {X : Type 0} → (m i : ℕ) (x : X) → get_or (replicate m x) i x ≡ x
@@ -53,7 +53,7 @@ listed implied l k lt = elim (cases_lt l (length implied)) [
 ]
 
 -- the state with n variables
-abbrev pub grown : ℕ → Values → List ImplNode → Trailed → PropagationState
+abbrev pub grown : ℕ → Values → List ImplNode → TrailState → PropagationState
 grown n a g t = state_of (with_var_count n a) (with_nodes n g) (record t { room = max t.room n })
 
 value_same : (n : ℕ) (a : Values) (v : ℕ) → length a.current ≤ n → value_of (with_var_count n a).current v ≡ value_of a.current v
@@ -62,14 +62,14 @@ value_same n a v le = grown_reads a.current None n v le
 node_same : (n : ℕ) (g : List ImplNode) (v : ℕ) → length g ≤ n → node_of (with_nodes n g) v ≡ node_of g v
 node_same n g v le = grown_reads g new_node n v le
 
-removed_grown : (n : ℕ) (a : Values) (g : List ImplNode) (t : Trailed) (l : ℕ) → length a.current ≤ n → length g ≤ n → IsRemoved (state_of a g t) l → IsRemoved (grown n a g t) l
+removed_grown : (n : ℕ) (a : Values) (g : List ImplNode) (t : TrailState) (l : ℕ) → length a.current ≤ n → length g ≤ n → IsRemovedUnit (state_of a g t) l → IsRemovedUnit (grown n a g t) l
 removed_grown n a g t l le small x = record {
   holds = value_same n a (variable l) le ∙ x.holds;
   depth = ap (λ (z : ImplNode). z.depth) (node_same n g (variable l) small) ∙ x.depth;
   bottom = ap (λ (z : ImplNode). z.level) (node_same n g (variable l) small) ∙ x.bottom;
 }
 
-left_shrunk : (n : ℕ) (a : Values) (g : List ImplNode) (t : Trailed) (l : ℕ) → length a.current ≤ n → length g ≤ n → HasLeftQueue (grown n a g t) l → HasLeftQueue (state_of a g t) l
+left_shrunk : (n : ℕ) (a : Values) (g : List ImplNode) (t : TrailState) (l : ℕ) → length a.current ≤ n → length g ≤ n → HasLeftQueue (grown n a g t) l → HasLeftQueue (state_of a g t) l
 left_shrunk n a g t l le small h = elim h [
   | inl x ↦ inl (record { place = x.place; before = x.before; within = x.within; there = x.there })
   | inr x ↦ inr (record {
@@ -79,7 +79,7 @@ left_shrunk n a g t l le small h = elim h [
   })
 ]
 
-agrees_grown : (n : ℕ) (a : Values) (g : List ImplNode) (t : Trailed) → StateIsConsistent (state_of a g t) → length a.current ≤ n → n ≤ var_limit → StateIsConsistent (grown n a g t)
+agrees_grown : (n : ℕ) (a : Values) (g : List ImplNode) (t : TrailState) → StateIsConsistent (state_of a g t) → length a.current ≤ n → n ≤ var_limit → StateIsConsistent (grown n a g t)
 agrees_grown n a g t h le top =
     let s : PropagationState = state_of a g t in
     let small : length g ≤ n = omega (arith, h.nodes) in
@@ -91,7 +91,7 @@ agrees_grown n a g t h le top =
       room = omega arith;
       holds = λ i b. value_same n a (variable (lit_at s i)) le ∙ h.holds i b;
       depths = λ i b. ap (λ (z : ImplNode). z.depth) (node_at_place i) ∙ h.depths i b;
-      levels = λ i b. subst (λ (z : ImplNode). LevelIs t.starts i z.level) (sym (node_at_place i)) (h.levels i b);
+      levels = λ i b. subst (λ (z : ImplNode). IsAtLevel t.starts i z.level) (sym (node_at_place i)) (h.levels i b);
       known = λ l x. elim (h.known l (sym (value_same n a (variable l) le) ∙ x)) [
         | inl y ↦ inl (record { place = y.place; before = y.before; within = y.within; there = y.there })
         | inr y ↦ inr (removed_grown n a g t l le small y)
@@ -99,18 +99,18 @@ agrees_grown n a g t h le top =
     }
 
 -- all parts get n variables
-pub sound_grown : (words : List ℕ) (db : Db) (w : Watching) (b : Binaries) (a : Values) (g : List ImplNode) (t : Trailed) (q : Queue) (n : ℕ) →
+pub sound_grown : (words : List ℕ) (db : Db) (w : WatchState) (b : Binaries) (a : Values) (g : List ImplNode) (t : TrailState) (q : Queue) (n : ℕ) →
     RoundInvariant words db w b a g t q → length a.current ≤ n → n ≤ var_limit →
     RoundInvariant words db (with_lists (2 * n) w) (with_binary_lists (2 * n) b) (with_var_count n a) (with_nodes n g) (record t { room = max t.room n }) (with_variables n q)
 sound_grown words db w b a g t q n h le top =
     let s : PropagationState = state_of a g t in
     let s' : PropagationState = grown n a g t in
-    let y : IsSoundBelow words db w b a g t q (length t.starts + 1) = h.below in
-    let old : StateIsConsistent (state_of a g t) = y.asks.agrees in
+    let y : PartsInvariantBelow words db w b a g t q (length t.starts + 1) = h.below in
+    let old : StateIsConsistent (state_of a g t) = y.propagation.agrees in
     let small : length g ≤ n = omega (arith, old.nodes) in
     let size : length (with_var_count n a).current ≡ n = grown_length a.current None n le in
-    let lists : (l : ℕ) → watches_of (with_lists (2 * n) w).lists l ≡ watches_of w.lists l = λ l. grown_reads w.lists [] (2 * n) l (omega (arith, y.asks.room)) in
-    let implied : (l : ℕ) → implied_by (with_binary_lists (2 * n) b).implied l ≡ implied_by b.implied l = λ l. grown_reads b.implied [] (2 * n) l (omega (arith, y.asks.ranges.room)) in
+    let lists : (l : ℕ) → watches_of (with_lists (2 * n) w).lists l ≡ watches_of w.lists l = λ l. grown_reads w.lists [] (2 * n) l (omega (arith, y.propagation.room)) in
+    let implied : (l : ℕ) → implied_by (with_binary_lists (2 * n) b).implied l ≡ implied_by b.implied l = λ l. grown_reads b.implied [] (2 * n) l (omega (arith, y.propagation.ranges.room)) in
     let node_is : (v : ℕ) → node_of (with_nodes n g) v ≡ node_of g v = λ v. node_same n g v small in
     let same_level : (l : ℕ) → level (grown n a g t) l ≡ level (state_of a g t) l = λ l. ap (λ (z : ImplNode). z.level) (node_is (variable l)) in
     let holds : (l : ℕ) → IsTrueLit a.current l → IsTrueLit (with_var_count n a).current l = λ l x. value_same n a (variable l) le ∙ x in
@@ -119,48 +119,48 @@ sound_grown words db w b a g t q n h le top =
     length-append q.available (replicate (n - length q.available) false) ∙ (let m : length (replicate (n - length q.available) false) ≡ n - length q.available = length-replicate (n - length q.available) false in omega (arith, y.queue)) in
     record {
       below = record {
-        held = y.held;
-        asks = record {
-          holds_clauses = y.asks.holds_clauses;
+        db_matches = y.db_matches;
+        propagation = record {
+          holds_clauses = y.propagation.holds_clauses;
           clauses = record {
-            holds_clauses = y.asks.clauses.holds_clauses;
-            long = y.asks.clauses.long;
-            below = λ o k c lt. omega (arith, y.asks.clauses.below o k c lt);
-            distinct = y.asks.clauses.distinct;
+            holds_clauses = y.propagation.clauses.holds_clauses;
+            long = y.propagation.clauses.long;
+            below = λ o k c lt. omega (arith, y.propagation.clauses.below o k c lt);
+            distinct = y.propagation.clauses.distinct;
           };
-          room = grown_length w.lists [] (2 * n) (omega (arith, y.asks.room)) ∙ ap (λ k. 2 * k) (sym size);
+          room = grown_length w.lists [] (2 * n) (omega (arith, y.propagation.room)) ∙ ap (λ k. 2 * k) (sym size);
           watches = λ on.
-              let z : AreWatched words (live_refs words db.refs) w.lists (length a.current) = y.asks.watches on in
+              let z : AreWatched words (live_refs words db.refs) w.lists (length a.current) = y.propagation.watches on in
               record {
-                room = grown_length w.lists [] (2 * n) (omega (arith, y.asks.room)) ∙ ap (λ k. 2 * k) (sym size);
+                room = grown_length w.lists [] (2 * n) (omega (arith, y.propagation.room)) ∙ ap (λ k. 2 * k) (sym size);
                 good = λ l p. subst (λ (xs : List Watch). p < length xs → IsSoundWatch words (live_refs words db.refs) (get_or xs p no_watch)) (sym (lists l)) (z.good l p);
                 both = λ o i c lt. subst (λ (xs : List Watch). HasWatch xs o) (sym (lists (negated (lit_of words o i)))) (z.both o i c lt);
               };
           agrees = agrees_grown n a g t old le top;
-          queue = λ i p lt. same_level (lit_at s i) ∙ y.asks.queue i p lt;
-          firsts = λ i o lt e. y.asks.firsts i o lt (sym (reason_is i) ∙ e);
+          queue = λ i p lt. same_level (lit_at s i) ∙ y.propagation.queue i p lt;
+          firsts = λ i o lt e. y.propagation.firsts i o lt (sym (reason_is i) ∙ e);
           settled = λ o i c hi left d.
               let m : ℕ = negated (lit_of words o i) in
-              let z : IsSatisfied s (lits_at words o) (level s (negated (lit_of words o i))) = y.asks.settled o i c hi (left_shrunk n a g t m le small left) (omega (arith, same_level m)) in
+              let z : IsSatisfied s (lits_at words o) (level s (negated (lit_of words o i))) = y.propagation.settled o i c hi (left_shrunk n a g t m le small left) (omega (arith, same_level m)) in
               record { place = z.place; within = z.within; holds = holds (get_or (lits_at words o) z.place 0) z.holds; low = omega (arith, z.low, same_level m, same_level (get_or (lits_at words o) z.place 0)) };
           ranges = record {
-            room = grown_length b.implied [] (2 * n) (omega (arith, y.asks.ranges.room)) ∙ ap (λ k. 2 * k) (sym size);
-            below = λ l k. subst (λ (xs : List ℕ). k < length xs → get_or xs k 0 < 2 * length (with_var_count n a).current) (sym (implied l)) (λ lt. omega (arith, y.asks.ranges.below l k lt));
+            room = grown_length b.implied [] (2 * n) (omega (arith, y.propagation.ranges.room)) ∙ ap (λ k. 2 * k) (sym size);
+            below = λ l k. subst (λ (xs : List ℕ). k < length xs → get_or xs k 0 < 2 * length (with_var_count n a).current) (sym (implied l)) (λ lt. omega (arith, y.propagation.ranges.below l k lt));
           };
           binary = λ l k left d.
               subst (λ (xs : List ℕ). k < length xs → IsTrueLit (with_var_count n a).current (get_or xs k 0) × (level s' (get_or xs k 0) ≤ level s' l)) (sym (implied l))
               (λ lt.
-              let z = y.asks.binary l k (left_shrunk n a g t l le small left) (omega (arith, same_level l)) lt in
+              let z = y.propagation.binary l k (left_shrunk n a g t l le small left) (omega (arith, same_level l)) lt in
               (holds (get_or (implied_by b.implied l) k 0) z.0, omega (arith, z.1, same_level l, same_level (get_or (implied_by b.implied l) k 0))));
         };
-        turns = λ i p lt.
-            subst (λ (r : Reason). Implies words (live_refs words db.refs) (with_binary_lists (2 * n) b).implied s' i r) (sym (reason_is i))
+        reasons = λ i p lt.
+            subst (λ (r : Reason). ReasonImplies words (live_refs words db.refs) (with_binary_lists (2 * n) b).implied s' i r) (sym (reason_is i))
             (implies_by words words (live_refs words db.refs) (live_refs words db.refs) b.implied (with_binary_lists (2 * n) b).implied s s' i (node s (lit_at s i)).reason refl
             (λ m x. elim x [
               | inl z ↦ inl (record { place = z.place; before = z.before; within = z.within; there = z.there })
               | inr z ↦ inr (removed_grown n a g t (negated m) le small z)
             ])
-            (λ o e c. (c, refl)) (λ ls e c. subst (λ (xs : List ℕ). Contains xs (lit_at s i)) (sym (implied (negated (get_or ls 0 0)))) c) (y.turns i p lt));
+            (λ o e c. (c, refl)) (λ ls e c. subst (λ (xs : List ℕ). Contains xs (lit_at s i)) (sym (implied (negated (get_or ls 0 0)))) c) (y.reasons i p lt));
         levelled = record {
           strict = y.levelled.strict;
           begun = y.levelled.begun;
@@ -177,9 +177,9 @@ sound_grown words db w b a g t q n h le top =
             })
           ]
           | inr new ↦ inr (record {
-            long = λ o k c less e. omega (arith, y.asks.clauses.below o k c less);
+            long = λ o k c less e. omega (arith, y.propagation.clauses.below o k c less);
             binary = λ l k. subst (λ (xs : List ℕ). k < length xs → (variable l ≢ v) × (variable (get_or xs k 0) ≢ v)) (sym (implied l))
-                (λ less. (λ e. (let p : l < length b.implied = listed b.implied l k less in omega (arith, y.asks.ranges.room)), λ e. omega (arith, y.asks.ranges.below l k less)));
+                (λ less. (λ e. (let p : l < length b.implied = listed b.implied l k less in omega (arith, y.propagation.ranges.room)), λ e. omega (arith, y.propagation.ranges.below l k less)));
           })
         ];
       };
@@ -191,7 +191,7 @@ pub grown_size : (n : ℕ) (a : Values) → length a.current ≤ n → length (w
 grown_size n a le = grown_length a.current None n le
 
 -- no unit is new
-pub grown_units : (n : ℕ) (a : Values) (g : List ImplNode) (t : Trailed) (l : ℕ) → length a.current ≤ n → length g ≤ n → IsUnitLit (grown n a g t) l → IsUnitLit (state_of a g t) l
+pub grown_units : (n : ℕ) (a : Values) (g : List ImplNode) (t : TrailState) (l : ℕ) → length a.current ≤ n → length g ≤ n → IsUnitLit (grown n a g t) l → IsUnitLit (state_of a g t) l
 grown_units n a g t l le small h =
     let same : node_of (with_nodes n g) (variable l) ≡ node_of g (variable l) = node_same n g (variable l) small in
     elim h [
@@ -209,7 +209,7 @@ grown_units n a g t l le small h =
       })
     ]
 
-pub grown_keeps : (top n : ℕ) (a : Values) (g : List ImplNode) (t : Trailed) → length a.current ≤ n → length g ≤ n → KeepsTo top (state_of a g t) (grown n a g t)
+pub grown_keeps : (top n : ℕ) (a : Values) (g : List ImplNode) (t : TrailState) → length a.current ≤ n → length g ≤ n → KeepsLevelsTo top (state_of a g t) (grown n a g t)
 grown_keeps top n a g t le small = record {
   low = λ l x b. (value_same n a (variable l) le ∙ x, ap (λ (z : ImplNode). z.level) (node_same n g (variable l) small));
   begun = λ j b lt. (lt, refl);
@@ -218,10 +218,10 @@ grown_keeps top n a g t le small = record {
 pub grown_picks : (n : ℕ) (q : Queue) (v : ℕ) → is_available (with_variables n q) v ≡ is_available q v
 grown_picks n q v = appended_reads q.available (n - length q.available) false v
 
-pub grown_frame : (p : SearchState) (n : ℕ) (w : Watching) → SearchStateInvariant p → length p.assignment.current ≤ n →
+pub grown_frame : (p : SearchState) (n : ℕ) (w : WatchState) → SearchStateInvariant p → length p.assignment.current ≤ n →
     AddsVars p (record p { watchlists = w; binary = with_binary_lists (2 * n) p.binary; assignment = with_var_count n p.assignment; graph = with_nodes n p.graph; trail = record p.trail { room = max p.trail.room n }; vsids = with_variables n p.vsids }) n
 grown_frame p n w h le =
-    let small : length p.graph ≤ n = omega (arith, h.below.asks.agrees.nodes) in
+    let small : length p.graph ≤ n = omega (arith, h.below.propagation.agrees.nodes) in
     record {
       size = grown_size n p.assignment le;
       values = λ v. value_same n p.assignment v le;

@@ -13,13 +13,13 @@ use Rattle.sat_parts.specs.clause.Db.{Db, DbMatchesBuffer, live_refs, AddsLongCl
 use Rattle.sat_parts.specs.clause.Stored.{lit_of}
 use Rattle.sat_parts.specs.prop.Binaries.{Binaries}
 use Rattle.sat_parts.specs.prop.Values.{Values, value_of, with_true_lit, IsFalseLit, IsUnassignedLit}
-use Rattle.sat_parts.specs.prop.Trails.{Trailed, with_lit}
-use Rattle.sat_parts.specs.prop.Graphs.{with_node, node_at, node_of}
-use Rattle.sat_parts.specs.prop.WatchLists.{Watching, with_firsts}
+use Rattle.sat_parts.specs.prop.Trails.{TrailState, with_lit}
+use Rattle.sat_parts.specs.prop.Graphs.{with_node, enqueued_node, node_of}
+use Rattle.sat_parts.specs.prop.WatchLists.{WatchState, with_first_two_watched}
 use Rattle.sat_parts.specs.prop.State.{PropagationState, level, current_level, HasLeftQueue, StateIsConsistent, TrailGrows, IsSatisfied, enqueued}
-use Rattle.sat_parts.specs.prop.Reasons.{IsFalseBefore, Implies, AreUnitInTurn}
+use Rattle.sat_parts.specs.prop.Reasons.{IsFalseBefore, ReasonImplies, ReasonsAreUnit}
 use Rattle.sat_parts.specs.prop.Ready.{state_of}
-use Rattle.sat_parts.specs.prop.Propagation.{IsOwnLong}
+use Rattle.sat_parts.specs.prop.Propagation.{IsLongReason}
 use Rattle.sat_parts.proofs.lemmas.prop.StateLemmas.{grows_enqueued, true_from_false, negated_variable, left_true, lit_last}
 use Rattle.sat_parts.proofs.lemmas.prop.ReasonLemmas.{false_before_forth}
 use Rattle.sat_parts.proofs.lemmas.prop.BuildLemmas.{live_in}
@@ -28,7 +28,7 @@ use Rattle.sat_parts.proofs.lemmas.prop.StepLemmas.{asks_for_reason, asks_enqueu
 use Rattle.sat_parts.proofs.lemmas.prop.CallLemmas.{asks_added}
 use Rattle.sat_parts.proofs.lemmas.prop.WalkLemmas.{at_two}
 use Rattle.sat_parts.proofs.lemmas.prop.WordLemmas.{levels_stay}
-use Rattle.sat_parts.specs.parts.Round.{IsUnused, IsSoundBelow, RoundInvariant}
+use Rattle.sat_parts.specs.parts.Round.{IsInNoClause, PartsInvariantBelow, RoundInvariant}
 use Rattle.sat_parts.specs.parts.Learned.{IsUnitAfterBacktracking}
 use Rattle.sat_parts.proofs.lemmas.parts.ValueLemmas.{some_none, not_false}
 use Rattle.sat_parts.proofs.lemmas.parts.TurnLemmas.{turns_by, turns_enqueued, units_enqueued}
@@ -57,7 +57,7 @@ pending_below s q ls x k b = elim (cases_eq k 0) [
 
 -- adding a long clause keeps reasons unit in the order of the trail
 pub turns_added : (words words' : List ℕ) (db db' : Db) (o : ℕ) (header : Header) (lits : List ℕ) (implied : List (List ℕ)) (s : PropagationState) → DbMatchesBuffer words db → AddsLongClause words db words' db' o header lits →
-    AreUnitInTurn words (live_refs words db.refs) implied s 0 → AreUnitInTurn words' (live_refs words' db'.refs) implied s 0
+    ReasonsAreUnit words (live_refs words db.refs) implied s 0 → ReasonsAreUnit words' (live_refs words' db'.refs) implied s 0
 turns_added words words' db db' o header lits implied s held x h =
     turns_by words words' (live_refs words db.refs) (live_refs words' db'.refs) implied implied s
     (λ i p b e c. (
@@ -68,7 +68,7 @@ turns_added words words' db db' o header lits implied s held x h =
 
 -- a variable in no clause stays unused if the new clause does not have it
 pub unused_added : (words words' : List ℕ) (db db' : Db) (o : ℕ) (header : Header) (lits : List ℕ) (implied : List (List ℕ)) (v : ℕ) → DbMatchesBuffer words db → AddsLongClause words db words' db' o header lits →
-    ((k : ℕ) → k < length lits → variable (get_or lits k 0) ≢ v) → IsUnused words (live_refs words db.refs) implied v → IsUnused words' (live_refs words' db'.refs) implied v
+    ((k : ℕ) → k < length lits → variable (get_or lits k 0) ≢ v) → IsInNoClause words (live_refs words db.refs) implied v → IsInNoClause words' (live_refs words' db'.refs) implied v
 unused_added words words' db db' o header lits implied v held x apart u = record {
   long = λ p k c b e. elim (Contains-push_cases (live_refs words db.refs) o p (subst (λ (xs : List ℕ). Contains xs p) x.live c)) [
     | inl old ↦
@@ -90,7 +90,7 @@ pending_apart s q ls u x n none k b e = elim (cases_eq k 0) [
 
 long_reason : (words words' : List ℕ) (db db' : Db) (o : ℕ) (header : Header) (ls : List ℕ) (implied : List (List ℕ)) (s : PropagationState) (q : Queue) → StateIsConsistent s → IsUnitAfterBacktracking s q ls →
     AddsLongClause words db words' db' o header ls →
-    Implies words' (live_refs words' db'.refs) implied (enqueued (get_or ls 0 0) (Long o) s) (length s.trail.lits) (Long o)
+    ReasonImplies words' (live_refs words' db'.refs) implied (enqueued (get_or ls 0 0) (Long o) s) (length s.trail.lits) (Long o)
 long_reason words words' db db' o header ls implied s q h x added =
     let l : ℕ = get_or ls 0 0 in
     let t : PropagationState = enqueued (get_or ls 0 0) (Long o) s in
@@ -104,36 +104,36 @@ long_reason words words' db db' o header ls implied s q h x added =
     )
 
 -- a learned long clause
-pub sound_long : (words words' : List ℕ) (db db' : Db) (w : Watching) (b : Binaries) (a : Values) (g : List ImplNode) (t : Trailed) (q : Queue) (ls : List ℕ) (o : ℕ) (header : Header) →
+pub sound_long : (words words' : List ℕ) (db db' : Db) (w : WatchState) (b : Binaries) (a : Values) (g : List ImplNode) (t : TrailState) (q : Queue) (ls : List ℕ) (o : ℕ) (header : Header) →
     RoundInvariant words db w b a g t q → IsUnitAfterBacktracking (state_of a g t) q ls → 3 ≤ length ls → AddsLongClause words db words' db' o header ls →
-    RoundInvariant words' db' (with_firsts o ls w) b (with_true_lit (get_or ls 0 0) a) (with_node (variable (get_or ls 0 0)) (node_at t (Long o)) g) (with_lit (get_or ls 0 0) t) q
+    RoundInvariant words' db' (with_first_two_watched o ls w) b (with_true_lit (get_or ls 0 0) a) (with_node (variable (get_or ls 0 0)) (enqueued_node t (Long o)) g) (with_lit (get_or ls 0 0) t) q
 sound_long words words' db db' w b a g t q ls o header h x three added =
     let l : ℕ = get_or ls 0 0 in
     let s : PropagationState = state_of a g t in
-    let y : IsSoundBelow words db w b a g t q (length t.starts + 1) = h.below in
-    let agrees : StateIsConsistent (state_of a g t) = y.asks.agrees in
+    let y : PartsInvariantBelow words db w b a g t q (length t.starts + 1) = h.below in
+    let agrees : StateIsConsistent (state_of a g t) = y.propagation.agrees in
     let own : (i : ℕ) → i < 2 → HasLeftQueue s (negated (get_or ls i 0)) → level s (negated (get_or ls i 0)) < length t.starts + 1 →
-    IsSatisfied s ls (level s (negated (get_or ls i 0))) ⊎ (IsOwnLong (Long o) o × (current_level s ≤ level s (negated (get_or ls i 0)))) =
+    IsSatisfied s ls (level s (negated (get_or ls i 0))) ⊎ (IsLongReason (Long o) o × (current_level s ≤ level s (negated (get_or ls i 0)))) =
     at_two (λ i. HasLeftQueue s (negated (get_or ls i 0)) → level s (negated (get_or ls i 0)) < length t.starts + 1 →
-    IsSatisfied s ls (level s (negated (get_or ls i 0))) ⊎ (IsOwnLong (Long o) o × (current_level s ≤ level s (negated (get_or ls i 0)))))
+    IsSatisfied s ls (level s (negated (get_or ls i 0))) ⊎ (IsLongReason (Long o) o × (current_level s ≤ level s (negated (get_or ls i 0)))))
     (λ left d. absurd (open_not_left s (get_or ls 0 0) agrees x.open_first left))
     (λ left d. inr (refl, omega (arith, x.second (omega arith), level_same s (get_or ls 1 0)))) in
-    let cause : Implies words' (live_refs words' db'.refs) b.implied (enqueued (get_or ls 0 0) (Long o) (state_of a g t)) (length t.lits) (Long o) =
+    let cause : ReasonImplies words' (live_refs words' db'.refs) b.implied (enqueued (get_or ls 0 0) (Long o) (state_of a g t)) (length t.lits) (Long o) =
     long_reason words words' db db' o header ls b.implied s q agrees x added in
     record {
       below = record {
-        held = added.holds;
-        asks = asks_enqueued words' db'.refs (with_firsts o ls w) b.implied s (length t.starts + 1) (get_or ls 0 0) (Long o) x.open_first x.there
+        db_matches = added.holds;
+        propagation = asks_enqueued words' db'.refs (with_first_two_watched o ls w) b.implied s (length t.starts + 1) (get_or ls 0 0) (Long o) x.open_first x.there
             (λ p e. subst (λ z. Contains (live_refs words' db'.refs) z × (lit_of words' z 0 ≡ get_or ls 0 0)) (long_place o p e) (cause.0, ap (λ (ms : List ℕ). get_or ms 0 0) added.added.lits_there))
-            (asks_added words words' db db' o header ls w b.implied s (length t.starts + 1) (get_or ls 0 0) (Long o) y.asks added x.distinct three (pending_below s q ls x) own);
-        turns = turns_enqueued words' (live_refs words' db'.refs) b.implied s (get_or ls 0 0) (Long o) agrees x.open_first x.there cause (turns_added words words' db db' o header ls b.implied s y.held added y.turns);
+            (asks_added words words' db db' o header ls w b.implied s (length t.starts + 1) (get_or ls 0 0) (Long o) y.propagation added x.distinct three (pending_below s q ls x) own);
+        reasons = turns_enqueued words' (live_refs words' db'.refs) b.implied s (get_or ls 0 0) (Long o) agrees x.open_first x.there cause (turns_added words words' db db' o header ls b.implied s y.db_matches added y.reasons);
         levelled = levels_stay.caused s (get_or ls 0 0) (Long o) agrees x.open_first x.there refl y.levelled;
         queue = y.queue ∙ sym (length-set a.current (variable l) (Some (is_positive l)));
         ready = λ u lt none.
             let z : (u ≢ variable (get_or ls 0 0)) × (value_of a.current u ≡ None) = still_open a.current (get_or ls 0 0) u (is_positive l) x.there none in
             elim (y.ready u (omega (arith, length-set a.current (variable l) (Some (is_positive l)))) z.1) [
               | inl p ↦ inl p
-              | inr v ↦ inr (unused_added words words' db db' o header ls b.implied u y.held added (pending_apart s q ls u x z.0 z.1) v)
+              | inr v ↦ inr (unused_added words words' db db' o header ls b.implied u y.db_matches added (pending_apart s q ls u x z.0 z.1) v)
             ];
       };
       units = units_enqueued s (get_or ls 0 0) (Long o) agrees x.open_first x.there (λ e. absurd (omega (arith, x.above (omega arith)))) h.units;
@@ -141,18 +141,18 @@ sound_long words words' db db' w b a g t q ls o header h x three added =
     }
 
 -- a learned unit, at level 0
-pub sound_unit : (words : List ℕ) (db : Db) (w : Watching) (b : Binaries) (a : Values) (g : List ImplNode) (t : Trailed) (q : Queue) (l : ℕ) →
+pub sound_unit : (words : List ℕ) (db : Db) (w : WatchState) (b : Binaries) (a : Values) (g : List ImplNode) (t : TrailState) (q : Queue) (l : ℕ) →
     RoundInvariant words db w b a g t q → t.starts ≡ [] → IsUnassignedLit a.current l → variable l < length a.current →
-    RoundInvariant words db w b (with_true_lit l a) (with_node (variable l) (node_at t NoCause) g) (with_lit l t) q
+    RoundInvariant words db w b (with_true_lit l a) (with_node (variable l) (enqueued_node t NoCause) g) (with_lit l t) q
 sound_unit words db w b a g t q l h bottom n below =
     let s : PropagationState = state_of a g t in
-    let y : IsSoundBelow words db w b a g t q (length t.starts + 1) = h.below in
-    let agrees : StateIsConsistent (state_of a g t) = y.asks.agrees in
+    let y : PartsInvariantBelow words db w b a g t q (length t.starts + 1) = h.below in
+    let agrees : StateIsConsistent (state_of a g t) = y.propagation.agrees in
     record {
       below = record {
-        held = y.held;
-        asks = asks_enqueued words db.refs w b.implied s (length t.starts + 1) l NoCause n below (λ o e. absurd (no_long o e)) (asks_for_reason words db.refs w b.implied s (length t.starts + 1) l NoCause y.asks);
-        turns = turns_enqueued words (live_refs words db.refs) b.implied s l NoCause agrees n below tt y.turns;
+        db_matches = y.db_matches;
+        propagation = asks_enqueued words db.refs w b.implied s (length t.starts + 1) l NoCause n below (λ o e. absurd (no_long o e)) (asks_for_reason words db.refs w b.implied s (length t.starts + 1) l NoCause y.propagation);
+        reasons = turns_enqueued words (live_refs words db.refs) b.implied s l NoCause agrees n below tt y.reasons;
         levelled = levels_stay.none (enqueued l NoCause s) bottom;
         queue = y.queue ∙ sym (length-set a.current (variable l) (Some (is_positive l)));
         ready = ready_enqueued words (live_refs words db.refs) b.implied a.current q q l below (λ u d n p. p) y.ready;

@@ -7,11 +7,11 @@ use Rattle.sat_store.specs.clause.Buffer.{lits_at}
 use Rattle.sat_parts.specs.clause.Db.{live_refs}
 use Rattle.sat_parts.specs.clause.Stored.{lit_of, size_of}
 use Rattle.sat_parts.specs.prop.Values.{value_of, IsTrueLit, IsFalseLit}
-use Rattle.sat_parts.specs.prop.WatchLists.{Watching}
+use Rattle.sat_parts.specs.prop.WatchLists.{WatchState}
 use Rattle.sat_parts.specs.prop.State.{PropagationState, level, current_level, HasLeftQueue, StateIsConsistent, IsSatisfied}
 use Rattle.sat_parts.specs.prop.Propagation.{PropagationInvariant, PropagationPrecondition}
 use Rattle.sat_parts.proofs.lemmas.prop.StateLemmas.{level_low, true_from_false}
-use Rattle.sat_parts.specs.parts.Levels.{IsTrueAt, IsCompleteAt}
+use Rattle.sat_parts.specs.parts.Levels.{IsTrueByLevel, IsPropagatedByLevel}
 
 -- if the queue is empty, every true literal has left it
 pub left_all : (s : PropagationState) (l : ℕ) → StateIsConsistent s → s.trail.head ≡ length s.trail.lits → IsTrueLit s.values l → HasLeftQueue s l
@@ -23,13 +23,13 @@ left_all s l h done x = elim (h.known l x) [
 other_of_two : (m : ℕ) → (i : ℕ) × ((i < 2) × (i ≢ m))
 other_of_two m = elim (cases_eq m 0) [ inl e ↦ (1, (omega arith, λ f. omega arith)) | inr n ↦ (0, (omega arith, λ f. n (sym f))) ]
 
-complete_where : (words refs : List ℕ) (w : Watching) (implied : List (List ℕ)) (s : PropagationState) (top j : ℕ) → PropagationInvariant words refs w implied s top → j < top → ((l : ℕ) → IsTrueAt s j l → HasLeftQueue s l) →
-    IsCompleteAt words (live_refs words refs) implied s j
+complete_where : (words refs : List ℕ) (w : WatchState) (implied : List (List ℕ)) (s : PropagationState) (top j : ℕ) → PropagationInvariant words refs w implied s top → j < top → ((l : ℕ) → IsTrueByLevel s j l → HasLeftQueue s l) →
+    IsPropagatedByLevel words (live_refs words refs) implied s j
 complete_where words refs w implied s top j h below left = record {
   long = λ o m c all.
       let i = other_of_two m in
       let three : 3 ≤ size_of words o = h.clauses.long o c in
-      let f : IsTrueAt s j (negated (lit_of words o i.0)) = all i.0 (omega (arith, i.1.0)) i.1.1 in
+      let f : IsTrueByLevel s j (negated (lit_of words o i.0)) = all i.0 (omega (arith, i.1.0)) i.1.1 in
       let x : IsSatisfied s (lits_at words o) (level s (negated (lit_of words o i.0))) = h.settled o i.0 c i.1.0 (left (negated (lit_of words o i.0)) f) (omega (arith, f.1)) in
       (x.place, (x.within, (x.holds, omega (arith, x.low, f.1))));
   binary = λ l k b f.
@@ -38,8 +38,8 @@ complete_where words refs w implied s top j h below left = record {
 }
 
 -- if the queue is empty, propagation is complete at the current level
-pub complete_now : (words refs : List ℕ) (w : Watching) (implied : List (List ℕ)) (s : PropagationState) → PropagationPrecondition words refs w implied s → s.trail.head ≡ length s.trail.lits →
-    IsCompleteAt words (live_refs words refs) implied s (current_level s)
+pub complete_now : (words refs : List ℕ) (w : WatchState) (implied : List (List ℕ)) (s : PropagationState) → PropagationPrecondition words refs w implied s → s.trail.head ≡ length s.trail.lits →
+    IsPropagatedByLevel words (live_refs words refs) implied s (current_level s)
 complete_now words refs w implied s h done = complete_where words refs w implied s (current_level s + 1) (current_level s) h (omega arith) (λ l x. left_all s l h.agrees done x.0)
 
 same_or_not : (x y : Bool) → (x ≡ y) ⊎ (x ≡ not y)
@@ -66,13 +66,13 @@ some_true values ls (suc n) all =
     ]
 
 -- if the queue is empty, a live clause with all its variables assigned has a true literal
-pub model_found : (words refs : List ℕ) (w : Watching) (implied : List (List ℕ)) (s : PropagationState) (o : ℕ) → PropagationPrecondition words refs w implied s → s.trail.head ≡ length s.trail.lits → Contains (live_refs words refs) o →
+pub model_found : (words refs : List ℕ) (w : WatchState) (implied : List (List ℕ)) (s : PropagationState) (o : ℕ) → PropagationPrecondition words refs w implied s → s.trail.head ≡ length s.trail.lits → Contains (live_refs words refs) o →
     ((k : ℕ) → k < size_of words o → (b : Bool) × (value_of s.values (variable (lit_of words o k)) ≡ Some b)) → (k : ℕ) × ((k < size_of words o) × IsTrueLit s.values (lit_of words o k))
 model_found words refs w implied s o h done c all =
     elim (some_true s.values (lits_at words o) (size_of words o) all) [
       | inl x ↦ x
       | inr none ↦
-          let at : IsCompleteAt words (live_refs words refs) implied s (current_level s) = complete_now words refs w implied s h done in
+          let at : IsPropagatedByLevel words (live_refs words refs) implied s (current_level s) = complete_now words refs w implied s h done in
           let x = at.long o 0 c (λ k b n.
           let t : IsTrueLit s.values (negated (lit_of words o k)) = true_from_false s.values (lit_of words o k) (none k b) in
           (t, level_low s (negated (lit_of words o k)) h.agrees t)) in

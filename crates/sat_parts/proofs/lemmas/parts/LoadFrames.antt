@@ -9,9 +9,9 @@ use Rattle.sat_store.specs.clause.Header.{no_header}
 use Rattle.sat_store.specs.heap.Vsids.{with_available}
 use Rattle.sat_parts.specs.clause.Db.{Db, AddsLongClause}
 use Rattle.sat_parts.specs.prop.Binaries.{Binaries, with_binary}
-use Rattle.sat_parts.specs.prop.Graphs.{has_no_clause, node_at, node_of, new_node}
+use Rattle.sat_parts.specs.prop.Graphs.{has_no_clause, enqueued_node, node_of, new_node}
 use Rattle.sat_parts.specs.prop.Values.{IsTrueLit, value_of, with_value}
-use Rattle.sat_parts.specs.prop.State.{PropagationState, node, level, lit_at, IsRemoved, StateIsConsistent, enqueued}
+use Rattle.sat_parts.specs.prop.State.{PropagationState, node, level, lit_at, IsRemovedUnit, StateIsConsistent, enqueued}
 use Rattle.sat_parts.proofs.lemmas.prop.StateLemmas.{lit_front, lit_last}
 use Rattle.sat_parts.specs.declared.parts.SearchState.{SearchState}
 use Rattle.sat_parts.specs.declared.parts.load.Loaded.{Loaded}
@@ -32,16 +32,16 @@ gains_after l a b c x y = record {
 }
 
 -- a unit is put back
-pub carries_again : (s : PropagationState) (l : ℕ) → StateIsConsistent s → IsRemoved s l → length s.trail.starts ≡ 0 → AddsNoUnit s (enqueued l NoCause (dropped l s))
+pub carries_again : (s : PropagationState) (l : ℕ) → StateIsConsistent s → IsRemovedUnit s l → length s.trail.starts ≡ 0 → AddsNoUnit s (enqueued l NoCause (dropped l s))
 carries_again s l a gone bottom =
     let s' : PropagationState = enqueued l NoCause (dropped l s) in
     let size : length (s.trail.lits ++ l ∷ []) ≡ length s.trail.lits + 1 = length_push s.trail.lits l in
-    let other : (m : ℕ) → variable m ≢ variable l → node s' m ≡ node s m = λ m n. get_or-set_other s.nodes (variable l) (variable m) (node_at s.trail NoCause) new_node n in
+    let other : (m : ℕ) → variable m ≢ variable l → node s' m ≡ node s m = λ m n. get_or-set_other s.nodes (variable l) (variable m) (enqueued_node s.trail NoCause) new_node n in
     record {
       size = again_size s l;
       units = λ m u. elim u [
         | inl r ↦ elim (again_back s l m gone r.holds) [
-          | inl e ↦ inl (subst (λ z. IsRemoved s z) (sym e) gone)
+          | inl e ↦ inl (subst (λ z. IsRemovedUnit s z) (sym e) gone)
           | inr z ↦ inl (record { holds = z.1; depth = sym (ap (λ (k : ImplNode). k.depth) (other m z.0)) ∙ r.depth; bottom = sym (ap (λ (k : ImplNode). k.level) (other m z.0)) ∙ r.bottom })
         ]
         | inr b ↦ elim (cases_lt b.place (length s.trail.lits)) [
@@ -64,7 +64,7 @@ carries_again s l a gone bottom =
               ]
           | inr ge ↦
               let last : b.place ≡ length s.trail.lits = omega (arith, b.within) in
-              inl (subst (λ z. IsRemoved s z) (sym (sym b.there ∙ ap (λ k. lit_at s' k) last ∙ lit_last (dropped l s) l NoCause)) gone)
+              inl (subst (λ z. IsRemovedUnit s z) (sym (sym b.there ∙ ap (λ k. lit_at s' k) last ∙ lit_last (dropped l s) l NoCause)) gone)
         ]
       ];
       bottom = λ m t z. (again_true s l m a gone t, again_level s l m a gone bottom ∙ z);

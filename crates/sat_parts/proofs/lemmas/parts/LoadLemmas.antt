@@ -8,16 +8,16 @@ use Rattle.sat_store.specs.heap.Vsids.{Queue, is_available, with_available}
 use Rattle.sat_parts.specs.declared.prop.graph.ImplNode.{ImplNode}
 use Rattle.sat_parts.specs.declared.prop.graph.Reason.TheVariants.{Unit as NoCause}
 use Rattle.sat_parts.specs.clause.Db.{Db, live_refs, AddsLongClause}
-use Rattle.sat_parts.specs.clause.Stored.{AreClauses, lit_of}
+use Rattle.sat_parts.specs.clause.Stored.{AreLongClauses, lit_of}
 use Rattle.sat_parts.specs.prop.Binaries.{Binaries, implied_by, with_binary}
 use Rattle.sat_parts.specs.prop.Values.{Values, value_of, with_value, IsTrueLit}
-use Rattle.sat_parts.specs.prop.Trails.{Trailed}
-use Rattle.sat_parts.specs.prop.WatchLists.{Watching, with_firsts}
+use Rattle.sat_parts.specs.prop.Trails.{TrailState}
+use Rattle.sat_parts.specs.prop.WatchLists.{WatchState, with_first_two_watched}
 use Rattle.sat_parts.specs.prop.State.{PropagationState, level, HasLeftQueue, StateIsConsistent, IsSatisfied}
-use Rattle.sat_parts.specs.prop.Ready.{state_of, AreWatched, AreLists}
+use Rattle.sat_parts.specs.prop.Ready.{state_of, AreWatched, AreImpliedLists}
 use Rattle.sat_parts.proofs.lemmas.prop.CallLemmas.{asks_added, asks_of_unit}
 use Rattle.sat_parts.proofs.lemmas.prop.WordLemmas.{levels_stay}
-use Rattle.sat_parts.specs.parts.Round.{IsUnused, IsSoundBelow, RoundInvariant}
+use Rattle.sat_parts.specs.parts.Round.{IsInNoClause, PartsInvariantBelow, RoundInvariant}
 use Rattle.sat_parts.specs.parts.Loadable.{IsLoadable}
 use Rattle.sat_parts.proofs.lemmas.parts.ValueLemmas.{some_none}
 use Rattle.sat_parts.proofs.lemmas.parts.LearnLemmas.{turns_added, unused_added}
@@ -28,48 +28,48 @@ not_in : (s : PropagationState) (q : Queue) (ls : List ℕ) (u : ℕ) → IsLoad
 not_in s q ls u x none not k b e =
     true≢false (sym (x.ready k b (ap (λ v. value_of s.values v) e ∙ none)) ∙ ap (λ v. is_available q v) e ∙ not)
 
-pub sound_loaded_long : (words words' : List ℕ) (db db' : Db) (w : Watching) (b : Binaries) (a : Values) (g : List ImplNode) (t : Trailed) (q : Queue) (ls : List ℕ) (o : ℕ) (header : Header) →
+pub sound_loaded_long : (words words' : List ℕ) (db db' : Db) (w : WatchState) (b : Binaries) (a : Values) (g : List ImplNode) (t : TrailState) (q : Queue) (ls : List ℕ) (o : ℕ) (header : Header) →
     RoundInvariant words db w b a g t q → IsLoadable (state_of a g t) q ls → 3 ≤ length ls → AddsLongClause words db words' db' o header ls →
-    RoundInvariant words' db' (with_firsts o ls w) b a g t q
+    RoundInvariant words' db' (with_first_two_watched o ls w) b a g t q
 sound_loaded_long words words' db db' w b a g t q ls o header h x three added =
     let s : PropagationState = state_of a g t in
-    let y : IsSoundBelow words db w b a g t q (length t.starts + 1) = h.below in
+    let y : PartsInvariantBelow words db w b a g t q (length t.starts + 1) = h.below in
     record {
       below = record {
-        held = added.holds;
-        asks = asks_of_unit words' db'.refs (with_firsts o ls w) b.implied s (length t.starts + 1) 0
-            (asks_added words words' db db' o header ls w b.implied s (length t.starts + 1) 0 NoCause y.asks added x.distinct three x.below (λ i hi left d. absurd (x.fresh i hi left)));
-        turns = turns_added words words' db db' o header ls b.implied s y.held added y.turns;
+        db_matches = added.holds;
+        propagation = asks_of_unit words' db'.refs (with_first_two_watched o ls w) b.implied s (length t.starts + 1) 0
+            (asks_added words words' db db' o header ls w b.implied s (length t.starts + 1) 0 NoCause y.propagation added x.distinct three x.below (λ i hi left d. absurd (x.fresh i hi left)));
+        reasons = turns_added words words' db db' o header ls b.implied s y.db_matches added y.reasons;
         levelled = y.levelled;
         queue = y.queue;
         ready = λ u lt none. elim (cases_Bool (is_available q u)) [
           | inl p ↦ inl p
-          | inr not ↦ elim (y.ready u lt none) [ inl p ↦ inl p | inr v ↦ inr (unused_added words words' db db' o header ls b.implied u y.held added (not_in s q ls u x none not) v) ]
+          | inr not ↦ elim (y.ready u lt none) [ inl p ↦ inl p | inr v ↦ inr (unused_added words words' db db' o header ls b.implied u y.db_matches added (not_in s q ls u x none not) v) ]
         ];
       };
       units = h.units;
       base = h.base;
     }
 
-pub sound_loaded_binary : (words : List ℕ) (db : Db) (w : Watching) (x : Binaries) (a : Values) (g : List ImplNode) (t : Trailed) (q : Queue) (ls : List ℕ) →
+pub sound_loaded_binary : (words : List ℕ) (db : Db) (w : WatchState) (x : Binaries) (a : Values) (g : List ImplNode) (t : TrailState) (q : Queue) (ls : List ℕ) →
     RoundInvariant words db w x a g t q → IsLoadable (state_of a g t) q ls → length ls ≡ 2 →
     RoundInvariant words db w (with_binary (get_or ls 0 0) (get_or ls 1 0) x) a g t q
 sound_loaded_binary words db w x a g t q ls h p two =
     let s : PropagationState = state_of a g t in
-    let y : IsSoundBelow words db w x a g t q (length t.starts + 1) = h.below in
+    let y : PartsInvariantBelow words db w x a g t q (length t.starts + 1) = h.below in
     let c : ℕ = get_or ls 0 0 in
     let d : ℕ = get_or ls 1 0 in
     let small_c : get_or ls 0 0 < 2 * length a.current = p.below 0 (omega arith) in
     let small_d : get_or ls 1 0 < 2 * length a.current = p.below 1 (omega arith) in
-    let first : negated (get_or ls 0 0) < length x.implied = omega (arith, y.asks.ranges.room) in
-    let second : negated (get_or ls 1 0) < length x.implied = omega (arith, y.asks.ranges.room) in
+    let first : negated (get_or ls 0 0) < length x.implied = omega (arith, y.propagation.ranges.room) in
+    let second : negated (get_or ls 1 0) < length x.implied = omega (arith, y.propagation.ranges.room) in
     record {
       below = record {
-        held = y.held;
-        asks = asks_of_unit words db.refs w (with_binary c d x).implied s (length t.starts + 1) 0
-            (asks_binary_added words db.refs w x s (length t.starts + 1) 0 (get_or ls 0 0) (get_or ls 1 0) NoCause y.asks small_c small_d
+        db_matches = y.db_matches;
+        propagation = asks_of_unit words db.refs w (with_binary c d x).implied s (length t.starts + 1) 0
+            (asks_binary_added words db.refs w x s (length t.starts + 1) 0 (get_or ls 0 0) (get_or ls 1 0) NoCause y.propagation small_c small_d
             (λ left due. absurd (p.fresh 0 (omega arith) left)) (λ left due. absurd (p.fresh 1 (omega arith) left)));
-        turns = turns_binary words (live_refs words db.refs) x s (get_or ls 0 0) (get_or ls 1 0) first second y.turns;
+        reasons = turns_binary words (live_refs words db.refs) x s (get_or ls 0 0) (get_or ls 1 0) first second y.reasons;
         levelled = y.levelled;
         queue = y.queue;
         ready = λ u lt none. elim (cases_Bool (is_available q u)) [
@@ -95,14 +95,14 @@ lost_true s v m below h = elim (cases_eq (variable m) v) [
 ]
 
 -- a variable in no clause is freed while the trail is empty
-pub sound_freed : (words : List ℕ) (db : Db) (w : Watching) (b : Binaries) (a : Values) (g : List ImplNode) (t : Trailed) (q : Queue) (v : ℕ) →
-    RoundInvariant words db w b a g t q → t.starts ≡ [] → t.lits ≡ [] → v < length a.current → IsUnused words (live_refs words db.refs) b.implied v →
+pub sound_freed : (words : List ℕ) (db : Db) (w : WatchState) (b : Binaries) (a : Values) (g : List ImplNode) (t : TrailState) (q : Queue) (v : ℕ) →
+    RoundInvariant words db w b a g t q → t.starts ≡ [] → t.lits ≡ [] → v < length a.current → IsInNoClause words (live_refs words db.refs) b.implied v →
     RoundInvariant words db w b (with_value v None a) g t (with_available v false q)
 sound_freed words db w b a g t q v h bottom empty below unused =
     let s : PropagationState = state_of a g t in
     let s' : PropagationState = lost_value v (state_of a g t) in
-    let y : IsSoundBelow words db w b a g t q (length t.starts + 1) = h.below in
-    let old : StateIsConsistent (state_of a g t) = y.asks.agrees in
+    let y : PartsInvariantBelow words db w b a g t q (length t.starts + 1) = h.below in
+    let old : StateIsConsistent (state_of a g t) = y.propagation.agrees in
     let none : length t.lits ≡ 0 = ap (λ (xs : List ℕ). length xs) empty in
     let size : length (set a.current v None) ≡ length a.current = length-set a.current v None in
     let kept : (m : ℕ) → variable m ≢ v → IsTrueLit a.current m → IsTrueLit (lost_value v (state_of a g t)).values m = λ m n holds. get_or-set_other a.current v (variable m) None None n ∙ holds in
@@ -124,28 +124,28 @@ sound_freed words db w b a g t q v h bottom empty below unused =
     ] in
     record {
       below = record {
-        held = y.held;
-        asks = record {
-          holds_clauses = y.asks.holds_clauses;
-          clauses = subst (λ (k : ℕ). AreClauses words (live_refs words db.refs) k) (sym size) y.asks.clauses;
-          room = y.asks.room ∙ ap (λ k. 2 * k) (sym size);
-          watches = λ on. subst (λ (k : ℕ). AreWatched words (live_refs words db.refs) w.lists k) (sym size) (y.asks.watches on);
+        db_matches = y.db_matches;
+        propagation = record {
+          holds_clauses = y.propagation.holds_clauses;
+          clauses = subst (λ (k : ℕ). AreLongClauses words (live_refs words db.refs) k) (sym size) y.propagation.clauses;
+          room = y.propagation.room ∙ ap (λ k. 2 * k) (sym size);
+          watches = λ on. subst (λ (k : ℕ). AreWatched words (live_refs words db.refs) w.lists k) (sym size) (y.propagation.watches on);
           agrees = agrees;
           queue = λ i le lt. absurd (omega arith);
           firsts = λ i o lt e. absurd (omega arith);
           settled = λ o i c hi x d.
-              let z : IsSatisfied s (lits_at words o) (level s (negated (lit_of words o i))) = y.asks.settled o i c hi (left (negated (lit_of words o i)) x) d in
+              let z : IsSatisfied s (lits_at words o) (level s (negated (lit_of words o i))) = y.propagation.settled o i c hi (left (negated (lit_of words o i)) x) d in
               record { place = z.place; within = z.within; holds = kept (get_or (lits_at words o) z.place 0) (unused.long o z.place c z.within) z.holds; low = z.low };
-          ranges = subst (λ (k : ℕ). AreLists b.implied k) (sym size) y.asks.ranges;
+          ranges = subst (λ (k : ℕ). AreImpliedLists b.implied k) (sym size) y.propagation.ranges;
           binary = λ l k x d lt.
-              let z = y.asks.binary l k (left l x) d lt in
+              let z = y.propagation.binary l k (left l x) d lt in
               (kept (get_or (implied_by b.implied l) k 0) (unused.binary l k lt).1 z.0, z.1);
         };
-        turns = λ i le lt. absurd (omega arith);
+        reasons = λ i le lt. absurd (omega arith);
         levelled = levels_stay.none s' bottom;
         queue = length-set q.available v false ∙ y.queue ∙ sym size;
         ready = λ u lt open_u. elim (cases_eq u v) [
-          | inl e ↦ inr (subst (λ z. IsUnused words (live_refs words db.refs) b.implied z) (sym e) unused)
+          | inl e ↦ inr (subst (λ z. IsInNoClause words (live_refs words db.refs) b.implied z) (sym e) unused)
           | inr n ↦ elim (y.ready u (omega arith) (sym (get_or-set_other a.current v u None None n) ∙ open_u)) [
             | inl p ↦ inl (get_or-set_other q.available v u false false n ∙ p)
             | inr z ↦ inr z

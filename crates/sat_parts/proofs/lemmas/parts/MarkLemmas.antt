@@ -6,12 +6,12 @@ use Rattle.sat_parts.specs.clause.Db.{live_refs, is_live}
 use Rattle.sat_parts.specs.clause.Stored.{size_of}
 use Rattle.sat_parts.specs.prop.Binaries.{implied_by}
 use Rattle.sat_parts.proofs.lemmas.clause.ListLemmas.{place_in, at_place}
-use Rattle.sat_parts.specs.parts.Round.{IsUnused}
-use Rattle.sat_parts.specs.parts.Using.{MarksJustWhere, HasVar, InLong, InBinary}
+use Rattle.sat_parts.specs.parts.Round.{IsInNoClause}
+use Rattle.sat_parts.specs.parts.Using.{MarksExactly, OccursInClauseLits, OccursInLongClauses, OccursInBinaryClauses}
 use Rattle.sat_parts.proofs.lemmas.parts.ReduceLemmas.{filter_in, in_filter}
 
 -- two passes mark the variables that either of them marks
-pub marks_more : (a b c : List Bool) (P Q R : ℕ → Type 0) → MarksJustWhere a b P → MarksJustWhere b c Q → ((v : ℕ) → P v → R v) → ((v : ℕ) → Q v → R v) → ((v : ℕ) → R v → P v ⊎ Q v) → MarksJustWhere a c R
+pub marks_more : (a b c : List Bool) (P Q R : ℕ → Type 0) → MarksExactly a b P → MarksExactly b c Q → ((v : ℕ) → P v → R v) → ((v : ℕ) → Q v → R v) → ((v : ℕ) → R v → P v ⊎ Q v) → MarksExactly a c R
 marks_more a b c P Q R x y p q r = record {
   size = y.size ∙ x.size;
   kept = λ v t. y.kept v (x.kept v t);
@@ -19,22 +19,22 @@ marks_more a b c P Q R x y p q r = record {
   only = λ v t. elim (y.only v t) [ inl w ↦ elim (x.only v w) [ inl u ↦ inl u | inr u ↦ inr (p v u) ] | inr w ↦ inr (q v w) ];
 }
 
-pub marks_same : (a b : List Bool) (P R : ℕ → Type 0) → MarksJustWhere a b P → ((v : ℕ) → P v → R v) → ((v : ℕ) → R v → P v) → MarksJustWhere a b R
+pub marks_same : (a b : List Bool) (P R : ℕ → Type 0) → MarksExactly a b P → ((v : ℕ) → P v → R v) → ((v : ℕ) → R v → P v) → MarksExactly a b R
 marks_same a b P R x p r = record { size = x.size; kept = x.kept; all = λ v z. x.all v (r v z); only = λ v t. elim (x.only v t) [ inl u ↦ inl u | inr u ↦ inr (p v u) ] }
 
 -- one more clause, live or deleted
-pub long_more : (a b c : List Bool) (words refs : List ℕ) (n o : ℕ) → MarksJustWhere a b (InLong words refs n) → get_or refs n 0 ≡ o → is_live words o ≡ true → MarksJustWhere b c (HasVar words o (size_of words o)) → MarksJustWhere a c (InLong words refs (n + 1))
-long_more a b c words refs n o x e live y = marks_more a b c (InLong words refs n) (HasVar words o (size_of words o)) (InLong words refs (n + 1)) x y
+pub long_more : (a b c : List Bool) (words refs : List ℕ) (n o : ℕ) → MarksExactly a b (OccursInLongClauses words refs n) → get_or refs n 0 ≡ o → is_live words o ≡ true → MarksExactly b c (OccursInClauseLits words o (size_of words o)) → MarksExactly a c (OccursInLongClauses words refs (n + 1))
+long_more a b c words refs n o x e live y = marks_more a b c (OccursInLongClauses words refs n) (OccursInClauseLits words o (size_of words o)) (OccursInLongClauses words refs (n + 1)) x y
     (λ v z. (z.0, (omega (arith, z.1.0), z.1.1, z.1.2)))
-    (λ v z. (n, (omega arith, subst (λ p. is_live words p ≡ true) (sym e) live, subst (λ p. HasVar words p (size_of words p) v) (sym e) z)))
+    (λ v z. (n, (omega arith, subst (λ p. is_live words p ≡ true) (sym e) live, subst (λ p. OccursInClauseLits words p (size_of words p) v) (sym e) z)))
     (λ v z. elim (cases_lt z.0 n) [
       | inl lt ↦ inl (z.0, (lt, z.1.1, z.1.2))
-      | inr ge ↦ inr (subst (λ p. HasVar words p (size_of words p) v) (ap (λ k. get_or refs k 0) (let q : z.0 ≡ n = omega (arith, z.1.0) in q) ∙ e) z.1.2)
+      | inr ge ↦ inr (subst (λ p. OccursInClauseLits words p (size_of words p) v) (ap (λ k. get_or refs k 0) (let q : z.0 ≡ n = omega (arith, z.1.0) in q) ∙ e) z.1.2)
     ])
 
 -- a deleted clause has no variable to mark
-pub long_skip : (a b : List Bool) (words refs : List ℕ) (n o : ℕ) → MarksJustWhere a b (InLong words refs n) → get_or refs n 0 ≡ o → is_live words o ≡ false → MarksJustWhere a b (InLong words refs (n + 1))
-long_skip a b words refs n o x e dead = marks_same a b (InLong words refs n) (InLong words refs (n + 1)) x
+pub long_skip : (a b : List Bool) (words refs : List ℕ) (n o : ℕ) → MarksExactly a b (OccursInLongClauses words refs n) → get_or refs n 0 ≡ o → is_live words o ≡ false → MarksExactly a b (OccursInLongClauses words refs (n + 1))
+long_skip a b words refs n o x e dead = marks_same a b (OccursInLongClauses words refs n) (OccursInLongClauses words refs (n + 1)) x
     (λ v z. (z.0, (omega (arith, z.1.0), z.1.1, z.1.2)))
     (λ v z. elim (cases_lt z.0 n) [
       | inl lt ↦ (z.0, (lt, z.1.1, z.1.2))
@@ -42,12 +42,12 @@ long_skip a b words refs n o x e dead = marks_same a b (InLong words refs n) (In
     ])
 
 -- a variable is unmarked exactly if it is in no clause
-pub unmarked : (a b c : List Bool) (words refs : List ℕ) (implied : List (List ℕ)) (v : ℕ) → MarksJustWhere a b (InLong words refs (length refs)) → MarksJustWhere b c (InBinary implied (length implied)) → get_or c v false ≡ false → IsUnused words (live_refs words refs) implied v
+pub unmarked : (a b c : List Bool) (words refs : List ℕ) (implied : List (List ℕ)) (v : ℕ) → MarksExactly a b (OccursInLongClauses words refs (length refs)) → MarksExactly b c (OccursInBinaryClauses implied (length implied)) → get_or c v false ≡ false → IsInNoClause words (live_refs words refs) implied v
 unmarked a b c words refs implied v x y off = record {
   long = λ o k live lt e.
       let p = filter_in (is_live words) refs o live in
       let at : get_or refs p.0.0 0 ≡ o = at_place refs o p.0 in
-      true≢false (sym (y.kept v (x.all v (p.0.0, (p.0.1, subst (λ z. is_live words z ≡ true) (sym at) p.1, subst (λ z. HasVar words z (size_of words z) v) (sym at) (k, (lt, e)))))) ∙ off);
+      true≢false (sym (y.kept v (x.all v (p.0.0, (p.0.1, subst (λ z. is_live words z ≡ true) (sym at) p.1, subst (λ z. OccursInClauseLits words z (size_of words z) v) (sym at) (k, (lt, e)))))) ∙ off);
   binary = λ l k lt.
       let within : l < length implied = elim (cases_lt l (length implied)) [
         | inl b ↦ b
@@ -56,7 +56,7 @@ unmarked a b c words refs implied v x y off = record {
       (λ e. true≢false (sym (y.all v (l, (within, omega arith, inl e))) ∙ off), λ e. true≢false (sym (y.all v (l, (within, omega arith, inr (k, (lt, e))))) ∙ off));
 }
 
-pub marked_none : (a b c : List Bool) (words refs : List ℕ) (implied : List (List ℕ)) (v : ℕ) → get_or a v false ≡ false → MarksJustWhere a b (InLong words refs (length refs)) → MarksJustWhere b c (InBinary implied (length implied)) → IsUnused words (live_refs words refs) implied v → get_or c v false ≡ false
+pub marked_none : (a b c : List Bool) (words refs : List ℕ) (implied : List (List ℕ)) (v : ℕ) → get_or a v false ≡ false → MarksExactly a b (OccursInLongClauses words refs (length refs)) → MarksExactly b c (OccursInBinaryClauses implied (length implied)) → IsInNoClause words (live_refs words refs) implied v → get_or c v false ≡ false
 marked_none a b c words refs implied v none x y unused = elim (cases_Bool (get_or c v false)) [
   | inr off ↦ off
   | inl on ↦ elim (y.only v on) [

@@ -6,12 +6,12 @@ use Rattle.std.proofs.lemmas.List.Sorted.{IsPermutation-map, IsPermutation-sym, 
 use Rattle.std.specs.List.{Contains, filter}
 use Rattle.std.specs.List.Sorted.{IsPermutation, IsNonDecreasingBy}
 use Rattle.sat_store.specs.declared.clause.tier.Tier.{Tier}
-use Rattle.sat_store.specs.clause.Header.{index_of}
+use Rattle.sat_store.specs.clause.Header.{tier_index}
 use Rattle.sat_store.specs.clause.Buffer.{header_at}
 use Rattle.sat_parts.specs.clause.Db.{live_refs, is_live, is_live_in_tier, AreStrictlyIncreasing}
 use Rattle.sat_parts.specs.clause.Orders.{AreDistinct, IsReordering}
 use Rattle.sat_parts.proofs.lemmas.clause.ListLemmas.{there, in_head, in_tail, place_in, rising_distinct}
-use Rattle.sat_parts.specs.parts.Reducing.{clause_rank, ranked}
+use Rattle.sat_parts.specs.parts.Reducing.{clause_rank, with_rank}
 use Rattle.sat_parts.proofs.lemmas.parts.SortLemmas.{shuffled_by}
 
 -- what is in a filtered list is in the list and passes the test
@@ -51,7 +51,7 @@ first_true false b e = e
 pub live_of : (words refs : List ℕ) (tier : Tier) (o : ℕ) → Contains (filter (is_live_in_tier words tier) refs) o → Contains (live_refs words refs) o
 live_of words refs tier o c =
     let x = filter_in (is_live_in_tier words tier) refs o c in
-    in_filter (is_live words) refs o x.0 (first_true (is_live words o) (index_of (header_at words o).tier == index_of tier) x.1)
+    in_filter (is_live words) refs o x.0 (first_true (is_live words o) (tier_index (header_at words o).tier == tier_index tier) x.1)
 
 distinct_more : (x : ℕ) (xs : List ℕ) → (Contains xs x → ⊥) → AreDistinct xs → AreDistinct (x ∷ xs)
 distinct_more x xs n d zero zero a b e = refl
@@ -89,27 +89,27 @@ listed_live words refs list tier p k b =
 
 -- RANKS
 
-without_ranks : (words list : List ℕ) → map (λ (x : ℕ × ℕ). x.1) (map (ranked words) list) ≡ list
+without_ranks : (words list : List ℕ) → map (λ (x : ℕ × ℕ). x.1) (map (with_rank words) list) ≡ list
 without_ranks words [] = refl
 without_ranks words (o ∷ os) = ap (λ (xs : List ℕ). o ∷ xs) (without_ranks words os)
 
-pub permuted_ranks : (words list : List ℕ) (pairs : List (ℕ × ℕ)) → IsPermutation (map (ranked words) list) pairs → IsPermutation list (map (λ (x : ℕ × ℕ). x.1) pairs)
-permuted_ranks words list pairs p = subst (λ (xs : List ℕ). IsPermutation xs (map (λ (x : ℕ × ℕ). x.1) pairs)) (without_ranks words list) (IsPermutation-map (λ (x : ℕ × ℕ). x.1) (map (ranked words) list) pairs p)
+pub permuted_ranks : (words list : List ℕ) (pairs : List (ℕ × ℕ)) → IsPermutation (map (with_rank words) list) pairs → IsPermutation list (map (λ (x : ℕ × ℕ). x.1) pairs)
+permuted_ranks words list pairs p = subst (λ (xs : List ℕ). IsPermutation xs (map (λ (x : ℕ × ℕ). x.1) pairs)) (without_ranks words list) (IsPermutation-map (λ (x : ℕ × ℕ). x.1) (map (with_rank words) list) pairs p)
 
 there_pair : (pairs : List (ℕ × ℕ)) (k : ℕ) (d : ℕ × ℕ) → k < length pairs → Contains pairs (get_or pairs k d)
 there_pair pairs k d b = (k, b, get_or_default pairs k (get_or pairs k d) d b)
 
-is_ranked : (words list : List ℕ) (x : ℕ × ℕ) → Contains (map (ranked words) list) x → x.0 ≡ clause_rank words x.1
+is_ranked : (words list : List ℕ) (x : ℕ × ℕ) → Contains (map (with_rank words) list) x → x.0 ≡ clause_rank words x.1
 is_ranked words list x c =
-    let size : length (map (ranked words) list) ≡ length list = length-map list (ranked words) in
-    let e : ranked words (get_or list c.0 0) ≡ x = sym (get_or-map (ranked words) list c.0 0 x (omega (arith, c.1))) ∙ c.2 in
+    let size : length (map (with_rank words) list) ≡ length list = length-map list (with_rank words) in
+    let e : with_rank words (get_or list c.0 0) ≡ x = sym (get_or-map (with_rank words) list c.0 0 x (omega (arith, c.1))) ∙ c.2 in
     subst (λ (z : ℕ × ℕ). z.0 ≡ clause_rank words z.1) e refl
 
 -- sorted by rank, the clauses are sorted by activity, then by offset
-pub rising_ranks : (words list : List ℕ) (pairs : List (ℕ × ℕ)) → IsPermutation (map (ranked words) list) pairs → IsNonDecreasingBy (λ (x : ℕ × ℕ). x.0) pairs → IsNonDecreasingBy (clause_rank words) (map (λ (x : ℕ × ℕ). x.1) pairs)
+pub rising_ranks : (words list : List ℕ) (pairs : List (ℕ × ℕ)) → IsPermutation (map (with_rank words) list) pairs → IsNonDecreasingBy (λ (x : ℕ × ℕ). x.0) pairs → IsNonDecreasingBy (clause_rank words) (map (λ (x : ℕ × ℕ). x.1) pairs)
 rising_ranks words list pairs p rising i j d le lt =
     let size : length (map (λ (x : ℕ × ℕ). x.1) pairs) ≡ length pairs = length-map pairs (λ (x : ℕ × ℕ). x.1) in
     let at : (k : ℕ) → k < length pairs → (get_or pairs k (0, d)).0 ≡ clause_rank words (get_or (map (λ (x : ℕ × ℕ). x.1) pairs) k d) = λ k b.
-    is_ranked words list (get_or pairs k (0, d)) (Contains-permutation pairs (map (ranked words) list) (get_or pairs k (0, d)) (IsPermutation-sym (map (ranked words) list) pairs p) (there_pair pairs k (0, d) b))
+    is_ranked words list (get_or pairs k (0, d)) (Contains-permutation pairs (map (with_rank words) list) (get_or pairs k (0, d)) (IsPermutation-sym (map (with_rank words) list) pairs p) (there_pair pairs k (0, d) b))
     ∙ ap (λ o. clause_rank words o) (sym (get_or-map (λ (x : ℕ × ℕ). x.1) pairs k (0, d) d b)) in
     omega (arith, at i (omega arith), at j (omega arith), rising i j (0, d) le (omega arith))

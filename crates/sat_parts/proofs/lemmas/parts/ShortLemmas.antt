@@ -12,14 +12,14 @@ use Rattle.sat_parts.specs.declared.prop.graph.Reason.{Reason}
 use Rattle.sat_parts.specs.declared.prop.graph.Reason.TheVariants.{Unit as NoCause, Binary, Long}
 use Rattle.sat_parts.specs.clause.Db.{Db, live_refs, ShortensClause}
 use Rattle.sat_parts.specs.clause.Orders.{AreDistinct, IsReordering, PermutesClause, SameUpToOrder, PermutesClauses}
-use Rattle.sat_parts.specs.clause.Stored.{AreClauses, lit_of, size_of}
+use Rattle.sat_parts.specs.clause.Stored.{AreLongClauses, lit_of, size_of}
 use Rattle.sat_parts.specs.prop.Binaries.{Binaries}
 use Rattle.sat_parts.specs.prop.Values.{Values, IsTrueLit}
 use Rattle.sat_parts.specs.declared.prop.watch.Watch.{Watch}
-use Rattle.sat_parts.specs.prop.Trails.{Trailed}
-use Rattle.sat_parts.specs.prop.WatchLists.{Watching, watches_of, no_watch}
+use Rattle.sat_parts.specs.prop.Trails.{TrailState}
+use Rattle.sat_parts.specs.prop.WatchLists.{WatchState, watches_of, no_watch}
 use Rattle.sat_parts.specs.prop.State.{PropagationState, node, level, lit_at, HasLeftQueue, IsSatisfied}
-use Rattle.sat_parts.specs.prop.Reasons.{IsFalseBefore, Implies, PropagatesOn}
+use Rattle.sat_parts.specs.prop.Reasons.{IsFalseBefore, ReasonImplies, PropagationEffect}
 use Rattle.sat_parts.specs.prop.Ready.{state_of, AreWatched, HasWatch}
 use Rattle.sat_parts.specs.prop.Propagation.{PropagationInvariant}
 use Rattle.sat_parts.proofs.lemmas.clause.OrderLemmas.{reorders_one, kept_clauses}
@@ -28,11 +28,11 @@ use Rattle.sat_parts.proofs.lemmas.prop.BuildLemmas.{live_in, live_same}
 use Rattle.sat_parts.proofs.lemmas.prop.ReasonLemmas.{moves_shuffled}
 use Rattle.sat_parts.proofs.lemmas.prop.WalkLemmas.{at_two}
 use Rattle.sat_parts.proofs.lemmas.prop.StateLemmas.{left_true, level_low}
-use Rattle.sat_parts.specs.parts.Round.{IsSoundBelow, RoundInvariant}
+use Rattle.sat_parts.specs.parts.Round.{PartsInvariantBelow, RoundInvariant}
 use Rattle.sat_parts.proofs.lemmas.parts.MoveLemmas.{sound_moved}
 
 -- the literals of one clause after the first two are permuted
-pub asks_shuffled : (words words' refs : List ℕ) (w : Watching) (implied : List (List ℕ)) (s : PropagationState) (top o : ℕ) → PropagationInvariant words refs w implied s top → Contains (live_refs words refs) o → PermutesClause words words' o →
+pub asks_shuffled : (words words' refs : List ℕ) (w : WatchState) (implied : List (List ℕ)) (s : PropagationState) (top o : ℕ) → PropagationInvariant words refs w implied s top → Contains (live_refs words refs) o → PermutesClause words words' o →
     lit_of words' o 0 ≡ lit_of words o 0 → lit_of words' o 1 ≡ lit_of words o 1 → PropagationInvariant words' refs w implied s top
 asks_shuffled words words' refs w implied s top o h c x first second =
     let live : List ℕ = live_refs words refs in
@@ -55,7 +55,7 @@ asks_shuffled words words' refs w implied s top o h c x first second =
     let old_in : (p : ℕ) → Contains (live_refs words' refs) p → Contains (live_refs words refs) p = λ p d. subst (λ (xs : List ℕ). Contains xs p) e d in
     record {
       holds_clauses = k.holds_clauses;
-      clauses = subst (λ (xs : List ℕ). AreClauses words' xs (length s.values)) (sym e) (kept_clauses words words' live (length s.values) h.clauses r);
+      clauses = subst (λ (xs : List ℕ). AreLongClauses words' xs (length s.values)) (sym e) (kept_clauses words words' live (length s.values) h.clauses r);
       room = h.room;
       watches = λ on.
           let v : AreWatched words (live_refs words refs) w.lists (length s.values) = h.watches on in
@@ -81,16 +81,16 @@ asks_shuffled words words' refs w implied s top o h c x first second =
       binary = h.binary;
     }
 
-pub sound_shuffled : (words words' : List ℕ) (db : Db) (w : Watching) (b : Binaries) (a : Values) (g : List ImplNode) (t : Trailed) (q : Queue) (o : ℕ) →
+pub sound_shuffled : (words words' : List ℕ) (db : Db) (w : WatchState) (b : Binaries) (a : Values) (g : List ImplNode) (t : TrailState) (q : Queue) (o : ℕ) →
     RoundInvariant words db w b a g t q → Contains (live_refs words db.refs) o → PermutesClause words words' o → lit_of words' o 0 ≡ lit_of words o 0 → lit_of words' o 1 ≡ lit_of words o 1 → RoundInvariant words' db w b a g t q
 sound_shuffled words words' db w b a g t q o h c x first second =
     let s : PropagationState = state_of a g t in
-    let y : IsSoundBelow words db w b a g t q (length t.starts + 1) = h.below in
-    let m : PropagatesOn (live_refs words db.refs) b.implied words s words' s = moves_shuffled (live_refs words db.refs) b.implied words s words' o (length a.current) y.asks.agrees y.asks.clauses c x (λ _. first) in
-    let k : SameUpToOrder words words' db.refs = m.reorders.all db.refs (λ p d. live_in words db.refs p d) y.asks.holds_clauses in
+    let y : PartsInvariantBelow words db w b a g t q (length t.starts + 1) = h.below in
+    let m : PropagationEffect (live_refs words db.refs) b.implied words s words' s = moves_shuffled (live_refs words db.refs) b.implied words s words' o (length a.current) y.propagation.agrees y.propagation.clauses c x (λ _. first) in
+    let k : SameUpToOrder words words' db.refs = m.reorders.all db.refs (λ p d. live_in words db.refs p d) y.propagation.holds_clauses in
     record {
-      below = sound_moved words words' db w w b a a g g t t q (length t.starts + 1) (length t.starts + 1) y (held_reordered words words' db y.held m.reorders) m
-          (live_same words words' db.refs k.headers) (asks_shuffled words words' db.refs w b.implied s (length t.starts + 1) o y.asks c x first second);
+      below = sound_moved words words' db w w b a a g g t t q (length t.starts + 1) (length t.starts + 1) y (held_reordered words words' db y.db_matches m.reorders) m
+          (live_same words words' db.refs k.headers) (asks_shuffled words words' db.refs w b.implied s (length t.starts + 1) o y.propagation c x first second);
       units = h.units;
       base = h.base;
     }
@@ -103,7 +103,7 @@ distinct_taken ls n le d j k a b e =
 shorter_turn : (words words' live live' : List ℕ) (implied : List (List ℕ)) (s : PropagationState) (i o len : ℕ) (r : Reason) → live' ≡ live →
     ((p : ℕ) → Contains live' p → (k : ℕ) → k < size_of words' p → (lit_of words' p k ≡ lit_of words p k) × (k < size_of words p)) →
     ((p : ℕ) → Contains live' p → lit_of words' p 0 ≡ lit_of words p 0) →
-    Implies words live implied s i r → Implies words' live' implied s i r
+    ReasonImplies words live implied s i r → ReasonImplies words' live' implied s i r
 shorter_turn words words' live live' implied s i o len NoCause e same first h = tt
 shorter_turn words words' live live' implied s i o len (Binary ls) e same first h = h
 shorter_turn words words' live live' implied s i o len (Long p) e same first h =
@@ -114,14 +114,14 @@ shorter_turn words words' live live' implied s i o len (Long p) e same first h =
     )
 
 -- shortening a clause whose first two literals are not false by a literal that has left the queue
-pub sound_shortened : (words words' : List ℕ) (db : Db) (w w' : Watching) (b : Binaries) (a : Values) (g : List ImplNode) (t : Trailed) (q : Queue) (o len : ℕ) →
+pub sound_shortened : (words words' : List ℕ) (db : Db) (w w' : WatchState) (b : Binaries) (a : Values) (g : List ImplNode) (t : TrailState) (q : Queue) (o len : ℕ) →
     RoundInvariant words db w b a g t q → Contains (live_refs words db.refs) o → 3 ≤ len → len ≤ size_of words o → ShortensClause words db words' o len → w' ≡ record w { enabled = false } →
     ((i : ℕ) → i < 2 → HasLeftQueue (state_of a g t) (negated (lit_of words o i)) → ⊥) → RoundInvariant words' db w' b a g t q
 sound_shortened words words' db w w' b a g t q o len h c three le x to_w fresh =
     let s : PropagationState = state_of a g t in
-    let y : IsSoundBelow words db w b a g t q (length t.starts + 1) = h.below in
+    let y : PartsInvariantBelow words db w b a g t q (length t.starts + 1) = h.below in
     let size : length (take len (lits_at words o)) ≡ len = length-take-le len (lits_at words o) le in
-    let off : w'.enabled ≡ false = ap (λ (z : Watching). z.enabled) to_w in
+    let off : w'.enabled ≡ false = ap (λ (z : WatchState). z.enabled) to_w in
     let old_in : (p : ℕ) → Contains (live_refs words' db.refs) p → Contains (live_refs words db.refs) p = λ p d. subst (λ (xs : List ℕ). Contains xs p) x.live d in
     -- a property of all old clauses and of the shortened one
     let from : (P : ℕ → List ℕ → Type 0) → ((p : ℕ) → Contains (live_refs words db.refs) p → P p (lits_at words p)) → P o (take len (lits_at words o)) → (p : ℕ) → Contains (live_refs words' db.refs) p → P p (lits_at words' p) =
@@ -134,34 +134,34 @@ sound_shortened words words' db w w' b a g t q o len h c three le x to_w fresh =
     from (λ p ls. get_or ls 0 0 ≡ lit_of words p 0) (λ p d. refl) (at 0 (omega arith)) in
     record {
       below = record {
-        held = x.holds;
-        asks = record {
+        db_matches = x.holds;
+        propagation = record {
           holds_clauses = x.holds.holds_clauses;
           clauses = record {
             holds_clauses = holds_among words' db.refs (live_refs words' db.refs) (λ p d. live_in words' db.refs p d) x.holds.holds_clauses;
-            long = from (λ p ls. 3 ≤ length ls) (λ p d. y.asks.clauses.long p d) (omega arith);
-            below = λ p k d. from (λ z ls. k < length ls → get_or ls k 0 < 2 * length a.current) (λ z f. y.asks.clauses.below z k f)
-                (λ lt. subst (λ m. m < 2 * length a.current) (sym (at k (omega arith))) (y.asks.clauses.below o k c (omega arith))) p d;
-            distinct = from (λ p ls. AreDistinct ls) (λ p d. y.asks.clauses.distinct p d) (distinct_taken (lits_at words o) len le (y.asks.clauses.distinct o c));
+            long = from (λ p ls. 3 ≤ length ls) (λ p d. y.propagation.clauses.long p d) (omega arith);
+            below = λ p k d. from (λ z ls. k < length ls → get_or ls k 0 < 2 * length a.current) (λ z f. y.propagation.clauses.below z k f)
+                (λ lt. subst (λ m. m < 2 * length a.current) (sym (at k (omega arith))) (y.propagation.clauses.below o k c (omega arith))) p d;
+            distinct = from (λ p ls. AreDistinct ls) (λ p d. y.propagation.clauses.distinct p d) (distinct_taken (lits_at words o) len le (y.propagation.clauses.distinct o c));
           };
-          room = ap (λ (z : Watching). length z.lists) to_w ∙ y.asks.room;
+          room = ap (λ (z : WatchState). length z.lists) to_w ∙ y.propagation.room;
           watches = λ on. absurd (true≢false (sym on ∙ off));
-          agrees = y.asks.agrees;
-          queue = y.asks.queue;
+          agrees = y.propagation.agrees;
+          queue = y.propagation.queue;
           firsts = λ i p lt e.
-              let f : Contains (live_refs words db.refs) p × (lit_of words p 0 ≡ lit_at s i) = y.asks.firsts i p lt e in
+              let f : Contains (live_refs words db.refs) p × (lit_of words p 0 ≡ lit_at s i) = y.propagation.firsts i p lt e in
               let d : Contains (live_refs words' db.refs) p = subst (λ (xs : List ℕ). Contains xs p) (sym x.live) f.0 in
               (d, first_same p d ∙ f.1);
           settled = λ p i d b.
               from (λ z ls. HasLeftQueue s (negated (get_or ls i 0)) → level s (negated (get_or ls i 0)) < length t.starts + 1 → IsSatisfied s ls (level s (negated (get_or ls i 0))))
-              (λ z f left due. y.asks.settled z i f b left due)
+              (λ z f left due. y.propagation.settled z i f b left due)
               (λ left due. absurd (fresh i b (subst (λ m. HasLeftQueue s (negated m)) (at i (omega arith)) left))) p d;
-          ranges = y.asks.ranges;
-          binary = y.asks.binary;
+          ranges = y.propagation.ranges;
+          binary = y.propagation.binary;
         };
-        turns = λ i z lt. shorter_turn words words' (live_refs words db.refs) (live_refs words' db.refs) b.implied s i o len (node s (lit_at s i)).reason x.live
+        reasons = λ i z lt. shorter_turn words words' (live_refs words db.refs) (live_refs words' db.refs) b.implied s i o len (node s (lit_at s i)).reason x.live
             (λ p d. from (λ z ls. (k : ℕ) → k < length ls → (get_or ls k 0 ≡ lit_of words z k) × (k < size_of words z)) (λ z f k lt. (refl, lt)) (λ k lt. (at k (omega arith), omega arith)) p d)
-            first_same (y.turns i z lt);
+            first_same (y.reasons i z lt);
         levelled = y.levelled;
         queue = y.queue;
         ready = λ u lt none. elim (y.ready u lt none) [
@@ -178,10 +178,10 @@ sound_shortened words words' db w w' b a g t q o len h c three le x to_w fresh =
     }
 
 -- a live clause without a true literal: its first two are not false by literals that have left the queue
-pub fresh_unsatisfied : (words : List ℕ) (db : Db) (w : Watching) (b : Binaries) (a : Values) (g : List ImplNode) (t : Trailed) (q : Queue) (o : ℕ) → RoundInvariant words db w b a g t q → Contains (live_refs words db.refs) o →
+pub fresh_unsatisfied : (words : List ℕ) (db : Db) (w : WatchState) (b : Binaries) (a : Values) (g : List ImplNode) (t : TrailState) (q : Queue) (o : ℕ) → RoundInvariant words db w b a g t q → Contains (live_refs words db.refs) o →
     ((k : ℕ) → k < size_of words o → IsTrueLit a.current (lit_of words o k) → ⊥) → (i : ℕ) → i < 2 → HasLeftQueue (state_of a g t) (negated (lit_of words o i)) → ⊥
 fresh_unsatisfied words db w b a g t q o h c none i lt left =
     let s : PropagationState = state_of a g t in
     let m : ℕ = negated (lit_of words o i) in
-    let z : IsSatisfied s (lits_at words o) (level s (negated (lit_of words o i))) = h.below.asks.settled o i c lt left (omega (arith, level_low s m h.below.asks.agrees (left_true s m h.below.asks.agrees left))) in
+    let z : IsSatisfied s (lits_at words o) (level s (negated (lit_of words o i))) = h.below.propagation.settled o i c lt left (omega (arith, level_low s m h.below.propagation.agrees (left_true s m h.below.propagation.agrees left))) in
     none z.place z.within z.holds

@@ -12,7 +12,7 @@ use Rattle.sat_parts.specs.clause.Stored.{lit_of}
 use Rattle.sat_parts.specs.prop.Values.{IsUnassignedLit}
 use Rattle.sat_parts.specs.prop.Binaries.{implied_by}
 use Rattle.sat_parts.specs.prop.State.{PropagationState, node, level, lit_at, StateIsConsistent, TrailGrows, enqueued}
-use Rattle.sat_parts.specs.prop.Reasons.{IsFalseBefore, Implies, AreUnitInTurn}
+use Rattle.sat_parts.specs.prop.Reasons.{IsFalseBefore, ReasonImplies, ReasonsAreUnit}
 use Rattle.sat_parts.proofs.lemmas.prop.StateLemmas.{grows_enqueued, lit_front, lit_last, node_kept, node_new}
 use Rattle.sat_parts.proofs.lemmas.prop.ReasonLemmas.{implies_forth}
 use Rattle.sat_parts.proofs.lemmas.prop.RoomLemmas.{room_for}
@@ -24,7 +24,7 @@ pub implies_by : (words words' live live' : List ℕ) (implied implied' : List (
     ((m : ℕ) → IsFalseBefore s i m → IsFalseBefore s' i m) →
     ((o : ℕ) → r ≡ Long o → Contains live o → Contains live' o × (lits_at words' o ≡ lits_at words o)) →
     ((ls : List ℕ) → r ≡ Binary ls → Contains (implied_by implied (negated (get_or ls 0 0))) (lit_at s i) → Contains (implied_by implied' (negated (get_or ls 0 0))) (lit_at s i)) →
-    Implies words live implied s i r → Implies words' live' implied' s' i r
+    ReasonImplies words live implied s i r → ReasonImplies words' live' implied' s' i r
 implies_by words words' live live' implied implied' s s' i NoCause e f long binary h = tt
 implies_by words words' live live' implied implied' s s' i (Binary ls) e f long binary h =
     (subst (λ (m : ℕ). Contains (implied_by implied' (negated (get_or ls 0 0))) m) (sym e) (binary ls refl h.0), f (get_or ls 0 0) h.1)
@@ -41,13 +41,13 @@ pub turns_by : (words words' live live' : List ℕ) (implied implied' : List (Li
     ((i o : ℕ) → i < length s.trail.lits → (node s (lit_at s i)).reason ≡ Long o → Contains live o → Contains live' o × (lits_at words' o ≡ lits_at words o)) →
     ((i : ℕ) (ls : List ℕ) → i < length s.trail.lits → (node s (lit_at s i)).reason ≡ Binary ls →
     Contains (implied_by implied (negated (get_or ls 0 0))) (lit_at s i) → Contains (implied_by implied' (negated (get_or ls 0 0))) (lit_at s i)) →
-    AreUnitInTurn words live implied s 0 → AreUnitInTurn words' live' implied' s 0
+    ReasonsAreUnit words live implied s 0 → ReasonsAreUnit words' live' implied' s 0
 turns_by words words' live live' implied implied' s long binary h i p b =
     implies_by words words' live live' implied implied' s s i (node s (lit_at s i)).reason refl (λ m x. x) (λ o e. long i o b e) (λ ls e. binary i ls b e) (h i p b)
 
 -- an unassigned literal becomes true by a unit clause
 pub turns_enqueued : (words live : List ℕ) (implied : List (List ℕ)) (s : PropagationState) (l : ℕ) (r : Reason) → StateIsConsistent s → IsUnassignedLit s.values l → variable l < length s.values →
-    Implies words live implied (enqueued l r s) (length s.trail.lits) r → AreUnitInTurn words live implied s 0 → AreUnitInTurn words live implied (enqueued l r s) 0
+    ReasonImplies words live implied (enqueued l r s) (length s.trail.lits) r → ReasonsAreUnit words live implied s 0 → ReasonsAreUnit words live implied (enqueued l r s) 0
 turns_enqueued words live implied s l r h n below cause x i p y =
     let t : PropagationState = enqueued l r s in
     let g : TrailGrows s t = grows_enqueued s l r h n below (room_for s l r h n below) in
@@ -55,15 +55,15 @@ turns_enqueued words live implied s l r h n below cause x i p y =
     elim (cases_eq i (length s.trail.lits)) [
       | inl e ↦
           let f : (node t (lit_at t i)).reason ≡ r = ap (λ m. (node t (lit_at t m)).reason) e ∙ ap (λ m. (node t m).reason) (lit_last s l r) ∙ ap (λ (z : ImplNode). z.reason) (node_new s l r (omega (arith, h.nodes))) in
-          subst (λ (z : Reason). Implies words live implied t i z) (sym f) (subst (λ (z : ℕ). Implies words live implied t z r) (sym e) cause)
+          subst (λ (z : Reason). ReasonImplies words live implied t i z) (sym f) (subst (λ (z : ℕ). ReasonImplies words live implied t z r) (sym e) cause)
       | inr d ↦
           let k : i < length s.trail.lits = omega arith in
           let f : (node t (lit_at t i)).reason ≡ (node s (lit_at s i)).reason = ap (λ m. (node t m).reason) (lit_front s l r i k) ∙ ap (λ (z : ImplNode). z.reason) (node_kept s l (lit_at s i) r n (h.holds i k)) in
-          subst (λ (z : Reason). Implies words live implied t i z) (sym f) (implies_forth words live implied s t i (node s (lit_at s i)).reason g k (x i p k))
+          subst (λ (z : Reason). ReasonImplies words live implied t i z) (sym f) (implies_forth words live implied s t i (node s (lit_at s i)).reason g k (x i p k))
     ]
 
 -- a level begins
-pub turns_raised : (words live : List ℕ) (implied : List (List ℕ)) (s : PropagationState) → AreUnitInTurn words live implied s 0 → AreUnitInTurn words live implied (raised s) 0
+pub turns_raised : (words live : List ℕ) (implied : List (List ℕ)) (s : PropagationState) → ReasonsAreUnit words live implied s 0 → ReasonsAreUnit words live implied (raised s) 0
 turns_raised words live implied s h i p b =
     implies_by words words live live implied implied s (raised s) i (node s (lit_at s i)).reason refl
     (λ m x. elim x [

@@ -4,7 +4,7 @@ use Rattle.std.specs.Prelude.{replicate, OnOk, OnErr}
 use Rattle.sat_parts.specs.declared.prop.graph.Conflict.{Conflict}
 use Rattle.sat_store.specs.declared.clause.alloc.StoreError.{StoreError}
 use Rattle.sat_parts.specs.prop.Propagation.{PropagationResult}
-use Rattle.sat_parts.specs.clause.Collected.{Collects, CollectsNothing}
+use Rattle.sat_parts.specs.clause.Collected.{CollectsGarbage, CollectsNothing}
 use Rattle.sat_parts.proofs.lemmas.parts.MoveLemmas.{sound_propagated}
 use Rattle.std.specs.List.{Contains}
 use Rattle.std.proofs.lemmas.Bool.{cases_eq, cases_lt, ne_eqb, eqb-true, true≢false}
@@ -21,16 +21,16 @@ use Rattle.sat_parts.specs.clause.Db.{Db, live_refs}
 use Rattle.sat_parts.specs.clause.Orders.{AreDistinct, SameUpToOrder}
 use Rattle.sat_parts.specs.clause.Stored.{size_of}
 use Rattle.sat_parts.specs.prop.Binaries.{Binaries}
-use Rattle.sat_parts.specs.prop.WatchLists.{Watching}
+use Rattle.sat_parts.specs.prop.WatchLists.{WatchState}
 use Rattle.sat_parts.specs.prop.Values.{Values, value_of, with_value, IsTrueLit, IsUnassignedLit}
 use Rattle.sat_parts.specs.prop.Graphs.{has_no_clause}
-use Rattle.sat_parts.specs.prop.Trails.{Trailed, with_lit, with_level, with_cleared, cut_to}
+use Rattle.sat_parts.specs.prop.Trails.{TrailState, with_lit, with_level, with_cleared, without_levels_above}
 use Rattle.sat_parts.specs.prop.State.{PropagationState, lit_at, TrailGrows, StateIsConsistent, enqueued}
-use Rattle.sat_parts.specs.prop.Reasons.{Implies, PropagatesOn}
+use Rattle.sat_parts.specs.prop.Reasons.{ReasonImplies, PropagationEffect}
 use Rattle.sat_parts.specs.prop.Ready.{state_of}
-use Rattle.sat_parts.specs.prop.Undone.{undone_to, undone_lits, all_available}
+use Rattle.sat_parts.specs.prop.Undone.{with_levels_undone, lits_above_level, with_all_available}
 use Rattle.sat_parts.specs.prop.Backtracked.{BacktrackEffect}
-use Rattle.sat_parts.specs.prop.TrailWord.{Letter, D, P, letter, letters, IsLowerWord, IsLevelled, decided_on}
+use Rattle.sat_parts.specs.prop.TrailWord.{Letter, D, P, trail_letter, letters, IsLowerWord, LevelsBeginWithDecisions, decided_on}
 use Rattle.sat_parts.proofs.lemmas.prop.WordLemmas.{words_rise}
 use Rattle.sat_parts.proofs.lemmas.prop.StateLemmas.{removed_forth, true_kept, node_kept}
 use Rattle.sat_parts.proofs.lemmas.prop.RoomLemmas.{places_apart, below_from_value}
@@ -38,9 +38,9 @@ use Rattle.sat_parts.proofs.lemmas.prop.BacktrackLemmas.{keeps_low, undone_lengt
 use Rattle.sat_parts.proofs.lemmas.prop.BuildLemmas.{live_in}
 use Rattle.sat_parts.specs.declared.parts.SearchState.{SearchState}
 use Rattle.sat_parts.specs.parts.Whole.{state}
-use Rattle.sat_parts.specs.parts.Round.{IsUnused, IsSoundBelow}
-use Rattle.sat_parts.specs.parts.Units.{removed}
-use Rattle.sat_parts.specs.parts.Words.{IsPrefix, trail_letters, IsIdle, IsGone, GoneAndIdleStay, IsWord, WordExtends, WordRises, IsTrailWord, TrailWordStays, TrailWordExtends, TrailWordRises, TrailWordExtendsFor, TrailWordRisesFor}
+use Rattle.sat_parts.specs.parts.Round.{IsInNoClause, PartsInvariantBelow}
+use Rattle.sat_parts.specs.parts.Units.{with_removed_units}
+use Rattle.sat_parts.specs.parts.Words.{IsPrefixWord, trail_letters, IsIdle, IsRemovedOrIdle, KeepsRemovedAndIdle, IsWordSinceAsk, WordExtends, WordIncreases, IsTrailWordSinceAsk, KeepsRemovedAndIdleForAll, TrailWordExtends, TrailWordIncreases, TrailWordExtendsFor, TrailWordIncreasesFor}
 use Rattle.sat_parts.proofs.lemmas.parts.ValueLemmas.{open_or_true, not_true}
 use Rattle.sat_parts.proofs.lemmas.parts.ClearLemmas.{all_removed, apart_removed}
 
@@ -48,10 +48,10 @@ append_none : (u : List Letter) → u ++ [] ≡ u
 append_none [] = refl
 append_none (x ∷ u) = ap (λ (v : List Letter). x ∷ v) (append_none u)
 
-pub begins_refl : (u : List Letter) → IsPrefix u u
+pub begins_refl : (u : List Letter) → IsPrefixWord u u
 begins_refl u = ([], sym (append_none u))
 
-pub begins_trans : (u v w : List Letter) → IsPrefix u v → IsPrefix v w → IsPrefix u w
+pub begins_trans : (u v w : List Letter) → IsPrefixWord u v → IsPrefixWord v w → IsPrefixWord u w
 begins_trans u v w x y = (x.0 ++ y.0, y.1 ∙ ap (λ (z : List Letter). z ++ y.0) x.1 ∙ append_assoc u x.0 y.0)
 
 -- a prefix of a lower word is lower
@@ -71,7 +71,7 @@ below_after : (k : ℕ) (u v : List Letter) → IsLowerWord u v → IsLowerWord 
 below_after zero u v h = h
 below_after (suc k) u v h = below_after k u v h
 
-begins_after : (k : ℕ) (u v : List Letter) → IsPrefix u v → IsPrefix (replicate k P ++ u) (replicate k P ++ v)
+begins_after : (k : ℕ) (u v : List Letter) → IsPrefixWord u v → IsPrefixWord (replicate k P ++ u) (replicate k P ++ v)
 begins_after k u v x = (x.0, ap (λ (z : List Letter). replicate k P ++ z) x.1 ∙ sym (append_assoc (replicate k P) u x.0))
 
 -- letters depend only on positions
@@ -79,19 +79,19 @@ letters_length : (starts xs ys : List ℕ) (at : ℕ) → length xs ≡ length y
 letters_length starts [] [] at e = refl
 letters_length starts [] (y ∷ ys) at e = absurd (omega arith)
 letters_length starts (x ∷ xs) [] at e = absurd (omega arith)
-letters_length starts (x ∷ xs) (y ∷ ys) at e = ap (λ (w : List Letter). letter starts at ∷ w) (letters_length starts xs ys (at + 1) (omega arith))
+letters_length starts (x ∷ xs) (y ∷ ys) at e = ap (λ (w : List Letter). trail_letter starts at ∷ w) (letters_length starts xs ys (at + 1) (omega arith))
 
 letters_append : (starts xs ys : List ℕ) (at : ℕ) → letters starts (xs ++ ys) at ≡ letters starts xs at ++ letters starts ys (at + length xs)
 letters_append starts [] ys at = ap (λ n. letters starts ys n) (omega arith)
 letters_append starts (x ∷ xs) ys at =
-    ap (λ (w : List Letter). letter starts at ∷ w) (letters_append starts xs ys (at + 1) ∙ ap (λ n. letters starts xs (at + 1) ++ letters starts ys n) (omega arith))
+    ap (λ (w : List Letter). trail_letter starts at ∷ w) (letters_append starts xs ys (at + 1) ∙ ap (λ n. letters starts xs (at + 1) ++ letters starts ys n) (omega arith))
 
 letters_count : (starts xs : List ℕ) (at : ℕ) → length (letters starts xs at) ≡ length xs
 letters_count starts [] at = refl
 letters_count starts (x ∷ xs) at = ap (λ n. suc n) (letters_count starts xs (at + 1))
 
 -- appending literals extends the word
-pub standing_grown : (s s' : PropagationState) → TrailGrows s s' → IsPrefix (trail_letters s.trail) (trail_letters s'.trail)
+pub standing_grown : (s s' : PropagationState) → TrailGrows s s' → IsPrefixWord (trail_letters s.trail) (trail_letters s'.trail)
 standing_grown s s' g =
     let n : ℕ = length s.trail.lits in
     let starts : List ℕ = s.trail.starts in
@@ -106,19 +106,19 @@ standing_grown s s' g =
 abbrev from_now : PropagationState → PropagationState
 from_now s = record s { trail = record s.trail { cleared = 0 } }
 
-levelled_now : (s : PropagationState) → IsLevelled s → IsLevelled (from_now s)
+levelled_now : (s : PropagationState) → LevelsBeginWithDecisions s → LevelsBeginWithDecisions (from_now s)
 levelled_now s x = record { strict = x.strict; begun = x.begun; decided = x.decided; caused = x.caused }
 
 -- a decision appends a letter to those of the trail
-pub standing_decided : (s : PropagationState) (l : ℕ) → IsLevelled s → IsPrefix (trail_letters s.trail) (trail_letters (with_lit l (with_level s.trail)))
+pub standing_decided : (s : PropagationState) (l : ℕ) → LevelsBeginWithDecisions s → IsPrefixWord (trail_letters s.trail) (trail_letters (with_lit l (with_level s.trail)))
 standing_decided s l x = (D ∷ [], words_rise.decided (from_now s) l (levelled_now s x))
 
 -- undoing levels and appending a literal raises the letters of the trail
-pub standing_learned : (s : PropagationState) (l v : ℕ) → IsLevelled s → v < length s.trail.starts → IsLowerWord (trail_letters s.trail) (trail_letters (with_lit l (cut_to v s.trail)))
+pub standing_learned : (s : PropagationState) (l v : ℕ) → LevelsBeginWithDecisions s → v < length s.trail.starts → IsLowerWord (trail_letters s.trail) (trail_letters (with_lit l (without_levels_above v s.trail)))
 standing_learned s l v x lt = words_rise.rises (from_now s) l v (levelled_now s x) lt
 
 -- no literal on the trail has a variable that is gone
-gone_off : (am : List ℕ) → (s : PropagationState) (q : Queue) (v i : ℕ) → StateIsConsistent s → IsGone am s q v → i < length s.trail.lits → variable (lit_at s i) ≢ v
+gone_off : (am : List ℕ) → (s : PropagationState) (q : Queue) (v i : ℕ) → StateIsConsistent s → IsRemovedOrIdle am s q v → i < length s.trail.lits → variable (lit_at s i) ≢ v
 gone_off am s q v i h x b e = elim x.1 [
   | inl r ↦ apart_removed s r.0 i h r.1.1 b (e ∙ sym r.1.0)
   | inr n ↦ not_true s.values v (lit_at s i) n.0 e (h.holds i b)
@@ -146,7 +146,7 @@ default_free (x ∷ xs) zero d e b = refl
 default_free (x ∷ xs) (suc i) d e b = default_free xs i d e (omega arith)
 
 -- all of them are different
-taken_distinct : (am : List ℕ) → (s : PropagationState) (q : Queue) (gone : List ℕ) → StateIsConsistent s → AreDistinct gone → ((k : ℕ) → k < length gone → IsGone am s q (get_or gone k 0)) → AreDistinct (taken s gone)
+taken_distinct : (am : List ℕ) → (s : PropagationState) (q : Queue) (gone : List ℕ) → StateIsConsistent s → AreDistinct gone → ((k : ℕ) → k < length gone → IsRemovedOrIdle am s q (get_or gone k 0)) → AreDistinct (taken s gone)
 taken_distinct am s q gone h distinct each i j p r e =
     let n : length (taken s gone) ≡ length s.trail.lits + length gone = taken_length s gone in
     elim (cases_lt i (length s.trail.lits)) [
@@ -162,7 +162,7 @@ taken_distinct am s q gone h distinct each i j p r e =
       ]
     ]
 
-taken_there : (am : List ℕ) → (s : PropagationState) (q : Queue) (gone : List ℕ) (i : ℕ) → StateIsConsistent s → ((k : ℕ) → k < length gone → IsGone am s q (get_or gone k 0)) → i < length (taken s gone) → get_or (taken s gone) i 0 < length s.values
+taken_there : (am : List ℕ) → (s : PropagationState) (q : Queue) (gone : List ℕ) (i : ℕ) → StateIsConsistent s → ((k : ℕ) → k < length gone → IsRemovedOrIdle am s q (get_or gone k 0)) → i < length (taken s gone) → get_or (taken s gone) i 0 < length s.values
 taken_there am s q gone i h each b =
     let n : length (taken s gone) ≡ length s.trail.lits + length gone = taken_length s gone in
     elim (cases_lt i (length s.trail.lits)) [
@@ -182,7 +182,7 @@ fits_below xs n distinct below =
     subst (λ (z : ℕ). z < n) (default_free xs c.0 0 q c.1 ∙ c.2) (below c.0 c.1))
 
 -- a word has at most one letter for every variable
-pub word_fits : (am : List ℕ) → (s : PropagationState) (q : Queue) (w : List Letter) → StateIsConsistent s → IsWord am s q w → length w ≤ length s.values
+pub word_fits : (am : List ℕ) → (s : PropagationState) (q : Queue) (w : List Letter) → StateIsConsistent s → IsWordSinceAsk am s q w → length w ≤ length s.values
 word_fits am s q w h x =
     let n : length (taken s x.gone) ≡ length s.trail.lits + length x.gone = taken_length s x.gone in
     let all : length (taken s x.gone) ≤ length s.values = fits_below (taken s x.gone) (length s.values) (taken_distinct am s q x.gone h x.distinct x.each) (λ i b. taken_there am s q x.gone i h x.each b) in
@@ -202,7 +202,7 @@ module _ (am : List ℕ) (s : PropagationState) (q : Queue) (l : ℕ) (r : Reaso
       ] in
       (get_or-set_other s.values (variable l) v (Some (is_positive l)) None other ∙ y.0, y.1, y.2)
 
-  pub gone_enqueued : GoneAndIdleStay am s q (enqueued l r s) q
+  pub gone_enqueued : KeepsRemovedAndIdle am s q (enqueued l r s) q
   gone_enqueued = record {
     size = length-set s.values (variable l) (Some (is_positive l));
     gone = λ v x. (
@@ -226,13 +226,13 @@ module _ (am : List ℕ) (s : PropagationState) (q : Queue) (l : ℕ) (r : Reaso
   }
 
 -- gone and idle variables stay so after a decision
-pub gone_decided : (am : List ℕ) → (s : PropagationState) (q q' : Queue) (l : ℕ) → IsUnassignedLit s.values l → (is_available q (variable l) ≡ true) ⊎ Contains am (variable l) → ((u : ℕ) → is_available q u ≡ false → is_available q' u ≡ false) → GoneAndIdleStay am s q (decided_on l s) q'
+pub gone_decided : (am : List ℕ) → (s : PropagationState) (q q' : Queue) (l : ℕ) → IsUnassignedLit s.values l → (is_available q (variable l) ≡ true) ⊎ Contains am (variable l) → ((u : ℕ) → is_available q u ≡ false → is_available q' u ≡ false) → KeepsRemovedAndIdle am s q (decided_on l s) q'
 gone_decided am s q q' l unset picks less =
-    let f : GoneAndIdleStay am (record s { trail = with_level s.trail }) q (decided_on l s) q = gone_enqueued am (record s { trail = with_level s.trail }) q l NoCause unset picks in
+    let f : KeepsRemovedAndIdle am (record s { trail = with_level s.trail }) q (decided_on l s) q = gone_enqueued am (record s { trail = with_level s.trail }) q l NoCause unset picks in
     record {
       size = f.size;
       gone = λ v x.
-          let y : IsGone am (decided_on l s) q v = f.gone v (
+          let y : IsRemovedOrIdle am (decided_on l s) q v = f.gone v (
             x.0,
             elim x.1 [
               | inl z ↦ inl (z.0, (z.1.0, record { holds = z.1.1.holds; depth = z.1.1.depth; bottom = z.1.1.bottom }))
@@ -244,14 +244,14 @@ gone_decided am s q q' l unset picks less =
     }
 
 -- a clause does not make a variable true that is in no clause
-implied_used : (words live : List ℕ) (implied : List (List ℕ)) (s : PropagationState) (i : ℕ) (r : Reason) → has_no_clause r ≡ false → ((o : ℕ) → Contains live o → 3 ≤ size_of words o) → Implies words live implied s i r →
-    IsUnused words live implied (variable (lit_at s i)) → ⊥
+implied_used : (words live : List ℕ) (implied : List (List ℕ)) (s : PropagationState) (i : ℕ) (r : Reason) → has_no_clause r ≡ false → ((o : ℕ) → Contains live o → 3 ≤ size_of words o) → ReasonImplies words live implied s i r →
+    IsInNoClause words live implied (variable (lit_at s i)) → ⊥
 implied_used words live implied s i NoCause clause sizes h u = true≢false clause
 implied_used words live implied s i (Binary ls) clause sizes h u = (u.binary _ h.0.0 h.0.1).1 (ap (λ l. variable l) (default_free _ h.0.0 0 _ h.0.1 ∙ h.0.2))
 implied_used words live implied s i (Long o) clause sizes h u = u.long o 0 h.0 (omega (arith, sizes o h.0)) (ap (λ l. variable l) h.1)
 
 unused_moved : (words words' refs : List ℕ) (implied : List (List ℕ)) (v : ℕ) → SameUpToOrder words words' refs → live_refs words' refs ≡ live_refs words refs →
-    IsUnused words (live_refs words refs) implied v → IsUnused words' (live_refs words' refs) implied v
+    IsInNoClause words (live_refs words refs) implied v → IsInNoClause words' (live_refs words' refs) implied v
 unused_moved words words' refs implied v kept e u = record {
   long = λ o k c lt same.
       let d : Contains (live_refs words refs) o = subst (λ (xs : List ℕ). Contains xs o) e c in
@@ -262,9 +262,9 @@ unused_moved words words' refs implied v kept e u = record {
 }
 
 -- variables that are gone stay so in propagation
-pub gone_moved : (am : List ℕ) → (words words' : List ℕ) (db : Db) (w w' : Watching) (b : Binaries) (a a' : Values) (g g' : List ImplNode) (t t' : Trailed) (q : Queue) (top top' : ℕ) →
-    IsSoundBelow words db w b a g t q top → IsSoundBelow words' db w' b a' g' t' q top' → PropagatesOn (live_refs words db.refs) b.implied words (state_of a g t) words' (state_of a' g' t') →
-    live_refs words' db.refs ≡ live_refs words db.refs → GoneAndIdleStay am (state_of a g t) q (state_of a' g' t') q
+pub gone_moved : (am : List ℕ) → (words words' : List ℕ) (db : Db) (w w' : WatchState) (b : Binaries) (a a' : Values) (g g' : List ImplNode) (t t' : TrailState) (q : Queue) (top top' : ℕ) →
+    PartsInvariantBelow words db w b a g t q top → PartsInvariantBelow words' db w' b a' g' t' q top' → PropagationEffect (live_refs words db.refs) b.implied words (state_of a g t) words' (state_of a' g' t') →
+    live_refs words' db.refs ≡ live_refs words db.refs → KeepsRemovedAndIdle am (state_of a g t) q (state_of a' g' t') q
 gone_moved am words words' db w w' b a a' g g' t t' q top top' h h' m e = record {
   size = m.grows.size;
   gone = λ v x. (
@@ -284,16 +284,16 @@ gone_moved am words words' db w w' b a a' g g' t t' q top top' h h' m e = record
     s' = state_of a' g' t'
 
     found : (v : ℕ) → v < length a.current → value_of a.current v ≡ None → is_available q v ≡ false → (l : ℕ) → variable l ≡ v → IsTrueLit a'.current l → ⊥
-    found v there none shut l at holds = elim (h'.asks.agrees.known l holds) [
+    found v there none shut l at holds = elim (h'.propagation.agrees.known l holds) [
       | inl y ↦ elim (cases_lt y.place (length t.lits)) [
-        | inl lt ↦ not_true a.current v (lit_at (state_of a g t) y.place) none (ap (λ z. variable z) (sym (m.grows.front y.place lt) ∙ y.there) ∙ at) (h.asks.agrees.holds y.place lt)
+        | inl lt ↦ not_true a.current v (lit_at (state_of a g t) y.place) none (ap (λ z. variable z) (sym (m.grows.front y.place lt) ∙ y.there) ∙ at) (h.propagation.agrees.holds y.place lt)
         | inr ge ↦ elim (h.ready v there none) [
           | inl p ↦ true≢false (sym p ∙ shut)
           | inr u ↦
               let place : variable (lit_at (state_of a' g' t') y.place) ≡ v = ap (λ z. variable z) y.there ∙ at in
-              implied_used words' (live_refs words' db.refs) b.implied (state_of a' g' t') y.place _ (m.caused y.place ge y.within).1 h'.asks.clauses.long (h'.turns y.place (omega arith) y.within)
-              (subst (λ z. IsUnused words' (live_refs words' db.refs) b.implied z) (sym place)
-              (unused_moved words words' db.refs b.implied v (m.reorders.all db.refs (λ o c. live_in words db.refs o c) h.asks.holds_clauses) e u))
+              implied_used words' (live_refs words' db.refs) b.implied (state_of a' g' t') y.place _ (m.caused y.place ge y.within).1 h'.propagation.clauses.long (h'.reasons y.place (omega arith) y.within)
+              (subst (λ z. IsInNoClause words' (live_refs words' db.refs) b.implied z) (sym place)
+              (unused_moved words words' db.refs b.implied v (m.reorders.all db.refs (λ o c. live_in words db.refs o c) h.propagation.holds_clauses) e u))
         ]
       ]
       | inr r ↦ not_true a.current v l none at (m.grows.removed l r).holds
@@ -311,18 +311,18 @@ gone_moved am words words' db w w' b a a' g g' t t' q top top' h h' m e = record
       y.2,
     )
 
-available_other : (ls : List ℕ) (q : Queue) (v : ℕ) → ((k : ℕ) → k < length ls → variable (get_or ls k 0) ≢ v) → is_available (all_available ls q) v ≡ is_available q v
+available_other : (ls : List ℕ) (q : Queue) (v : ℕ) → ((k : ℕ) → k < length ls → variable (get_or ls k 0) ≢ v) → is_available (with_all_available ls q) v ≡ is_available q v
 available_other [] q v h = refl
 available_other (l ∷ ls) q v h =
     available_other ls (with_available (variable l) true q) v (λ k b. h (suc k) (omega arith)) ∙ get_or-set_other q.available (variable l) v true false (λ e. h 0 (omega arith) (sym e))
 
 -- gone and idle variables stay so when levels are undone
-pub gone_undone : (am : List ℕ) → (top : ℕ) (a : Values) (g : List ImplNode) (t : Trailed) (q : Queue) → StateIsConsistent (state_of a g t) → top < length t.starts →
-    GoneAndIdleStay am (state_of a g t) q (state_of (undone_to top t a) g (cut_to top t)) (all_available (undone_lits top t) q)
+pub gone_undone : (am : List ℕ) → (top : ℕ) (a : Values) (g : List ImplNode) (t : TrailState) (q : Queue) → StateIsConsistent (state_of a g t) → top < length t.starts →
+    KeepsRemovedAndIdle am (state_of a g t) q (state_of (with_levels_undone top t a) g (without_levels_above top t)) (with_all_available (lits_above_level top t) q)
 gone_undone am top a g t q h lt = record {
-  size = undone_length (undone_lits top t) a;
+  size = undone_length (lits_above_level top t) a;
   gone = λ v x. (
-    omega (arith, x.0, undone_length (undone_lits top t) a),
+    omega (arith, x.0, undone_length (lits_above_level top t) a),
     elim x.1 [
       | inl y ↦ inl (y.0, (y.1.0, k.removed_kept y.0 y.1.1))
       | inr y ↦ inr (idle v y)
@@ -331,16 +331,16 @@ gone_undone am top a g t q h lt = record {
   idle = idle;
 }
   where
-    k : BacktrackEffect top (state_of a g t) (state_of (undone_to top t a) g (cut_to top t))
+    k : BacktrackEffect top (state_of a g t) (state_of (with_levels_undone top t a) g (without_levels_above top t))
     k = keeps_low top a g t h lt
 
-    idle : (v : ℕ) → IsIdle am (state_of a g t) q v → IsIdle am (state_of (undone_to top t a) g (cut_to top t)) (all_available (undone_lits top t) q) v
+    idle : (v : ℕ) → IsIdle am (state_of a g t) q v → IsIdle am (state_of (with_levels_undone top t a) g (without_levels_above top t)) (with_all_available (lits_above_level top t) q) v
     idle v y = (
-      elim (open_or_true (undone_to top t a).current v) [
+      elim (open_or_true (with_levels_undone top t a).current v) [
         | inl none ↦ none
         | inr z ↦ absurd (not_true a.current v z.0 y.0 z.1.0 (k.true_kept z.0 z.1.1))
       ],
-      available_other (undone_lits top t) q v (λ i b e.
+      available_other (lits_above_level top t) q v (λ i b e.
           let at : get_or (drop (get_or t.starts top 0) t.lits) i 0 ≡ get_or t.lits (get_or t.starts top 0 + i) 0 = get_or-drop (get_or t.starts top 0) t.lits i 0 in
           let size : length (drop (get_or t.starts top 0) t.lits) ≡ length t.lits - get_or t.starts top 0 = length-drop (get_or t.starts top 0) t.lits in
           not_true a.current v (get_or t.lits (get_or t.starts top 0 + i) 0) y.0 (ap (λ l. variable l) (sym at) ∙ e) (h.holds (get_or t.starts top 0 + i) (omega arith)))
@@ -349,7 +349,7 @@ gone_undone am top a g t q h lt = record {
     )
 
 -- gone and idle variables stay so when units are taken off the trail
-gone_cleared : (am : List ℕ) → (a : Values) (g : List ImplNode) (t : Trailed) (q : Queue) → StateIsConsistent (state_of a g t) → GoneAndIdleStay am (state_of a g t) q (state_of a (removed t.lits g) (with_cleared t)) q
+gone_cleared : (am : List ℕ) → (a : Values) (g : List ImplNode) (t : TrailState) (q : Queue) → StateIsConsistent (state_of a g t) → KeepsRemovedAndIdle am (state_of a g t) q (state_of a (with_removed_units t.lits g) (with_cleared t)) q
 gone_cleared am a g t q h = record {
   size = refl;
   gone = λ v x. (
@@ -363,20 +363,20 @@ gone_cleared am a g t q h = record {
 }
 
 -- words extend if the letters of the trail do
-pub word_goes : (am : List ℕ) → (s : PropagationState) (q : Queue) (s' : PropagationState) (q' : Queue) → GoneAndIdleStay am s q s' q' → IsPrefix (trail_letters s.trail) (trail_letters s'.trail) → WordExtends am s q s' q'
+pub word_goes : (am : List ℕ) → (s : PropagationState) (q : Queue) (s' : PropagationState) (q' : Queue) → KeepsRemovedAndIdle am s q s' q' → IsPrefixWord (trail_letters s.trail) (trail_letters s'.trail) → WordExtends am s q s' q'
 word_goes am s q s' q' stay more = (
   stay,
   λ w x. (
     replicate (length x.gone) P ++ trail_letters s'.trail,
     (
       record { gone = x.gone; distinct = x.distinct; each = λ k b. stay.gone (get_or x.gone k 0) (x.each k b); is = refl },
-      subst (λ (u : List Letter). IsPrefix u (replicate (length x.gone) P ++ trail_letters s'.trail)) (sym x.is) (begins_after (length x.gone) (trail_letters s.trail) (trail_letters s'.trail) more),
+      subst (λ (u : List Letter). IsPrefixWord u (replicate (length x.gone) P ++ trail_letters s'.trail)) (sym x.is) (begins_after (length x.gone) (trail_letters s.trail) (trail_letters s'.trail) more),
     ),
   ),
 )
 
 -- words rise if the letters of the trail do
-pub word_rises : (am : List ℕ) → (s : PropagationState) (q : Queue) (s' : PropagationState) (q' : Queue) → GoneAndIdleStay am s q s' q' → IsLowerWord (trail_letters s.trail) (trail_letters s'.trail) → WordRises am s q s' q'
+pub word_rises : (am : List ℕ) → (s : PropagationState) (q : Queue) (s' : PropagationState) (q' : Queue) → KeepsRemovedAndIdle am s q s' q' → IsLowerWord (trail_letters s.trail) (trail_letters s'.trail) → WordIncreases am s q s' q'
 word_rises am s q s' q' stay more = (
   stay,
   λ w x. (
@@ -397,13 +397,13 @@ replicate_sum zero n = ap (λ k. replicate k P) (omega arith)
 replicate_sum (suc m) n = ap (λ k. replicate k P) (let e : suc m + n ≡ suc (m + n) = omega arith in e) ∙ ap (λ (w : List Letter). P ∷ w) (replicate_sum m n)
 
 -- taking units off the trail keeps the word
-pub word_cleared : (am : List ℕ) → (a : Values) (g : List ImplNode) (t : Trailed) (q : Queue) → StateIsConsistent (state_of a g t) → t.starts ≡ [] →
-    WordExtends am (state_of a g t) q (state_of a (removed t.lits g) (with_cleared t)) q
+pub word_cleared : (am : List ℕ) → (a : Values) (g : List ImplNode) (t : TrailState) (q : Queue) → StateIsConsistent (state_of a g t) → t.starts ≡ [] →
+    WordExtends am (state_of a g t) q (state_of a (with_removed_units t.lits g) (with_cleared t)) q
 word_cleared am a g t q h e = (
   gone_cleared am a g t q h,
   λ w x.
       let s : PropagationState = state_of a g t in
-      let s' : PropagationState = state_of a (removed t.lits g) (with_cleared t) in
+      let s' : PropagationState = state_of a (with_removed_units t.lits g) (with_cleared t) in
       let n : length (taken (state_of a g t) x.gone) ≡ length t.lits + length x.gone = taken_length (state_of a g t) x.gone in (
         w,
         (
@@ -411,11 +411,11 @@ word_cleared am a g t q h e = (
             gone = taken s x.gone;
             distinct = taken_distinct am s q x.gone h x.distinct x.each;
             each = λ k b. elim (cases_lt k (length t.lits)) [
-              | inl lt ↦ subst (λ z. IsGone am (state_of a (removed t.lits g) (with_cleared t)) q z) (sym (taken_front (state_of a g t) x.gone k 0 lt)) (
+              | inl lt ↦ subst (λ z. IsRemovedOrIdle am (state_of a (with_removed_units t.lits g) (with_cleared t)) q z) (sym (taken_front (state_of a g t) x.gone k 0 lt)) (
                 below_from_value a.current (variable (get_or t.lits k 0)) (is_positive (get_or t.lits k 0)) (h.holds k lt),
                 inl (get_or t.lits k 0, (refl, all_removed a g t (get_or t.lits k 0) h (h.holds k lt))),
               )
-              | inr ge ↦ subst (λ z. IsGone am (state_of a (removed t.lits g) (with_cleared t)) q z) (sym (taken_back (state_of a g t) x.gone k 0 ge))
+              | inr ge ↦ subst (λ z. IsRemovedOrIdle am (state_of a (with_removed_units t.lits g) (with_cleared t)) q z) (sym (taken_back (state_of a g t) x.gone k 0 ge))
                   ((gone_cleared am a g t q h).gone (get_or x.gone (k - length t.lits) 0) (x.each (k - length t.lits) (omega arith)))
             ];
             is = x.is ∙ ap (λ (xs : List ℕ). replicate (length x.gone) P ++ letters xs t.lits 0) e ∙ ap (λ (u : List Letter). replicate (length x.gone) P ++ u) (all_pushed t.lits 0)
@@ -428,13 +428,13 @@ word_cleared am a g t q h e = (
 )
 
 -- when an ask begins, the word is that of the trail
-pub word_begins : (am : List ℕ) (p : SearchState) → IsTrailWord am p (trail_letters p.trail)
+pub word_begins : (am : List ℕ) (p : SearchState) → IsTrailWordSinceAsk am p (trail_letters p.trail)
 word_begins am p = record { gone = []; distinct = λ i j a b e. absurd (omega arith); each = λ k b. absurd (omega arith); is = refl }
 
-pub goes_refl : (am : List ℕ) → (s : PropagationState) (q : Queue) → GoneAndIdleStay am s q s q
+pub goes_refl : (am : List ℕ) → (s : PropagationState) (q : Queue) → KeepsRemovedAndIdle am s q s q
 goes_refl am s q = record { size = refl; gone = λ v x. x; idle = λ v x. x }
 
-pub goes_trans : (am : List ℕ) → (s : PropagationState) (q : Queue) (s' : PropagationState) (q' : Queue) (s'' : PropagationState) (q'' : Queue) → GoneAndIdleStay am s q s' q' → GoneAndIdleStay am s' q' s'' q'' → GoneAndIdleStay am s q s'' q''
+pub goes_trans : (am : List ℕ) → (s : PropagationState) (q : Queue) (s' : PropagationState) (q' : Queue) (s'' : PropagationState) (q'' : Queue) → KeepsRemovedAndIdle am s q s' q' → KeepsRemovedAndIdle am s' q' s'' q'' → KeepsRemovedAndIdle am s q s'' q''
 goes_trans am s q s' q' s'' q'' x y = record { size = y.size ∙ x.size; gone = λ v z. y.gone v (x.gone v z); idle = λ v z. y.idle v (x.idle v z) }
 
 pub extends_refl : (p : SearchState) → TrailWordExtends p p
@@ -453,7 +453,7 @@ pub extends_trans : (p q r : SearchState) → TrailWordExtends p q → TrailWord
 extends_trans p q r x y am = extends_after am p q r (x am) (y am)
 
 -- a word that is extended and then rises has risen
-pub rises_after : (am : List ℕ) (p q r : SearchState) → TrailWordExtendsFor am p q → TrailWordRisesFor am q r → TrailWordRisesFor am p r
+pub rises_after : (am : List ℕ) (p q r : SearchState) → TrailWordExtendsFor am p q → TrailWordIncreasesFor am q r → TrailWordIncreasesFor am p r
 rises_after am p q r x y = (
   goes_trans am (state p) p.vsids (state q) q.vsids (state r) r.vsids x.0 y.0,
   λ w h.
@@ -471,14 +471,14 @@ extends_fewer am s q q' less =
       idle = λ v y. (y.0, less v y.1, y.2);
     }) (begins_refl (trail_letters s.trail))
 
-pub extends_decided : (am : List ℕ) → (s : PropagationState) (q q' : Queue) (l : ℕ) → IsUnassignedLit s.values l → (is_available q (variable l) ≡ true) ⊎ Contains am (variable l) → ((u : ℕ) → is_available q u ≡ false → is_available q' u ≡ false) → IsLevelled s → WordExtends am s q (decided_on l s) q'
+pub extends_decided : (am : List ℕ) → (s : PropagationState) (q q' : Queue) (l : ℕ) → IsUnassignedLit s.values l → (is_available q (variable l) ≡ true) ⊎ Contains am (variable l) → ((u : ℕ) → is_available q u ≡ false → is_available q' u ≡ false) → LevelsBeginWithDecisions s → WordExtends am s q (decided_on l s) q'
 extends_decided am s q q' l unset picks less levels = word_goes am s q (decided_on l s) q' (gone_decided am s q q' l unset picks less) (standing_decided s l levels)
 
-pub extends_propagated : (am : List ℕ) → (words words' : List ℕ) (db : Db) (w w' : Watching) (b : Binaries) (a a' : Values) (g g' : List ImplNode) (t t' : Trailed) (q : Queue) (r : Result (Unit {0}) Conflict) →
-    IsSoundBelow words db w b a g t q (length t.starts + 1) → PropagationResult db.refs b.implied words (state_of a g t) words' (state_of a' g' t') w' r →
+pub extends_propagated : (am : List ℕ) → (words words' : List ℕ) (db : Db) (w w' : WatchState) (b : Binaries) (a a' : Values) (g g' : List ImplNode) (t t' : TrailState) (q : Queue) (r : Result (Unit {0}) Conflict) →
+    PartsInvariantBelow words db w b a g t q (length t.starts + 1) → PropagationResult db.refs b.implied words (state_of a g t) words' (state_of a' g' t') w' r →
     WordExtends am (state_of a g t) q (state_of a' g' t') q
 extends_propagated am words words' db w w' b a a' g g' t t' q (Ok x) h given =
-    let h' : IsSoundBelow words' db w' b a' g' t' q (length t'.starts + 1) = sound_propagated words words' db w w' b a a' g g' t t' q (Ok x) h given in
+    let h' : PartsInvariantBelow words' db w' b a' g' t' q (length t'.starts + 1) = sound_propagated words words' db w w' b a a' g g' t t' q (Ok x) h given in
     word_goes am (state_of a g t) q (state_of a' g' t') q (gone_moved am words words' db w w' b a a' g g' t t' q (length t.starts + 1) (length t'.starts + 1) h h' given.moves given.live)
     (standing_grown (state_of a g t) (state_of a' g' t') given.moves.grows)
 extends_propagated am words words' db w w' b a a' g g' t t' q (Err x) h given =
@@ -487,12 +487,12 @@ extends_propagated am words words' db w w' b a a' g g' t t' q (Err x) h given =
     (standing_grown (state_of a g t) (state_of a' g' t') given.moves.grows)
 
 -- a garbage collection keeps the word
-pub extends_collect : (am : List ℕ) → (words words' : List ℕ) (db db' : Db) (w w' : Watching) (a : Values) (g g' : List ImplNode) (t : Trailed) (q : Queue) (r : Result (Unit {0}) StoreError) →
-    (length words / 2 < db.garbage → OnOk r (Collects words db g t.lits words' db' g')) → (db.garbage ≤ length words / 2 → CollectsNothing words db g w words' db' g' w') → OnErr r (CollectsNothing words db g w words' db' g' w') →
+pub extends_collect : (am : List ℕ) → (words words' : List ℕ) (db db' : Db) (w w' : WatchState) (a : Values) (g g' : List ImplNode) (t : TrailState) (q : Queue) (r : Result (Unit {0}) StoreError) →
+    (length words / 2 < db.garbage → OnOk r (CollectsGarbage words db g t.lits words' db' g')) → (db.garbage ≤ length words / 2 → CollectsNothing words db g w words' db' g' w') → OnErr r (CollectsNothing words db g w words' db' g' w') →
     WordExtends am (state_of a g t) q (state_of a g' t) q
 extends_collect am words words' db db' w w' a g g' t q (Ok x) due not_due same = elim (cases_lt (length words / 2) db.garbage) [
   | inl lt ↦
-      let c : Collects words db g t.lits words' db' g' = due lt in
+      let c : CollectsGarbage words db g t.lits words' db' g' = due lt in
       word_goes am (state_of a g t) q (state_of a g' t) q (record {
         size = refl;
         gone = λ v z. (
@@ -509,19 +509,19 @@ extends_collect am words words' db db' w w' a g g' t q (Ok x) due not_due same =
 extends_collect am words words' db db' w w' a g g' t q (Err x) due not_due same = rw same.2 (extends_fewer am (state_of a g t) q q (λ u e. e))
 
 -- undoing levels and enqueueing a literal raises the word
-pub rises_learned : (am : List ℕ) → (s : PropagationState) (q : Queue) (s' : PropagationState) (q' : Queue) (l top : ℕ) → GoneAndIdleStay am s q s' q' → IsLevelled s → top < length s.trail.starts → s'.trail ≡ with_lit l (cut_to top s.trail) → WordRises am s q s' q'
+pub rises_learned : (am : List ℕ) → (s : PropagationState) (q : Queue) (s' : PropagationState) (q' : Queue) (l top : ℕ) → KeepsRemovedAndIdle am s q s' q' → LevelsBeginWithDecisions s → top < length s.trail.starts → s'.trail ≡ with_lit l (without_levels_above top s.trail) → WordIncreases am s q s' q'
 rises_learned am s q s' q' l top stay levels lt e =
-    word_rises am s q s' q' stay (subst (λ (t : Trailed). IsLowerWord (trail_letters s.trail) (trail_letters t)) (sym e) (standing_learned s l top levels lt))
+    word_rises am s q s' q' stay (subst (λ (t : TrailState). IsLowerWord (trail_letters s.trail) (trail_letters t)) (sym e) (standing_learned s l top levels lt))
 
 -- undoing levels, and later enqueueing the learned literal, raises the word
-pub rises_taken : (p u n : SearchState) (l top : ℕ) → TrailWordStays p u → TrailWordStays u n → u.trail ≡ cut_to top p.trail → n.trail ≡ with_lit l u.trail → IsLevelled (state p) → top < length p.trail.starts → TrailWordRises p n
+pub rises_taken : (p u n : SearchState) (l top : ℕ) → KeepsRemovedAndIdleForAll p u → KeepsRemovedAndIdleForAll u n → u.trail ≡ without_levels_above top p.trail → n.trail ≡ with_lit l u.trail → LevelsBeginWithDecisions (state p) → top < length p.trail.starts → TrailWordIncreases p n
 rises_taken p u n l top undone stay cut last levelled lt am =
     rises_learned am (state p) p.vsids (state n) n.vsids l top (goes_trans am (state p) p.vsids (state u) u.vsids (state n) n.vsids (undone am) (stay am)) levelled lt
-    (last ∙ ap (λ (t : Trailed). with_lit l t) cut)
+    (last ∙ ap (λ (t : TrailState). with_lit l t) cut)
 
 -- a variable that is not assumed is freed
-pub gone_freed : (am : List ℕ) (a : Values) (g : List ImplNode) (t : Trailed) (q : Queue) (u : ℕ) → u < length q.available → length q.available ≡ length a.current → (Contains am u → ⊥) →
-    GoneAndIdleStay am (state_of a g t) q (state_of (with_value u None a) g t) (with_available u false q)
+pub gone_freed : (am : List ℕ) (a : Values) (g : List ImplNode) (t : TrailState) (q : Queue) (u : ℕ) → u < length q.available → length q.available ≡ length a.current → (Contains am u → ⊥) →
+    KeepsRemovedAndIdle am (state_of a g t) q (state_of (with_value u None a) g t) (with_available u false q)
 gone_freed am a g t q u there same free = record {
   size = length-set a.current u None;
   gone = λ v x. (
@@ -557,7 +557,7 @@ gone_freed am a g t q u there same free = record {
     others : (v : ℕ) → v ≢ u → IsIdle am (state_of a g t) q v → IsIdle am (state_of (with_value u None a) g t) (with_available u false q) v
     others v n y = (get_or-set_other a.current u v None None n ∙ y.0, get_or-set_other q.available u v false false n ∙ y.1, y.2)
 
-pub propagated_extends : (words words' : List ℕ) (db : Db) (w w' : Watching) (b : Binaries) (a a' : Values) (g g' : List ImplNode) (t t' : Trailed) (q : Queue) (r : Result (Unit {0}) Conflict) →
-    IsSoundBelow words db w b a g t q (length t.starts + 1) → PropagationResult db.refs b.implied words (state_of a g t) words' (state_of a' g' t') w' r →
+pub propagated_extends : (words words' : List ℕ) (db : Db) (w w' : WatchState) (b : Binaries) (a a' : Values) (g g' : List ImplNode) (t t' : TrailState) (q : Queue) (r : Result (Unit {0}) Conflict) →
+    PartsInvariantBelow words db w b a g t q (length t.starts + 1) → PropagationResult db.refs b.implied words (state_of a g t) words' (state_of a' g' t') w' r →
     (am : List ℕ) → WordExtends am (state_of a g t) q (state_of a' g' t') q
 propagated_extends words words' db w w' b a a' g g' t t' q r h given am = extends_propagated am words words' db w w' b a a' g g' t t' q r h given

@@ -8,9 +8,9 @@ use Rattle.sat_parts.specs.declared.prop.graph.Reason.{Reason}
 use Rattle.sat_parts.specs.declared.prop.graph.Reason.TheVariants.{Binary}
 use Rattle.sat_parts.specs.prop.Values.{IsTrueLit, IsFalseLit, IsUnassignedLit, value_of}
 use Rattle.sat_parts.specs.prop.Binaries.{implied_by}
-use Rattle.sat_parts.specs.prop.State.{PropagationState, level, current_level, lit_at, IsRemoved, IsBefore, HasLeftQueue, StateIsConsistent, IsQueueCurrent, enqueued, TrailGrows}
-use Rattle.sat_parts.specs.prop.Reasons.{Implies}
-use Rattle.sat_parts.specs.prop.Ready.{AreLists}
+use Rattle.sat_parts.specs.prop.State.{PropagationState, level, current_level, lit_at, IsRemovedUnit, IsOnTrailBefore, HasLeftQueue, StateIsConsistent, IsQueueCurrent, enqueued, TrailGrows}
+use Rattle.sat_parts.specs.prop.Reasons.{ReasonImplies}
+use Rattle.sat_parts.specs.prop.Ready.{AreImpliedLists}
 use Rattle.sat_parts.specs.prop.Walk.{BinaryWalkInvariant}
 use Rattle.sat_parts.proofs.lemmas.prop.StateLemmas.{negated_twice, false_from_true, level_low, left_true, left_forth, level_kept, agrees_enqueued, grows_enqueued, queue_enqueued, true_new, before_forth, removed_forth, lit_last}
 use Rattle.sat_parts.proofs.lemmas.prop.RoomLemmas.{room_for}
@@ -46,7 +46,7 @@ binary_true implied lit s t at h holds = record {
 }
 
 -- a literal that has left the queue is on the trail, or was taken off it
-so_far : (s : PropagationState) (l : ℕ) → HasLeftQueue s l → IsBefore s (length s.trail.lits) l ⊎ IsRemoved s l
+so_far : (s : PropagationState) (l : ℕ) → HasLeftQueue s l → IsOnTrailBefore s (length s.trail.lits) l ⊎ IsRemovedUnit s l
 so_far s l h = elim h [
   | inl b ↦ inl (record { place = b.place; before = b.within; within = b.within; there = b.there })
   | inr r ↦ inr r
@@ -63,10 +63,10 @@ binary_enqueued implied lit s t at x f h lt x_is f_is open_x small =
     let g : TrailGrows t (enqueued x (Binary (f ∷ [])) t) = grows_enqueued t x (Binary (f ∷ [])) h.agrees open_x small room in
     let a : StateIsConsistent (enqueued x (Binary (f ∷ [])) t) = agrees_enqueued t x (Binary (f ∷ [])) h.agrees open_x small room in
     let twice : negated f ≡ lit = ap (λ z. negated z) f_is ∙ negated_twice lit in
-    let cause : (words live : List ℕ) → Implies words live implied u (length t.trail.lits) r = λ words live. (
+    let cause : (words live : List ℕ) → ReasonImplies words live implied u (length t.trail.lits) r = λ words live. (
       subst (λ (z : ℕ). Contains (implied_by implied z) (lit_at u (length t.trail.lits))) (sym twice)
           (subst (λ (z : ℕ). Contains (implied_by implied lit) z) (sym (lit_last t x r ∙ x_is)) (Contains-get_or (implied_by implied lit) at 0 lt)),
-      subst (λ (z : ℕ). IsBefore u (length t.trail.lits) z ⊎ IsRemoved u z) (sym twice)
+      subst (λ (z : ℕ). IsOnTrailBefore u (length t.trail.lits) z ⊎ IsRemovedUnit u z) (sym twice)
           (elim (so_far t lit h.left) [
             | inl b ↦ inl (before_forth t u (length t.trail.lits) lit g b)
             | inr y ↦ inr (removed_forth t u lit g y)
@@ -128,5 +128,5 @@ pub open_from_not : (values : List (Option Bool)) (l : ℕ) → (IsTrueLit value
 open_from_not values l t f = open_cases (value_of values (variable l)) (is_positive l) t f
 
 -- implied literals are in range
-pub implied_below : (implied : List (List ℕ)) (lit at x count : ℕ) → AreLists implied count → at < length (implied_by implied lit) → x ≡ get_or (implied_by implied lit) at 0 → variable x < count
+pub implied_below : (implied : List (List ℕ)) (lit at x count : ℕ) → AreImpliedLists implied count → at < length (implied_by implied lit) → x ≡ get_or (implied_by implied lit) at 0 → variable x < count
 implied_below implied lit at x count h lt x_is = omega (arith, h.below lit at lt)

@@ -9,10 +9,10 @@ use Rattle.sat_store.specs.clause.Buffer.{header_at}
 use Rattle.sat_store.specs.clause.Header.{Header}
 use Rattle.sat_parts.specs.declared.prop.watch.Watch.{Watch}
 use Rattle.sat_parts.specs.clause.Db.{is_live, live_refs}
-use Rattle.sat_parts.specs.clause.Stored.{AreClauses, lit_of, size_of}
-use Rattle.sat_parts.specs.prop.WatchLists.{Watching, watch_on, watches_of, more_at, with_watch, with_clause_watches}
+use Rattle.sat_parts.specs.clause.Stored.{AreLongClauses, lit_of, size_of}
+use Rattle.sat_parts.specs.prop.WatchLists.{WatchState, watch_on, watches_of, lists_with_watch, with_watch, with_clause_watches}
 use Rattle.sat_parts.specs.prop.Ready.{IsSoundWatch, HasWatch, AreWatched}
-use Rattle.sat_parts.specs.prop.Building.{AreBuilt}
+use Rattle.sat_parts.specs.prop.Building.{FirstClausesAreWatched}
 use Rattle.sat_parts.proofs.lemmas.prop.WalkLemmas.{more_watch, new_watch, good_lists, at_two}
 
 -- a live clause is in the list
@@ -43,8 +43,8 @@ live_at words refs k lt e =
     (subst (λ (xs : List ℕ). Contains xs (get_or refs k 0)) (sym (live_next words refs k lt e)) (Contains-push (live_refs words (take k refs)) (get_or refs k 0)))
 
 -- a deleted clause is skipped
-pub built_skip : (words refs : List ℕ) (lists : List (List Watch)) (count k : ℕ) → AreBuilt words refs lists count k → k < length refs →
-    is_live words (get_or refs k 0) ≡ false → AreBuilt words refs lists count (k + 1)
+pub built_skip : (words refs : List ℕ) (lists : List (List Watch)) (count k : ℕ) → FirstClausesAreWatched words refs lists count k → k < length refs →
+    is_live words (get_or refs k 0) ≡ false → FirstClausesAreWatched words refs lists count (k + 1)
 built_skip words refs lists count k h lt e = record {
   room = h.room;
   good = h.good;
@@ -52,11 +52,11 @@ built_skip words refs lists count k h lt e = record {
 }
 
 -- a live clause gets its two watches
-pub built_more : (words refs : List ℕ) (lists : List (List Watch)) (count k : ℕ) → AreClauses words (live_refs words refs) count → AreBuilt words refs lists count k → k < length refs →
+pub built_more : (words refs : List ℕ) (lists : List (List Watch)) (count k : ℕ) → AreLongClauses words (live_refs words refs) count → FirstClausesAreWatched words refs lists count k → k < length refs →
     is_live words (get_or refs k 0) ≡ true →
-    AreBuilt words refs
-    (more_at (negated (lit_of words (get_or refs k 0) 1)) (watch_on (get_or refs k 0) (lit_of words (get_or refs k 0) 0))
-    (more_at (negated (lit_of words (get_or refs k 0) 0)) (watch_on (get_or refs k 0) (lit_of words (get_or refs k 0) 1)) lists))
+    FirstClausesAreWatched words refs
+    (lists_with_watch (negated (lit_of words (get_or refs k 0) 1)) (watch_on (get_or refs k 0) (lit_of words (get_or refs k 0) 0))
+    (lists_with_watch (negated (lit_of words (get_or refs k 0) 0)) (watch_on (get_or refs k 0) (lit_of words (get_or refs k 0) 1)) lists))
     count (k + 1)
 built_more words refs lists count k c h lt e =
     let o : ℕ = get_or refs k 0 in
@@ -69,8 +69,8 @@ built_more words refs lists count k c h lt e =
     let room : length lists ≡ 2 * count = h.room in
     let x : Watch = watch_on (get_or refs k 0) (lit_of words (get_or refs k 0) 1) in
     let y : Watch = watch_on (get_or refs k 0) (lit_of words (get_or refs k 0) 0) in
-    let one : List (List Watch) = more_at (negated a) x lists in
-    let two : List (List Watch) = more_at (negated b) y one in
+    let one : List (List Watch) = lists_with_watch (negated a) x lists in
+    let two : List (List Watch) = lists_with_watch (negated b) y one in
     let one_length : length one ≡ length lists = length-set lists (negated a) (watches_of lists (negated a) ++ x ∷ []) in
     let two_length : length two ≡ length one = length-set one (negated b) (watches_of one (negated b) ++ y ∷ []) in
     let in_one : negated (lit_of words (get_or refs k 0) 0) < length lists = omega arith in
@@ -91,7 +91,7 @@ built_more words refs lists count k c h lt e =
       ];
     }
 
-pub built_all : (words refs : List ℕ) (lists : List (List Watch)) (count k : ℕ) → AreBuilt words refs lists count k → k ≡ length refs → AreWatched words (live_refs words refs) lists count
+pub built_all : (words refs : List ℕ) (lists : List (List Watch)) (count k : ℕ) → FirstClausesAreWatched words refs lists count k → k ≡ length refs → AreWatched words (live_refs words refs) lists count
 built_all words refs lists count k h e = record {
   room = h.room;
   good = h.good;
@@ -107,9 +107,9 @@ live_same old new (r ∷ rs) h =
     ap (λ (b : Bool). cond b (r ∷ live_refs new rs) (live_refs new rs)) e ∙ ap (λ (xs : List ℕ). cond (is_live old r) (r ∷ xs) xs) t
 
 -- one more live clause is watched, in the variables of the code
-pub built_by : (words refs : List ℕ) (w w' : Watching) (count k o a b : ℕ) → AreClauses words (live_refs words refs) count → AreBuilt words refs w.lists count k → k < length refs →
+pub built_by : (words refs : List ℕ) (w w' : WatchState) (count k o a b : ℕ) → AreLongClauses words (live_refs words refs) count → FirstClausesAreWatched words refs w.lists count k → k < length refs →
     o ≡ get_or refs k 0 → is_live words o ≡ true → a ≡ lit_of words o 0 → b ≡ lit_of words o 1 → w.enabled ≡ true → w' ≡ with_clause_watches o a b w →
-    AreBuilt words refs w'.lists count (k + 1) × (w'.enabled ≡ true)
+    FirstClausesAreWatched words refs w'.lists count (k + 1) × (w'.enabled ≡ true)
 built_by words refs w w' count k o a b c h lt o_is live a_is b_is on e =
     let r : ℕ = get_or refs k 0 in
     let o' : o ≡ get_or refs k 0 = o_is in
@@ -120,8 +120,8 @@ built_by words refs w w' count k o a b c h lt o_is live a_is b_is on e =
     let g : w' ≡ with_watch (negated (lit_of words (get_or refs k 0) 1)) (watch_on (get_or refs k 0) (lit_of words (get_or refs k 0) 0))
     (with_watch (negated (lit_of words (get_or refs k 0) 0)) (watch_on (get_or refs k 0) (lit_of words (get_or refs k 0) 1)) w) =
     f ∙ cond-true w.enabled _ w on in (
-      subst (λ (x : Watching). AreBuilt words refs x.lists count (k + 1)) (sym g) (built_more words refs w.lists count k c h lt (subst (λ z. is_live words z ≡ true) o_is live)),
-      ap (λ (x : Watching). x.enabled) g ∙ on,
+      subst (λ (x : WatchState). FirstClausesAreWatched words refs x.lists count (k + 1)) (sym g) (built_more words refs w.lists count k c h lt (subst (λ z. is_live words z ≡ true) o_is live)),
+      ap (λ (x : WatchState). x.enabled) g ∙ on,
     )
 
 -- the live clause at an index, in the variables of the code

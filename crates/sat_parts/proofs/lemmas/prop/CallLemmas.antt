@@ -17,17 +17,17 @@ use Rattle.sat_parts.specs.clause.Filtered.{SameClausesAt}
 use Rattle.sat_parts.specs.clause.Stored.{lit_of}
 use Rattle.sat_parts.specs.prop.Values.{is_unassigned_var, IsTrueLit}
 use Rattle.sat_parts.specs.prop.Binaries.{Binaries, implied_by, unassigned_among, RemovesAssigned}
-use Rattle.sat_parts.specs.prop.WatchLists.{Watching, no_watch, watch_on, watches_of, more_at, with_watch, with_clause_watches}
+use Rattle.sat_parts.specs.prop.WatchLists.{WatchState, no_watch, watch_on, watches_of, lists_with_watch, with_watch, with_clause_watches}
 use Rattle.sat_parts.specs.prop.State.{PropagationState, node, level, current_level, lit_at, HasLeftQueue, IsSatisfied}
 use Rattle.sat_parts.specs.prop.Ready.{IsSoundWatch, HasWatch, AreWatched}
-use Rattle.sat_parts.specs.prop.Propagation.{PropagationInvariant, EnqueuePrecondition, IsOwnLong}
+use Rattle.sat_parts.specs.prop.Propagation.{PropagationInvariant, EnqueuePrecondition, IsLongReason}
 use Rattle.sat_parts.proofs.lemmas.clause.ListLemmas.{place_in, at_place}
 use Rattle.sat_parts.proofs.lemmas.clause.FilterLemmas.{filtered_in}
 use Rattle.sat_parts.proofs.lemmas.prop.BuildLemmas.{live_in}
 use Rattle.sat_parts.proofs.lemmas.prop.WalkLemmas.{more_watch, new_watch, good_lists, at_two}
 
 -- fewer clauses are live, with the same literals, and every reason on the trail is one of them
-pub asks_fewer : (words refs words' refs' : List ℕ) (w w' : Watching) (implied : List (List ℕ)) (s : PropagationState) (top : ℕ) → PropagationInvariant words refs w implied s top → HoldsClauses words' refs' →
+pub asks_fewer : (words refs words' refs' : List ℕ) (w w' : WatchState) (implied : List (List ℕ)) (s : PropagationState) (top : ℕ) → PropagationInvariant words refs w implied s top → HoldsClauses words' refs' →
     ((o : ℕ) → Contains (live_refs words' refs') o → Contains (live_refs words refs) o × (lits_at words' o ≡ lits_at words o)) →
     length w'.lists ≡ length w.lists → (w'.enabled ≡ true → AreWatched words' (live_refs words' refs') w'.lists (length s.values)) →
     ((i o : ℕ) → i < length s.trail.lits → (node s (lit_at s i)).reason ≡ Long o → Contains (live_refs words' refs') o) →
@@ -55,7 +55,7 @@ asks_fewer words refs words' refs' w w' implied s top h holds_clauses same room 
 }
 
 -- if the reason is not a clause, the precondition of enqueueing is the invariant
-pub asks_of_unit : (words refs : List ℕ) (w : Watching) (implied : List (List ℕ)) (s : PropagationState) (top lit : ℕ) → EnqueuePrecondition lit NoCause words refs w implied s top → PropagationInvariant words refs w implied s top
+pub asks_of_unit : (words refs : List ℕ) (w : WatchState) (implied : List (List ℕ)) (s : PropagationState) (top lit : ℕ) → EnqueuePrecondition lit NoCause words refs w implied s top → PropagationInvariant words refs w implied s top
 asks_of_unit words refs w implied s top lit h = record {
   holds_clauses = h.holds_clauses;
   clauses = h.clauses;
@@ -69,22 +69,22 @@ asks_of_unit words refs w implied s top lit h = record {
   binary = λ l k x d b. elim (h.binary l k x d b) [ inl y ↦ y | inr n ↦ absurd n.0 ];
 }
 
-lists_added : (o a b : ℕ) (w : Watching) → (length (with_clause_watches o a b w).lists ≡ length w.lists) × ((with_clause_watches o a b w).enabled ≡ w.enabled)
+lists_added : (o a b : ℕ) (w : WatchState) → (length (with_clause_watches o a b w).lists ≡ length w.lists) × ((with_clause_watches o a b w).enabled ≡ w.enabled)
 lists_added o a b w = elim (cases_Bool w.enabled) [
   | inl on ↦
       let e : with_clause_watches o a b w ≡ with_watch (negated b) (watch_on o a) (with_watch (negated a) (watch_on o b) w) = cond-true w.enabled _ w on in
-      let one : List (List Watch) = more_at (negated a) (watch_on o b) w.lists in (
-        ap (λ (x : Watching). length x.lists) e ∙ length-set one (negated b) (watches_of one (negated b) ++ watch_on o a ∷ [])
+      let one : List (List Watch) = lists_with_watch (negated a) (watch_on o b) w.lists in (
+        ap (λ (x : WatchState). length x.lists) e ∙ length-set one (negated b) (watches_of one (negated b) ++ watch_on o a ∷ [])
             ∙ length-set w.lists (negated a) (watches_of w.lists (negated a) ++ watch_on o b ∷ []),
-        ap (λ (x : Watching). x.enabled) e,
+        ap (λ (x : WatchState). x.enabled) e,
       )
   | inr off ↦
       let e : with_clause_watches o a b w ≡ w = cond-false w.enabled _ w off in
-      (ap (λ (x : Watching). length x.lists) e, ap (λ (x : Watching). x.enabled) e)
+      (ap (λ (x : WatchState). length x.lists) e, ap (λ (x : WatchState). x.enabled) e)
 ]
 
 -- enabled watch lists get the watches of the new clause
-watched_added : (words words' : List ℕ) (db db' : Db) (o count : ℕ) (header : Header) (lits : List ℕ) (w : Watching) → AddsLongClause words db words' db' o header lits →
+watched_added : (words words' : List ℕ) (db db' : Db) (o count : ℕ) (header : Header) (lits : List ℕ) (w : WatchState) → AddsLongClause words db words' db' o header lits →
     HoldsClauses words db.refs → 3 ≤ length lits → ((k : ℕ) → k < length lits → get_or lits k 0 < 2 * count) → w.enabled ≡ true → AreWatched words (live_refs words db.refs) w.lists count →
     AreWatched words' (live_refs words' db'.refs) (with_clause_watches o (get_or lits 0 0) (get_or lits 1 0) w).lists count
 watched_added words words' db db' o count header lits w x holds_clauses three below on h =
@@ -97,8 +97,8 @@ watched_added words words' db db' o count header lits w x holds_clauses three be
     let small_b : get_or lits 1 0 < 2 * count = below 1 (omega arith) in
     let first : Watch = watch_on o b in
     let second : Watch = watch_on o a in
-    let one : List (List Watch) = more_at (negated a) first w.lists in
-    let two : List (List Watch) = more_at (negated b) second one in
+    let one : List (List Watch) = lists_with_watch (negated a) first w.lists in
+    let two : List (List Watch) = lists_with_watch (negated b) second one in
     let one_length : length one ≡ length w.lists = length-set w.lists (negated a) (watches_of w.lists (negated a) ++ first ∷ []) in
     let two_length : length two ≡ length one = length-set one (negated b) (watches_of one (negated b) ++ second ∷ []) in
     let in_one : negated (get_or lits 0 0) < length w.lists = omega arith in
@@ -117,7 +117,7 @@ watched_added words words' db db' o count header lits w x holds_clauses three be
     (old_in y.cref g.0, (g.1.0, subst (λ (ls : List ℕ). (g.1.0 < length ls) × (get_or ls g.1.0 0 ≡ y.blocking)) (sym (same y.cref g.0)) g.1.1)) in
     let W : ℕ → ℕ → Type 0 = λ p i. HasWatch (watches_of two (negated (lit_of words' p i))) p in
     let e : with_clause_watches o a b w ≡ with_watch (negated b) second (with_watch (negated a) first w) = cond-true w.enabled _ w on in
-    subst (λ (z : Watching). AreWatched words' (live_refs words' db'.refs) z.lists count) (sym e) (record {
+    subst (λ (z : WatchState). AreWatched words' (live_refs words' db'.refs) z.lists count) (sym e) (record {
       room = two_length ∙ one_length ∙ h.room;
       good = good_lists words' (live_refs words' db'.refs) one (negated b) second in_two good_second (good_lists words' (live_refs words' db'.refs) w.lists (negated a) first in_one good_first good_old);
       both = λ p i z hi. elim (Contains-push_cases live o p (subst (λ (xs : List ℕ). Contains xs p) x.live z)) [
@@ -132,10 +132,10 @@ watched_added words words' db db' o count header lits w x holds_clauses three be
 
 -- a long clause was added, which may be the reason of the next literal. If a watched literal is false and has
 -- left the queue, the clause is satisfied, or it is that reason and the literal is at the current level
-pub asks_added : (words words' : List ℕ) (db db' : Db) (o : ℕ) (header : Header) (lits : List ℕ) (w : Watching) (implied : List (List ℕ)) (s : PropagationState) (top lit : ℕ) (r : Reason) →
+pub asks_added : (words words' : List ℕ) (db db' : Db) (o : ℕ) (header : Header) (lits : List ℕ) (w : WatchState) (implied : List (List ℕ)) (s : PropagationState) (top lit : ℕ) (r : Reason) →
     PropagationInvariant words db.refs w implied s top → AddsLongClause words db words' db' o header lits → AreDistinct lits → 3 ≤ length lits → ((k : ℕ) → k < length lits → get_or lits k 0 < 2 * length s.values) →
     ((i : ℕ) → i < 2 → HasLeftQueue s (negated (get_or lits i 0)) → level s (negated (get_or lits i 0)) < top →
-    IsSatisfied s lits (level s (negated (get_or lits i 0))) ⊎ (IsOwnLong r o × (current_level s ≤ level s (negated (get_or lits i 0))))) →
+    IsSatisfied s lits (level s (negated (get_or lits i 0))) ⊎ (IsLongReason r o × (current_level s ≤ level s (negated (get_or lits i 0))))) →
     EnqueuePrecondition lit r words' db'.refs (with_clause_watches o (get_or lits 0 0) (get_or lits 1 0) w) implied s top
 asks_added words words' db db' o header lits w implied s top lit r h x apart three below own =
     let live : List ℕ = live_refs words db.refs in
@@ -166,7 +166,7 @@ asks_added words words' db db' o header lits w implied s top lit r h x apart thr
           (old_in p f.0, ap (λ (ls : List ℕ). get_or ls 0 0) (keeps p f.0) ∙ f.1);
       settled = λ p i c b.
           from (λ q ls. HasLeftQueue s (negated (get_or ls i 0)) → level s (negated (get_or ls i 0)) < top →
-          IsSatisfied s ls (level s (negated (get_or ls i 0))) ⊎ (IsOwnLong r q × (current_level s ≤ level s (negated (get_or ls i 0)))))
+          IsSatisfied s ls (level s (negated (get_or ls i 0))) ⊎ (IsLongReason r q × (current_level s ≤ level s (negated (get_or ls i 0)))))
           (λ q d f g. inl (h.settled q i d b f g)) (own i b) p c;
       ranges = h.ranges;
       binary = λ l k f g b. inl (h.binary l k f g b);
@@ -186,7 +186,7 @@ open_in values v m ls c =
     ]
 
 -- the binary clauses with an assigned variable were removed
-pub asks_removed : (words refs : List ℕ) (w : Watching) (old new : Binaries) (s : PropagationState) (top : ℕ) → PropagationInvariant words refs w old.implied s top → RemovesAssigned s.values old new →
+pub asks_removed : (words refs : List ℕ) (w : WatchState) (old new : Binaries) (s : PropagationState) (top : ℕ) → PropagationInvariant words refs w old.implied s top → RemovesAssigned s.values old new →
     PropagationInvariant words refs w new.implied s top
 asks_removed words refs w old new s top h x =
     let was : (l k : ℕ) → k < length (implied_by new.implied l) → Contains (implied_by old.implied l) (get_or (implied_by new.implied l) k 0) = λ l k b.
@@ -212,11 +212,11 @@ asks_removed words refs w old new s top h x =
     }
 
 -- a pass over the clauses kept the reasons on the trail
-pub asks_filtered : {F : Type 0} (R : F → ℕ → Bool → F → Type 0) (f : F) (words refs words' : List ℕ) (w : Watching) (implied : List (List ℕ)) (s : PropagationState) (top : ℕ) →
+pub asks_filtered : {F : Type 0} (R : F → ℕ → Bool → F → Type 0) (f : F) (words refs words' : List ℕ) (w : WatchState) (implied : List (List ℕ)) (s : PropagationState) (top : ℕ) →
     PropagationInvariant words refs w implied s top → IsFiltered R f (live_refs words refs) (live_refs words' refs) → SameClausesAt words words' (live_refs words' refs) → HoldsClauses words' refs →
     ((i o : ℕ) → i < length s.trail.lits → (node s (lit_at s i)).reason ≡ Long o → Contains (live_refs words' refs) o) →
     PropagationInvariant words' refs (record w { enabled = false }) implied s top
 asks_filtered R f words refs words' w implied s top h x kept holds_clauses reasons =
-    let v : Watching = record w { enabled = false } in
+    let v : WatchState = record w { enabled = false } in
     asks_fewer words refs words' refs w v implied s top h holds_clauses
     (λ o c. (filtered_in R f (live_refs words refs) (live_refs words' refs) o x c, (kept o c).lits)) refl (λ off. absurd (let e : false ≡ true = off in cc)) reasons

@@ -10,11 +10,11 @@ use Rattle.sat_parts.specs.declared.prop.graph.Reason.{Reason}
 use Rattle.sat_parts.specs.declared.prop.graph.Reason.TheVariants.{Unit as NoCause, Binary, Long}
 use Rattle.sat_parts.specs.clause.Orders.{AreDistinct}
 use Rattle.sat_parts.specs.clause.Db.{Db, live_refs}
-use Rattle.sat_parts.specs.clause.Collected.{FollowsClause, Collects}
+use Rattle.sat_parts.specs.clause.Collected.{ReasonNamesCopy, CollectsGarbage}
 use Rattle.sat_parts.specs.clause.Stored.{lit_of}
-use Rattle.sat_parts.specs.prop.Trails.{LevelIs}
-use Rattle.sat_parts.specs.prop.WatchLists.{Watching}
-use Rattle.sat_parts.specs.prop.State.{PropagationState, node, level, lit_at, IsRemoved, HasLeftQueue, StateIsConsistent, IsSatisfied}
+use Rattle.sat_parts.specs.prop.Trails.{IsAtLevel}
+use Rattle.sat_parts.specs.prop.WatchLists.{WatchState}
+use Rattle.sat_parts.specs.prop.State.{PropagationState, node, level, lit_at, IsRemovedUnit, HasLeftQueue, StateIsConsistent, IsSatisfied}
 use Rattle.sat_parts.specs.prop.Propagation.{PropagationInvariant}
 use Rattle.sat_parts.proofs.lemmas.prop.BuildLemmas.{live_in}
 use Rattle.sat_parts.proofs.lemmas.clause.ListLemmas.{at_place, place_in}
@@ -24,22 +24,22 @@ use Rattle.sat_parts.proofs.lemmas.clause.GcLemmas.{long_same}
 abbrev pub with_graph : PropagationState → List ImplNode → PropagationState
 with_graph s nodes = record s { nodes = nodes }
 
-removed_back : (words : List ℕ) (db : Db) (s : PropagationState) (words' : List ℕ) (db' : Db) (nodes' : List ImplNode) (l : ℕ) → Collects words db s.nodes s.trail.lits words' db' nodes' →
-    IsRemoved (with_graph s nodes') l → IsRemoved s l
+removed_back : (words : List ℕ) (db : Db) (s : PropagationState) (words' : List ℕ) (db' : Db) (nodes' : List ImplNode) (l : ℕ) → CollectsGarbage words db s.nodes s.trail.lits words' db' nodes' →
+    IsRemovedUnit (with_graph s nodes') l → IsRemovedUnit s l
 removed_back words db s words' db' nodes' l x r = record { holds = r.holds; depth = sym (x.depths (variable l)) ∙ r.depth; bottom = sym (x.levels (variable l)) ∙ r.bottom }
 
-removed_on : (words : List ℕ) (db : Db) (s : PropagationState) (words' : List ℕ) (db' : Db) (nodes' : List ImplNode) (l : ℕ) → Collects words db s.nodes s.trail.lits words' db' nodes' →
-    IsRemoved s l → IsRemoved (with_graph s nodes') l
+removed_on : (words : List ℕ) (db : Db) (s : PropagationState) (words' : List ℕ) (db' : Db) (nodes' : List ImplNode) (l : ℕ) → CollectsGarbage words db s.nodes s.trail.lits words' db' nodes' →
+    IsRemovedUnit s l → IsRemovedUnit (with_graph s nodes') l
 removed_on words db s words' db' nodes' l x r = record { holds = r.holds; depth = x.depths (variable l) ∙ r.depth; bottom = x.levels (variable l) ∙ r.bottom }
 
-left_back : (words : List ℕ) (db : Db) (s : PropagationState) (words' : List ℕ) (db' : Db) (nodes' : List ImplNode) (l : ℕ) → Collects words db s.nodes s.trail.lits words' db' nodes' →
+left_back : (words : List ℕ) (db : Db) (s : PropagationState) (words' : List ℕ) (db' : Db) (nodes' : List ImplNode) (l : ℕ) → CollectsGarbage words db s.nodes s.trail.lits words' db' nodes' →
     HasLeftQueue (with_graph s nodes') l → HasLeftQueue s l
 left_back words db s words' db' nodes' l x h = elim h [
   | inl b ↦ inl (record { place = b.place; before = b.before; within = b.within; there = b.there })
   | inr r ↦ inr (removed_back words db s words' db' nodes' l x r)
 ]
 
-agrees_collected : (words : List ℕ) (db : Db) (s : PropagationState) (words' : List ℕ) (db' : Db) (nodes' : List ImplNode) → Collects words db s.nodes s.trail.lits words' db' nodes' → StateIsConsistent s →
+agrees_collected : (words : List ℕ) (db : Db) (s : PropagationState) (words' : List ℕ) (db' : Db) (nodes' : List ImplNode) → CollectsGarbage words db s.nodes s.trail.lits words' db' nodes' → StateIsConsistent s →
     StateIsConsistent (with_graph s nodes')
 agrees_collected words db s words' db' nodes' x h = record {
   trail = h.trail;
@@ -47,7 +47,7 @@ agrees_collected words db s words' db' nodes' x h = record {
   room = h.room;
   holds = h.holds;
   depths = λ i lt. x.depths (variable (lit_at s i)) ∙ h.depths i lt;
-  levels = λ i lt. subst (λ n. LevelIs s.trail.starts i n) (sym (x.levels (variable (lit_at s i)))) (h.levels i lt);
+  levels = λ i lt. subst (λ n. IsAtLevel s.trail.starts i n) (sym (x.levels (variable (lit_at s i)))) (h.levels i lt);
   known = λ l t. elim (h.known l t) [
     | inl b ↦ inl (record { place = b.place; before = b.before; within = b.within; there = b.there })
     | inr r ↦ inr (removed_on words db s words' db' nodes' l x r)
@@ -56,7 +56,7 @@ agrees_collected words db s words' db' nodes' x h = record {
 
 -- the copy of a reason's clause has the same literal first
 followed_first : (words live words' refs' : List ℕ) (lit o : ℕ) (r r' : Reason) → length refs' ≡ length live → ((k : ℕ) → k < length live → lits_at words' (get_or refs' k 0) ≡ lits_at words (get_or live k 0)) →
-    ((p : ℕ) → r ≡ Long p → lit_of words p 0 ≡ lit) → FollowsClause live refs' r r' → r' ≡ Long o → Contains refs' o × (lit_of words' o 0 ≡ lit)
+    ((p : ℕ) → r ≡ Long p → lit_of words p 0 ≡ lit) → ReasonNamesCopy live refs' r r' → r' ≡ Long o → Contains refs' o × (lit_of words' o 0 ≡ lit)
 followed_first words live words' refs' lit o NoCause r' n same first h e = absurd (let z : NoCause ≡ Long o = sym h ∙ e in cc)
 followed_first words live words' refs' lit o (Binary ls) r' n same first h e = absurd (let z : Binary ls ≡ Long o = sym h ∙ e in cc)
 followed_first words live words' refs' lit o (Long p) r' n same first h e =
@@ -66,8 +66,8 @@ followed_first words live words' refs' lit o (Long p) r' n same first h e =
     )
 
 -- a garbage collection preserves the invariant of propagation
-pub asks_collected : (words : List ℕ) (db : Db) (s : PropagationState) (words' : List ℕ) (db' : Db) (nodes' : List ImplNode) (w w' : Watching) (implied : List (List ℕ)) (top : ℕ) →
-    Collects words db s.nodes s.trail.lits words' db' nodes' → w'.enabled ≡ false → length w'.lists ≡ length w.lists → PropagationInvariant words db.refs w implied s top →
+pub asks_collected : (words : List ℕ) (db : Db) (s : PropagationState) (words' : List ℕ) (db' : Db) (nodes' : List ImplNode) (w w' : WatchState) (implied : List (List ℕ)) (top : ℕ) →
+    CollectsGarbage words db s.nodes s.trail.lits words' db' nodes' → w'.enabled ≡ false → length w'.lists ≡ length w.lists → PropagationInvariant words db.refs w implied s top →
     PropagationInvariant words' db'.refs w' implied (with_graph s nodes') top
 asks_collected words db s words' db' nodes' w w' implied top x off size h =
     let live : List ℕ = live_refs words db.refs in

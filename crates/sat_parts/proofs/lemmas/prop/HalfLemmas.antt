@@ -6,12 +6,12 @@ use Rattle.sat_base.specs.values.Literals.{negated}
 use Rattle.sat_store.specs.clause.Buffer.{lits_at}
 use Rattle.sat_parts.specs.declared.prop.watch.Watch.{Watch}
 use Rattle.sat_parts.specs.clause.Orders.{IsReordering, PermutesClause}
-use Rattle.sat_parts.specs.clause.Stored.{AreClauses, lit_of, size_of}
+use Rattle.sat_parts.specs.clause.Stored.{AreLongClauses, lit_of, size_of}
 use Rattle.sat_parts.specs.prop.Values.{IsTrueLit, IsFalseLit}
-use Rattle.sat_parts.specs.prop.WatchLists.{no_watch, watch_on, more_at}
+use Rattle.sat_parts.specs.prop.WatchLists.{no_watch, watch_on, lists_with_watch}
 use Rattle.sat_parts.specs.prop.State.{PropagationState, level, HasLeftQueue, StateIsConsistent, IsQueueCurrent, IsSatisfied, TrailGrows}
 use Rattle.sat_parts.specs.prop.Ready.{HasLit}
-use Rattle.sat_parts.specs.prop.Walk.{HasWatchFrom, AreWalked, WalkInvariant, IsOther}
+use Rattle.sat_parts.specs.prop.Walk.{HasWatchFrom, AreWatchedDuringWalk, WalkInvariant, PutsOtherWatchFirst}
 use Rattle.sat_parts.proofs.lemmas.clause.OrderLemmas.{kept_clauses, reorders_one}
 use Rattle.sat_parts.proofs.lemmas.prop.StateLemmas.{negated_twice, false_from_true, left_true, left_back, left_forth, level_kept, satisfied_forth}
 use Rattle.sat_parts.proofs.lemmas.prop.WalkLemmas.{same_lits, shuffled_all, first_two, KeepsFirstTwo, at_two, walked_kept, walked_stale, walked_moved, not_watched, first_other}
@@ -90,11 +90,11 @@ half_stale w live s lists list lit kept at p h lt at_p n0 n1 = record {
 -- the watch at index `at` is dropped; its clause watches its new second literal instead, which is not false
 pub half_moved : (w v live : List ℕ) (s : PropagationState) (lists : List (List Watch)) (list : List Watch) (lit kept at p : ℕ) →
     WalkInvariant w live s lists list lit kept at → at < length list → p ≡ (get_or list at no_watch).cref →
-    PermutesClause w v p → IsOther w v p (negated lit) → (IsFalseLit s.values (lit_of v p 1) → ⊥) →
-    WalkInvariant v live s (more_at (negated (lit_of v p 1)) (watch_on p (lit_of v p 0)) lists) list lit kept (at + 1)
+    PermutesClause w v p → PutsOtherWatchFirst w v p (negated lit) → (IsFalseLit s.values (lit_of v p 1) → ⊥) →
+    WalkInvariant v live s (lists_with_watch (negated (lit_of v p 1)) (watch_on p (lit_of v p 0)) lists) list lit kept (at + 1)
 half_moved w v live s lists list lit kept at p h lt at_p e other opened =
     let hp : Contains live p = place_live w live s lists list lit kept at p h lt at_p in
-    let c' : AreClauses v live (length s.values) = kept_clauses w v live (length s.values) h.clauses (reorders_one w v live p hp e) in
+    let c' : AreLongClauses v live (length s.values) = kept_clauses w v live (length s.values) h.clauses (reorders_one w v live p hp e) in
     let not_left : HasLeftQueue s (negated (lit_of v p 1)) → ⊥ = λ f.
     opened (subst (λ (z : ℕ). IsFalseLit s.values z) (negated_twice (lit_of v p 1)) (false_from_true s.values (negated (lit_of v p 1)) (left_true s (negated (lit_of v p 1)) h.agrees f))) in
     let new : negated (lit_of v p 1) ≢ lit = λ r. not_left (subst (λ (z : ℕ). HasLeftQueue s z) (sym r) h.left) in
@@ -136,12 +136,12 @@ pub half_grows : (w live : List ℕ) (s t : PropagationState) (lists : List (Lis
 half_grows w live s t lists list lit kept at h g e a q =
     let lt : IsTrueLit s.values lit = left_true s lit h.agrees h.left in
     record {
-      clauses = subst (λ (n : ℕ). AreClauses w live n) (sym g.size) h.clauses;
+      clauses = subst (λ (n : ℕ). AreLongClauses w live n) (sym g.size) h.clauses;
       agrees = a;
       queue = q;
       left = left_forth s t lit g e h.left;
       top = level_kept s t lit g lt ∙ h.top ∙ ap (λ (xs : List ℕ). length xs) (sym g.starts);
-      walked = subst (λ (n : ℕ). AreWalked w live lists list lit kept at n) (sym g.size) h.walked;
+      walked = subst (λ (n : ℕ). AreWatchedDuringWalk w live lists list lit kept at n) (sym g.size) h.walked;
       settled = λ o i ho hi f.
           let f' : HasLeftQueue s (negated (lit_of w o i)) = left_back s t (negated (lit_of w o i)) g e h.agrees.trail f in
           let same : level t (negated (lit_of w o i)) ≡ level s (negated (lit_of w o i)) = level_kept s t (negated (lit_of w o i)) g (left_true s (negated (lit_of w o i)) h.agrees f') in

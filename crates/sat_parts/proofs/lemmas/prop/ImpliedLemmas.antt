@@ -9,7 +9,7 @@ use Rattle.sat_parts.specs.declared.prop.graph.Reason.TheVariants.{Unit as NoCau
 use Rattle.sat_parts.specs.clause.Stored.{lit_of, size_of}
 use Rattle.sat_parts.specs.prop.Binaries.{implied_by}
 use Rattle.sat_parts.specs.prop.State.{PropagationState, node, lit_at}
-use Rattle.sat_parts.specs.prop.Reasons.{IsFalseBefore, Implies, AreUnitInTurn}
+use Rattle.sat_parts.specs.prop.Reasons.{IsFalseBefore, ReasonImplies, ReasonsAreUnit}
 use Rattle.sat_parts.specs.prop.Implied.{IsModelOf, AssignedIsImplied}
 use Rattle.sat_parts.proofs.lemmas.clause.ListLemmas.{at_place}
 
@@ -29,7 +29,7 @@ false_before words live implied s v n l m h x = elim x [
 ]
 
 next_holds : (words live : List ℕ) (implied : List (List ℕ)) (s : PropagationState) (v : ℕ → Bool) (n : ℕ) (r : Reason) → IsModelOf words live implied s v → HoldsBefore s v n → n < length s.trail.lits →
-    (node s (lit_at s n)).reason ≡ r → Implies words live implied s n r → literal_true v (lit_at s n) ≡ true
+    (node s (lit_at s n)).reason ≡ r → ReasonImplies words live implied s n r → literal_true v (lit_at s n) ≡ true
 next_holds words live implied s v n NoCause m h lt e x = m.given n lt e
 next_holds words live implied s v n (Binary ls) m h lt e x =
     let l : ℕ = negated (get_or ls 0 0) in
@@ -42,7 +42,7 @@ next_holds words live implied s v n (Long o) m h lt e x =
       | inr d ↦ absurd (both_signs v (lit_of words o w.0) w.1.1 (false_before words live implied s v n (lit_of words o w.0) m h (x.2 w.0 (omega arith) w.1.0)))
     ]
 
-all_hold : (words live : List ℕ) (implied : List (List ℕ)) (s : PropagationState) (v : ℕ → Bool) (n : ℕ) → AreUnitInTurn words live implied s 0 → IsModelOf words live implied s v → HoldsBefore s v n
+all_hold : (words live : List ℕ) (implied : List (List ℕ)) (s : PropagationState) (v : ℕ → Bool) (n : ℕ) → ReasonsAreUnit words live implied s 0 → IsModelOf words live implied s v → HoldsBefore s v n
 all_hold words live implied s v zero t m i a b = absurd (omega arith)
 all_hold words live implied s v (suc n) t m i a b =
     let before : HoldsBefore s v n = all_hold words live implied s v n t m in

@@ -6,27 +6,27 @@ use Rattle.std.proofs.lemmas.List.{ext_get_or, get_or_past, get_or-take, get_or-
 use Rattle.std.proofs.lemmas.List.Sums.{sum_by_more}
 use Rattle.std.specs.List.{sum_by}
 use Rattle.sat_parts.specs.declared.binary.Place.{Place}
-use Rattle.sat_parts.specs.prop.Places.{no_place, place_at, part_of, lists_of, HaveNoCommonPlace, ArePlaces, CopiesPadded}
+use Rattle.sat_parts.specs.prop.Places.{no_place, place_at, lits_at_place, lists_of, HaveDisjointRooms, ArePlaces, CopiesPadded}
 
-pub lists_at : (places : List Place) (lits : List ℕ) (l : ℕ) → get_or (lists_of places lits) l [] ≡ part_of lits (place_at places l)
-lists_at places lits l = get_or-map (part_of lits) places l no_place
+pub lists_at : (places : List Place) (lits : List ℕ) (l : ℕ) → get_or (lists_of places lits) l [] ≡ lits_at_place lits (place_at places l)
+lists_at places lits l = get_or-map (lits_at_place lits) places l no_place
 
-pub part_len : (lits : List ℕ) (p : Place) → p.start + p.len ≤ length lits → length (part_of lits p) ≡ p.len
+pub part_len : (lits : List ℕ) (p : Place) → p.start + p.len ≤ length lits → length (lits_at_place lits p) ≡ p.len
 part_len lits p within =
     let n : length (drop p.start lits) ≡ length lits - p.start = length-drop p.start lits in
-    let m : length (part_of lits p) ≡ min p.len (length (drop p.start lits)) = length-take p.len (drop p.start lits) in
+    let m : length (lits_at_place lits p) ≡ min p.len (length (drop p.start lits)) = length-take p.len (drop p.start lits) in
     omega (arith, n, m)
 
-pub part_at : (lits : List ℕ) (p : Place) (k : ℕ) → k < p.len → get_or (part_of lits p) k 0 ≡ get_or lits (p.start + k) 0
+pub part_at : (lits : List ℕ) (p : Place) (k : ℕ) → k < p.len → get_or (lits_at_place lits p) k 0 ≡ get_or lits (p.start + k) 0
 part_at lits p k lt = get_or-take p.len (drop p.start lits) k 0 lt ∙ get_or-drop p.start lits k 0
 
 -- two parts with the same literals are equal
 pub part_same : (lits more : List ℕ) (p q : Place) → q.start + q.len ≤ length lits → p.start + p.len ≤ length more → p.len ≡ q.len →
-    ((k : ℕ) → k < q.len → get_or more (p.start + k) 0 ≡ get_or lits (q.start + k) 0) → part_of more p ≡ part_of lits q
+    ((k : ℕ) → k < q.len → get_or more (p.start + k) 0 ≡ get_or lits (q.start + k) 0) → lits_at_place more p ≡ lits_at_place lits q
 part_same lits more p q within within' len same =
-    let n : length (part_of lits q) ≡ q.len = part_len lits q within in
-    let m : length (part_of more p) ≡ p.len = part_len more p within' in
-    ext_get_or 0 (part_of more p) (part_of lits q) (m ∙ len ∙ sym n)
+    let n : length (lits_at_place lits q) ≡ q.len = part_len lits q within in
+    let m : length (lits_at_place more p) ≡ p.len = part_len more p within' in
+    ext_get_or 0 (lits_at_place more p) (lits_at_place lits q) (m ∙ len ∙ sym n)
     (λ k lt. part_at more p k (omega (arith, m)) ∙ same k (omega (arith, m)) ∙ sym (part_at lits q k (omega (arith, m))))
 
 -- every list lies within the shared list
@@ -46,32 +46,32 @@ places_kept old new size h each = record {
   ];
   apart = λ l m n. elim (each l) [
     | inl e ↦ elim (each m) [
-      | inl d ↦ subst (λ (p : Place). HaveNoCommonPlace p (place_at new m)) (sym e) (subst (λ (q : Place). HaveNoCommonPlace (place_at old l) q) (sym d) (h.apart l m n))
-      | inr d ↦ subst (λ (q : Place). HaveNoCommonPlace (place_at new l) q) (sym d) (inr (omega arith))
+      | inl d ↦ subst (λ (p : Place). HaveDisjointRooms p (place_at new m)) (sym e) (subst (λ (q : Place). HaveDisjointRooms (place_at old l) q) (sym d) (h.apart l m n))
+      | inr d ↦ subst (λ (q : Place). HaveDisjointRooms (place_at new l) q) (sym d) (inr (omega arith))
     ]
-    | inr e ↦ subst (λ (p : Place). HaveNoCommonPlace p (place_at new m)) (sym e) (inl (omega arith))
+    | inr e ↦ subst (λ (p : Place). HaveDisjointRooms p (place_at new m)) (sym e) (inl (omega arith))
   ];
 }
 
 -- one list changes, and the others stay
-pub lists_set : (places : List Place) (lits more : List ℕ) (code : ℕ) (p : Place) (xs : List ℕ) → code < length places → part_of more p ≡ xs →
-    ((m : ℕ) → m ≢ code → part_of more (place_at places m) ≡ part_of lits (place_at places m)) → lists_of (set places code p) more ≡ set (lists_of places lits) code xs
+pub lists_set : (places : List Place) (lits more : List ℕ) (code : ℕ) (p : Place) (xs : List ℕ) → code < length places → lits_at_place more p ≡ xs →
+    ((m : ℕ) → m ≢ code → lits_at_place more (place_at places m) ≡ lits_at_place lits (place_at places m)) → lists_of (set places code p) more ≡ set (lists_of places lits) code xs
 lists_set places lits more code p xs lt is others =
-    let n : length (lists_of (set places code p) more) ≡ length places = length-map (set places code p) (part_of more) ∙ length-set places code p in
-    let m : length (set (lists_of places lits) code xs) ≡ length places = length-set (lists_of places lits) code xs ∙ length-map places (part_of lits) in
-    let lt' : code < length (lists_of places lits) = omega (arith, length-map places (part_of lits)) in
+    let n : length (lists_of (set places code p) more) ≡ length places = length-map (set places code p) (lits_at_place more) ∙ length-set places code p in
+    let m : length (set (lists_of places lits) code xs) ≡ length places = length-set (lists_of places lits) code xs ∙ length-map places (lits_at_place lits) in
+    let lt' : code < length (lists_of places lits) = omega (arith, length-map places (lits_at_place lits)) in
     ext_get_or [] (lists_of (set places code p) more) (set (lists_of places lits) code xs) (n ∙ sym m)
     (λ l b. elim (cases_eq l code) [
       | inl e ↦
           lists_at (set places code p) more l
-          ∙ ap (λ (k : ℕ). part_of more (place_at (set places code p) k)) e
-          ∙ ap (λ (q : Place). part_of more q) (get_or-set_same places code p no_place lt)
+          ∙ ap (λ (k : ℕ). lits_at_place more (place_at (set places code p) k)) e
+          ∙ ap (λ (q : Place). lits_at_place more q) (get_or-set_same places code p no_place lt)
           ∙ is
           ∙ sym (get_or-set_same (lists_of places lits) code xs [] lt')
           ∙ ap (λ (k : ℕ). get_or (set (lists_of places lits) code xs) k []) (sym e)
       | inr d ↦
           lists_at (set places code p) more l
-          ∙ ap (λ (q : Place). part_of more q) (get_or-set_other places code l p no_place d)
+          ∙ ap (λ (q : Place). lits_at_place more q) (get_or-set_other places code l p no_place d)
           ∙ others l d
           ∙ sym (lists_at places lits l)
           ∙ sym (get_or-set_other (lists_of places lits) code l xs [] d)
@@ -80,7 +80,7 @@ lists_set places lits more code p xs lt is others =
 -- writing within the room of one list leaves the others unchanged
 pub part_kept : (places : List Place) (lits more : List ℕ) (code m : ℕ) → ArePlaces places (length lits) → length lits ≤ length more → m ≢ code →
     ((k : ℕ) → k < length lits → (k < (place_at places code).start) ⊎ ((place_at places code).start + (place_at places code).room ≤ k) → get_or more k 0 ≡ get_or lits k 0) →
-    part_of more (place_at places m) ≡ part_of lits (place_at places m)
+    lits_at_place more (place_at places m) ≡ lits_at_place lits (place_at places m)
 part_kept places lits more code m h le n same =
     let q : Place = place_at places m in
     let p : Place = place_at places code in
@@ -99,8 +99,8 @@ lists_moved places lits more code room h lt few c =
     let p : Place = place_at places code in
     let q : Place = record { start = length lits; len = p.len; room = room } in
     let w : p.start + p.len ≤ length lits = list_within places (length lits) code h in
-    let here : part_of more q ≡ part_of lits p = part_same lits more q p w (omega (arith, c.size)) refl (λ k b. c.copied k b) in
-    lists_set places lits more code q (part_of lits p) lt here
+    let here : lits_at_place more q ≡ lits_at_place lits p = part_same lits more q p w (omega (arith, c.size)) refl (λ k b. c.copied k b) in
+    lists_set places lits more code q (lits_at_place lits p) lt here
     (λ m n. part_kept places lits more code m h (omega (arith, c.size)) n (λ k b _. c.kept k b))
     ∙ ap (λ (xs : List ℕ). set (lists_of places lits) code xs) (sym (lists_at places lits code))
     ∙ set-get_or (lists_of places lits) code []
@@ -116,23 +116,23 @@ lists_pushed places lits code x h lt room =
     let more : List ℕ = set lits at x in
     let size : length (set lits (p.start + p.len) x) ≡ length lits = length-set lits (p.start + p.len) x in
     let fits : p.start + p.len < length lits = omega (arith, h.within code, room) in
-    let n : length (part_of lits p) ≡ p.len = part_len lits p (omega (arith, fits)) in
-    let m : length (part_of (set lits (p.start + p.len) x) q) ≡ p.len + 1 = part_len (set lits (p.start + p.len) x) q (omega (arith, fits, size)) in
-    let o : length (part_of lits p ++ x ∷ []) ≡ p.len + 1 = length_push (part_of lits p) x ∙ ap (λ (k : ℕ). k + 1) n in
-    let here : part_of (set lits (p.start + p.len) x) q ≡ part_of lits p ++ x ∷ [] =
-    ext_get_or 0 (part_of (set lits (p.start + p.len) x) q) (part_of lits p ++ x ∷ []) (m ∙ sym o)
+    let n : length (lits_at_place lits p) ≡ p.len = part_len lits p (omega (arith, fits)) in
+    let m : length (lits_at_place (set lits (p.start + p.len) x) q) ≡ p.len + 1 = part_len (set lits (p.start + p.len) x) q (omega (arith, fits, size)) in
+    let o : length (lits_at_place lits p ++ x ∷ []) ≡ p.len + 1 = length_push (lits_at_place lits p) x ∙ ap (λ (k : ℕ). k + 1) n in
+    let here : lits_at_place (set lits (p.start + p.len) x) q ≡ lits_at_place lits p ++ x ∷ [] =
+    ext_get_or 0 (lits_at_place (set lits (p.start + p.len) x) q) (lits_at_place lits p ++ x ∷ []) (m ∙ sym o)
     (λ k b. part_at (set lits (p.start + p.len) x) q k (omega (arith, m)) ∙ elim (cases_lt k p.len) [
       | inl less ↦
           get_or-set_other lits (p.start + p.len) (p.start + k) x 0 (omega arith)
           ∙ sym (part_at lits p k less)
-          ∙ sym (get_or_append_left (part_of lits p) (x ∷ []) 0 k (omega (arith, n)))
+          ∙ sym (get_or_append_left (lits_at_place lits p) (x ∷ []) 0 k (omega (arith, n)))
       | inr last ↦
           let e : k ≡ p.len = omega (arith, m) in
           ap (λ (i : ℕ). get_or (set lits (p.start + p.len) x) (p.start + i) 0) e
           ∙ get_or-set_same lits (p.start + p.len) x 0 fits
-          ∙ sym (ap (λ (i : ℕ). get_or (part_of lits p ++ x ∷ []) i 0) (e ∙ sym n) ∙ get_or_push (part_of lits p) x 0 (length (part_of lits p)) refl)
+          ∙ sym (ap (λ (i : ℕ). get_or (lits_at_place lits p ++ x ∷ []) i 0) (e ∙ sym n) ∙ get_or_push (lits_at_place lits p) x 0 (length (lits_at_place lits p)) refl)
     ]) in
-    lists_set places lits (set lits (p.start + p.len) x) code q (part_of lits p ++ x ∷ []) lt here
+    lists_set places lits (set lits (p.start + p.len) x) code q (lits_at_place lits p ++ x ∷ []) lt here
     (λ m n. part_kept places lits (set lits (p.start + p.len) x) code m h (omega (arith, size)) n
     (λ k b away. get_or-set_other lits (p.start + p.len) k x 0 (elim away [ inl a ↦ omega (arith, room) | inr b ↦ omega (arith, room) ])))
     ∙ ap (λ (xs : List ℕ). set (lists_of places lits) code (xs ++ x ∷ [])) (sym (lists_at places lits code))
@@ -163,19 +163,19 @@ pub list_popped : (places : List Place) (lits : List ℕ) (code : ℕ) → ArePl
     take ((place_at places code).len - 1) (drop (place_at places code).start lits) ≡ take (length (get_or (lists_of places lits) code []) - 1) (get_or (lists_of places lits) code [])
 list_popped places lits code h =
     let p : Place = place_at places code in
-    let n : length (part_of lits p) ≡ p.len = part_len lits p (list_within places (length lits) code h) in
+    let n : length (lits_at_place lits p) ≡ p.len = part_len lits p (list_within places (length lits) code h) in
     sym (ap (λ (xs : List ℕ). take (length xs - 1) xs) (lists_at places lits code)
-    ∙ ap (λ (k : ℕ). take (k - 1) (part_of lits p)) n
+    ∙ ap (λ (k : ℕ). take (k - 1) (lits_at_place lits p)) n
     ∙ fewer 0 (p.len - 1) p.len (drop p.start lits) (omega arith))
 
 -- more or fewer lists
 pub lists_resized : (places : List Place) (lits : List ℕ) (count : ℕ) →
     lists_of (take count places ++ replicate (count - length places) no_place) lits ≡ take count (lists_of places lits) ++ replicate (count - length (lists_of places lits)) []
 lists_resized places lits count =
-    map-append (part_of lits) (take count places) (replicate (count - length places) no_place)
-    ∙ ap (λ (xs : List (List ℕ)). xs ++ map (part_of lits) (replicate (count - length places) no_place)) (sym (take-map (part_of lits) count places))
-    ∙ ap (λ (xs : List (List ℕ)). take count (lists_of places lits) ++ xs) (map_replicate (part_of lits) (count - length places) no_place)
-    ∙ ap (λ (k : ℕ). take count (lists_of places lits) ++ replicate (count - k) []) (sym (length-map places (part_of lits)))
+    map-append (lits_at_place lits) (take count places) (replicate (count - length places) no_place)
+    ∙ ap (λ (xs : List (List ℕ)). xs ++ map (lits_at_place lits) (replicate (count - length places) no_place)) (sym (take-map (lits_at_place lits) count places))
+    ∙ ap (λ (xs : List (List ℕ)). take count (lists_of places lits) ++ xs) (map_replicate (lits_at_place lits) (count - length places) no_place)
+    ∙ ap (λ (k : ℕ). take count (lists_of places lits) ++ replicate (count - k) []) (sym (length-map places (lits_at_place lits)))
 
 pub places_resized : (places : List Place) (size count : ℕ) → ArePlaces places size → ArePlaces (take count places ++ replicate (count - length places) no_place) size
 places_resized places size count h = places_kept places (take count places ++ replicate (count - length places) no_place) size h (λ l.
@@ -197,7 +197,7 @@ places_resized places size count h = places_kept places (take count places ++ re
 pub implied_more : (places : List Place) (lits : List ℕ) (code : ℕ) → ArePlaces places (length lits) → code < length places →
     sum_by (λ (ls : List ℕ). length ls) (take (code + 1) (lists_of places lits)) ≡ sum_by (λ (ls : List ℕ). length ls) (take code (lists_of places lits)) + (place_at places code).len
 implied_more places lits code h lt =
-    sum_by_more (λ (ls : List ℕ). length ls) (lists_of places lits) code [] (omega (arith, length-map places (part_of lits)))
+    sum_by_more (λ (ls : List ℕ). length ls) (lists_of places lits) code [] (omega (arith, length-map places (lits_at_place lits)))
     ∙ ap (λ (n : ℕ). sum_by (λ (ls : List ℕ). length ls) (take code (lists_of places lits)) + n)
     (ap (λ (xs : List ℕ). length xs) (lists_at places lits code) ∙ part_len lits (place_at places code) (list_within places (length lits) code h))
 
@@ -215,12 +215,12 @@ pub moved_by : (places : List Place) (lits more : List ℕ) (code start room : �
 moved_by places lits more code start room p e s h lt few c = rw (s, e) (lists_moved places lits more code room h lt (subst (λ (q : Place). q.len ≤ room) e few) (subst (λ (q : Place). CopiesPadded q.start q.len room lits more) e c))
 
 pub left_by : (places : List Place) (lits more : List ℕ) (code left : ℕ) (f : List ℕ → List ℕ) (p : Place) → p ≡ place_at places code → ArePlaces places (length lits) → length more ≡ length lits → code < length places →
-    take left (drop p.start more) ≡ f (part_of lits p) →
+    take left (drop p.start more) ≡ f (lits_at_place lits p) →
     ((k : ℕ) → (k < p.start) ⊎ (p.start + p.len ≤ k) → get_or more k 0 ≡ get_or lits k 0) →
     lists_of (set places code (record { start = p.start; len = left; room = p.room })) more ≡ set (lists_of places lits) code (f (get_or (lists_of places lits) code []))
 left_by places lits more code left f p e h size lt is same =
     rw e (lists_left places lits more code left (f (get_or (lists_of places lits) code [])) h size lt
-    (subst (λ (q : Place). take left (drop q.start more) ≡ f (part_of lits q)) e is ∙ ap f (sym (lists_at places lits code)))
+    (subst (λ (q : Place). take left (drop q.start more) ≡ f (lits_at_place lits q)) e is ∙ ap f (sym (lists_at places lits code)))
     (subst (λ (q : Place). (k : ℕ) → (k < q.start) ⊎ (q.start + q.len ≤ k) → get_or more k 0 ≡ get_or lits k 0) e same))
 
 -- the length of a list whose place was written
@@ -228,7 +228,7 @@ pub left_len : (places : List Place) (more : List ℕ) (code left start room : �
     left ≡ length (get_or (lists_of (set places code (record { start = start; len = left; room = room })) more) code [])
 left_len places more code left start room lt within =
     let q : Place = record { start = start; len = left; room = room } in
-    sym (ap (λ (xs : List ℕ). length xs) (lists_at (set places code q) more code ∙ ap (λ (r : Place). part_of more r) (get_or-set_same places code q no_place lt)) ∙ part_len more q within)
+    sym (ap (λ (xs : List ℕ). length xs) (lists_at (set places code q) more code ∙ ap (λ (r : Place). lits_at_place more r) (get_or-set_same places code q no_place lt)) ∙ part_len more q within)
 
 -- nothing outside a part changed if what is before and after it did not
 pub rest_by : (old cur : List ℕ) (start len : ℕ) → take start cur ≡ take start old → drop len (drop start cur) ≡ drop len (drop start old) → (k : ℕ) → (k < start) ⊎ (start + len ≤ k) → get_or cur k 0 ≡ get_or old k 0

@@ -8,13 +8,13 @@ use Rattle.sat_store.specs.clause.Buffer.{lits_at}
 use Rattle.sat_parts.specs.declared.prop.graph.Conflict.{Conflict}
 use Rattle.sat_parts.specs.declared.prop.graph.Conflict.TheVariants.{Binary, Long}
 use Rattle.sat_parts.specs.declared.prop.watch.Watch.{Watch}
-use Rattle.sat_parts.specs.clause.Stored.{AreClauses, lit_of, size_of}
+use Rattle.sat_parts.specs.clause.Stored.{AreLongClauses, lit_of, size_of}
 use Rattle.sat_parts.specs.prop.Values.{IsTrueLit, IsFalseLit}
 use Rattle.sat_parts.specs.prop.Binaries.{implied_by}
-use Rattle.sat_parts.specs.prop.State.{PropagationState, node, level, current_level, lit_at, IsRemoved, IsBefore, HasLeftQueue, StateIsConsistent, IsQueueCurrent, IsSatisfied, TrailGrows}
-use Rattle.sat_parts.specs.prop.Reasons.{HaveFirsts, PropagatesOn}
-use Rattle.sat_parts.specs.prop.Ready.{AreImplied, AreWatched, AreLists, LongReady, ReadyBelow, IsReadyToPropagate, IsUnitFixpoint, IsConflict}
-use Rattle.sat_parts.specs.prop.Walk.{BinaryWalkInvariant, WatchWalkEffect, due_after}
+use Rattle.sat_parts.specs.prop.State.{PropagationState, node, level, current_level, lit_at, IsRemovedUnit, IsOnTrailBefore, HasLeftQueue, StateIsConsistent, IsQueueCurrent, IsSatisfied, TrailGrows}
+use Rattle.sat_parts.specs.prop.Reasons.{TrailReasonsHaveLitFirst, PropagationEffect}
+use Rattle.sat_parts.specs.prop.Ready.{BinariesArePropagated, AreWatched, AreImpliedLists, LongPropagationInvariant, WatchedPropagationInvariant, IsReadyToPropagate, IsUnitFixpoint, IsConflict}
+use Rattle.sat_parts.specs.prop.Walk.{BinaryWalkInvariant, WatchWalkEffect, IsDueAfterWalk}
 use Rattle.sat_parts.proofs.lemmas.clause.OrderLemmas.{reorders_refl}
 use Rattle.sat_parts.proofs.lemmas.prop.StateLemmas.{true_from_false, not_both, open_other, level_low, left_true, left_back, level_kept, satisfied_forth, before_forth, removed_forth}
 use Rattle.sat_parts.proofs.lemmas.prop.ReasonLemmas.{moves_trans, implies_forth, firsts_moved}
@@ -23,7 +23,7 @@ use Rattle.sat_parts.proofs.lemmas.prop.ReasonLemmas.{moves_trans, implies_forth
 abbrev pub popped : PropagationState → PropagationState
 popped s = record s { trail = record s.trail { head = s.trail.head + 1 } }
 
-pub popped_removed : (s : PropagationState) (l : ℕ) → IsRemoved (popped s) l → IsRemoved s l
+pub popped_removed : (s : PropagationState) (l : ℕ) → IsRemovedUnit (popped s) l → IsRemovedUnit s l
 popped_removed s l r = record { holds = r.holds; depth = r.depth; bottom = r.bottom }
 
 pub grows_popped : (s : PropagationState) → TrailGrows s (popped s)
@@ -53,13 +53,13 @@ agrees_popped s h lt = record {
   ];
 }
 
-pub moves_popped : (live : List ℕ) (implied : List (List ℕ)) (words : List ℕ) (s : PropagationState) → PropagatesOn live implied words s words (popped s)
+pub moves_popped : (live : List ℕ) (implied : List (List ℕ)) (words : List ℕ) (s : PropagationState) → PropagationEffect live implied words s words (popped s)
 moves_popped live implied words s = record {
   grows = grows_popped s;
   reorders = reorders_refl words live;
   firsts = λ o h t. refl;
   caused = λ i p q. absurd (omega arith);
-  turns = λ from p h i x y. implies_forth words live implied s (popped s) i (node s (lit_at s i)).reason (grows_popped s) y (h i x y);
+  reasons = λ from p h i x y. implies_forth words live implied s (popped s) i (node s (lit_at s i)).reason (grows_popped s) y (h i x y);
 }
 
 -- the next literal of the queue
@@ -88,8 +88,8 @@ queue_popped s q i x y = q i (omega arith) y
 all_due : (s : PropagationState) (l : ℕ) → StateIsConsistent s → HasLeftQueue s l → level s l < current_level s + 1
 all_due s l a h = omega (arith, level_low s l a (left_true s l a h))
 
-pub long_popped : (w live : List ℕ) (lists : List (List Watch)) (s : PropagationState) (l : ℕ) → LongReady w live lists s (λ m. level s m < current_level s + 1) →
-    s.trail.head < length s.trail.lits → lit_at s s.trail.head ≡ l → LongReady w live lists (popped s) (λ m. m ≢ l)
+pub long_popped : (w live : List ℕ) (lists : List (List Watch)) (s : PropagationState) (l : ℕ) → LongPropagationInvariant w live lists s (λ m. level s m < current_level s + 1) →
+    s.trail.head < length s.trail.lits → lit_at s s.trail.head ≡ l → LongPropagationInvariant w live lists (popped s) (λ m. m ≢ l)
 long_popped w live lists s l h lt e = record {
   clauses = h.clauses;
   watches = h.watches;
@@ -100,17 +100,17 @@ long_popped w live lists s l h lt e = record {
       satisfied_forth s (popped s) (lits_at w o) (level s (negated (lit_of w o i))) (grows_popped s) (h.settled o i ho hi x (all_due s (negated (lit_of w o i)) h.agrees x));
 }
 
-pub implied_popped : (implied : List (List ℕ)) (s : PropagationState) (l : ℕ) → StateIsConsistent s → AreImplied implied s (λ m. level s m < current_level s + 1) →
-    lit_at s s.trail.head ≡ l → AreImplied implied (popped s) (λ m. m ≢ l)
+pub implied_popped : (implied : List (List ℕ)) (s : PropagationState) (l : ℕ) → StateIsConsistent s → BinariesArePropagated implied s (λ m. level s m < current_level s + 1) →
+    lit_at s s.trail.head ≡ l → BinariesArePropagated implied (popped s) (λ m. m ≢ l)
 implied_popped implied s l a h e m k f n b =
     let x : HasLeftQueue s m = popped_back s l m e f n in
     h m k x (all_due s m a x) b
 
 -- unassigned literals become true, and propagated clauses stay so
-pub long_grows : (w live : List ℕ) (lists : List (List Watch)) (s t : PropagationState) (due : ℕ → Type 0) → LongReady w live lists s due →
-    TrailGrows s t → t.trail.head ≡ s.trail.head → StateIsConsistent t → IsQueueCurrent t → LongReady w live lists t due
+pub long_grows : (w live : List ℕ) (lists : List (List Watch)) (s t : PropagationState) (due : ℕ → Type 0) → LongPropagationInvariant w live lists s due →
+    TrailGrows s t → t.trail.head ≡ s.trail.head → StateIsConsistent t → IsQueueCurrent t → LongPropagationInvariant w live lists t due
 long_grows w live lists s t due h g e a q = record {
-  clauses = subst (λ (n : ℕ). AreClauses w live n) (sym g.size) h.clauses;
+  clauses = subst (λ (n : ℕ). AreLongClauses w live n) (sym g.size) h.clauses;
   watches = subst (λ (n : ℕ). AreWatched w live lists n) (sym g.size) h.watches;
   agrees = a;
   queue = q;
@@ -121,8 +121,8 @@ long_grows w live lists s t due h g e a q = record {
       (subst (λ (n : ℕ). IsSatisfied s (lits_at w o) n) (sym same) (h.settled o i ho hi x d));
 }
 
-pub implied_grows : (implied : List (List ℕ)) (s t : PropagationState) (due : ℕ → Type 0) → StateIsConsistent s → AreImplied implied s due →
-    TrailGrows s t → t.trail.head ≡ s.trail.head → AreImplied implied t due
+pub implied_grows : (implied : List (List ℕ)) (s t : PropagationState) (due : ℕ → Type 0) → StateIsConsistent s → BinariesArePropagated implied s due →
+    TrailGrows s t → t.trail.head ≡ s.trail.head → BinariesArePropagated implied t due
 implied_grows implied s t due a h g e m k f d b =
     let x : HasLeftQueue s m = left_back s t m g e a.trail f in
     let y : IsTrueLit s.values (get_or (implied_by implied m) k 0) × (level s (get_or (implied_by implied m) k 0) ≤ level s m) = h m k x d b in (
@@ -131,8 +131,8 @@ implied_grows implied s t due a h g e m k f d b =
     )
 
 -- fewer literals are due
-pub long_due : (w live : List ℕ) (lists : List (List Watch)) (s : PropagationState) (due due' : ℕ → Type 0) → LongReady w live lists s due →
-    ((m : ℕ) → HasLeftQueue s m → due' m → due m) → LongReady w live lists s due'
+pub long_due : (w live : List ℕ) (lists : List (List Watch)) (s : PropagationState) (due due' : ℕ → Type 0) → LongPropagationInvariant w live lists s due →
+    ((m : ℕ) → HasLeftQueue s m → due' m → due m) → LongPropagationInvariant w live lists s due'
 long_due w live lists s due due' h fewer = record {
   clauses = h.clauses;
   watches = h.watches;
@@ -142,8 +142,8 @@ long_due w live lists s due due' h fewer = record {
 }
 
 -- the literals that l implies are true: implications hold for all literals that have left the queue
-pub binary_settled : (implied : List (List ℕ)) (s t : PropagationState) (l : ℕ) → StateIsConsistent s → AreImplied implied s (λ m. m ≢ l) →
-    BinaryWalkInvariant implied l s t (length (implied_by implied l)) → AreImplied implied t (λ m. level t m < current_level t + 1)
+pub binary_settled : (implied : List (List ℕ)) (s t : PropagationState) (l : ℕ) → StateIsConsistent s → BinariesArePropagated implied s (λ m. m ≢ l) →
+    BinaryWalkInvariant implied l s t (length (implied_by implied l)) → BinariesArePropagated implied t (λ m. level t m < current_level t + 1)
 binary_settled implied s t l a h w m k f d b =
     let g : TrailGrows s t = (w.moves [] []).grows in
     elim (cases_eq m l) [
@@ -155,15 +155,15 @@ binary_settled implied s t l a h w m k f d b =
     ]
 
 -- the loop over binary clauses stopped: implications hold below the current level
-pub binary_below : (implied : List (List ℕ)) (s t : PropagationState) (l : ℕ) → StateIsConsistent s → AreImplied implied s (λ m. m ≢ l) →
-    BinaryWalkInvariant implied l s t 0 → AreImplied implied t (λ m. level t m < current_level t)
+pub binary_below : (implied : List (List ℕ)) (s t : PropagationState) (l : ℕ) → StateIsConsistent s → BinariesArePropagated implied s (λ m. m ≢ l) →
+    BinaryWalkInvariant implied l s t 0 → BinariesArePropagated implied t (λ m. level t m < current_level t)
 binary_below implied s t l a h w m k f d b =
     let n : m ≢ l = λ e. (let x : level t m ≡ level t l = ap (λ z. level t z) e in omega (arith, w.top)) in
     implied_grows implied s t (λ z. z ≢ l) a h (w.moves [] []).grows w.head m k f n b
 
 -- propagation over binary clauses keeps the long clauses ready
 pub binary_long : (w live : List ℕ) (lists : List (List Watch)) (implied : List (List ℕ)) (s t : PropagationState) (l at : ℕ) →
-    LongReady w live lists s (λ m. m ≢ l) → BinaryWalkInvariant implied l s t at → LongReady w live lists t (λ m. m ≢ l)
+    LongPropagationInvariant w live lists s (λ m. m ≢ l) → BinaryWalkInvariant implied l s t at → LongPropagationInvariant w live lists t (λ m. m ≢ l)
 binary_long w live lists implied s t l at h b = long_grows w live lists s t (λ m. m ≢ l) h (b.moves [] []).grows b.head b.agrees b.queue
 
 -- a conflict over binary clauses is one whatever the long clauses are
@@ -173,38 +173,38 @@ binary_names words live implied values (Long o) h = absurd (omega (arith, h.0.1)
 
 -- the state after a falsified binary clause was found
 pub stopped_binary : (w live : List ℕ) (lists : List (List Watch)) (implied : List (List ℕ)) (s t : PropagationState) (l : ℕ) →
-    LongReady w live lists s (λ m. m ≢ l) → AreLists implied (length s.values) → AreImplied implied s (λ m. m ≢ l) → HaveFirsts w live s →
-    BinaryWalkInvariant implied l s t 0 → ReadyBelow w live lists implied t (current_level t)
+    LongPropagationInvariant w live lists s (λ m. m ≢ l) → AreImpliedLists implied (length s.values) → BinariesArePropagated implied s (λ m. m ≢ l) → TrailReasonsHaveLitFirst w live s →
+    BinaryWalkInvariant implied l s t 0 → WatchedPropagationInvariant w live lists implied t (current_level t)
 stopped_binary w live lists implied s t l h ranges i firsts b = record {
   long = long_due w live lists t (λ m. m ≢ l) (λ m. level t m < current_level t) (binary_long w live lists implied s t l 0 h b)
       (λ m f d e. (let x : level t m ≡ level t l = ap (λ z. level t z) e in omega (arith, b.top)));
-  ranges = subst (λ (n : ℕ). AreLists implied n) (sym (b.moves [] []).grows.size) ranges;
+  ranges = subst (λ (n : ℕ). AreImpliedLists implied n) (sym (b.moves [] []).grows.size) ranges;
   binary = binary_below implied s t l h.agrees i b;
   firsts = firsts_moved live implied w s w t h.agrees (b.moves w live) firsts;
 }
 
 -- the state after the long clauses were visited without a conflict
 pub ready_again : (w v live : List ℕ) (lists : List (List Watch)) (implied : List (List ℕ)) (s t : PropagationState) →
-    StateIsConsistent s → AreLists implied (length s.values) → AreImplied implied s (λ m. level s m < current_level s + 1) → HaveFirsts w live s →
+    StateIsConsistent s → AreImpliedLists implied (length s.values) → BinariesArePropagated implied s (λ m. level s m < current_level s + 1) → TrailReasonsHaveLitFirst w live s →
     WatchWalkEffect live w s v t lists None → IsReadyToPropagate v live lists implied t
 ready_again w v live lists implied s t a ranges i firsts x =
     let g : TrailGrows s t = (x.moves []).grows in
     record {
-      long = long_due v live lists t (due_after None t) (λ m. level t m < current_level t + 1) x.ready (λ m f d. tt);
-      ranges = subst (λ (n : ℕ). AreLists implied n) (sym g.size) ranges;
+      long = long_due v live lists t (IsDueAfterWalk None t) (λ m. level t m < current_level t + 1) x.ready (λ m f d. tt);
+      ranges = subst (λ (n : ℕ). AreImpliedLists implied n) (sym g.size) ranges;
       binary = λ m k f d b. implied_grows implied s t (λ m. Unit {0}) a (λ m2 k2 f2 d2 b2. i m2 k2 f2 (all_due s m2 a f2) b2) g x.head m k f tt b;
       firsts = firsts_moved live implied w s v t a (x.moves implied) firsts;
     }
 
 -- after a falsified long clause, propagation can continue once the current level is undone
 pub stopped_long : (w v live : List ℕ) (lists : List (List Watch)) (implied : List (List ℕ)) (s t : PropagationState) (o : ℕ) →
-    StateIsConsistent s → AreLists implied (length s.values) → AreImplied implied s (λ m. level s m < current_level s + 1) → HaveFirsts w live s →
-    WatchWalkEffect live w s v t lists (Some o) → ReadyBelow v live lists implied t (current_level t)
+    StateIsConsistent s → AreImpliedLists implied (length s.values) → BinariesArePropagated implied s (λ m. level s m < current_level s + 1) → TrailReasonsHaveLitFirst w live s →
+    WatchWalkEffect live w s v t lists (Some o) → WatchedPropagationInvariant v live lists implied t (current_level t)
 stopped_long w v live lists implied s t o a ranges i firsts x =
     let g : TrailGrows s t = (x.moves []).grows in
     record {
       long = x.ready;
-      ranges = subst (λ (n : ℕ). AreLists implied n) (sym g.size) ranges;
+      ranges = subst (λ (n : ℕ). AreImpliedLists implied n) (sym g.size) ranges;
       binary = λ m k f d b. implied_grows implied s t (λ m. Unit {0}) a (λ m2 k2 f2 d2 b2. i m2 k2 f2 (all_due s m2 a f2) b2) g x.head m k f tt b;
       firsts = firsts_moved live implied w s v t a (x.moves implied) firsts;
     }
@@ -212,12 +212,12 @@ stopped_long w v live lists implied s t o a ranges i firsts x =
 -- if the queue is empty, every true literal has left it
 all_left : (s : PropagationState) (l : ℕ) → StateIsConsistent s → s.trail.head ≡ length s.trail.lits → IsTrueLit s.values l → HasLeftQueue s l
 all_left s l a e t = elim (a.known l t) [
-  | inl b ↦ inl (subst (λ (n : ℕ). IsBefore s n l) (sym e) b)
+  | inl b ↦ inl (subst (λ (n : ℕ). IsOnTrailBefore s n l) (sym e) b)
   | inr r ↦ inr r
 ]
 
 -- if the queue is empty, a clause with a false literal among its first two is satisfied
-settled_by : (w live : List ℕ) (lists : List (List Watch)) (s : PropagationState) (o i : ℕ) → LongReady w live lists s (λ m. level s m < current_level s + 1) → s.trail.head ≡ length s.trail.lits →
+settled_by : (w live : List ℕ) (lists : List (List Watch)) (s : PropagationState) (o i : ℕ) → LongPropagationInvariant w live lists s (λ m. level s m < current_level s + 1) → s.trail.head ≡ length s.trail.lits →
     Contains live o → i < 2 → IsFalseLit s.values (lit_of w o i) → IsSatisfied s (lits_at w o) (level s (negated (lit_of w o i)))
 settled_by w live lists s o i h e ho hi f =
     let x : HasLeftQueue s (negated (lit_of w o i)) = all_left s (negated (lit_of w o i)) h.agrees e (true_from_false s.values (lit_of w o i) f) in
@@ -266,20 +266,20 @@ next_top s l q e = ap (λ m. level s m) (sym (next_there s l e).1) ∙ q s.trail
 -- what propagation over long clauses requires
 pub next_long : (w live : List ℕ) (lists : List (List Watch)) (implied : List (List ℕ)) (s t : PropagationState) (l : ℕ) →
     IsReadyToPropagate w live lists implied s → IsNext s l → BinaryWalkInvariant implied l (popped s) t (length (implied_by implied l)) →
-    LongReady w live lists t (λ m. m ≢ l)
+    LongPropagationInvariant w live lists t (λ m. m ≢ l)
 next_long w live lists implied s t l h e b =
     binary_long w live lists implied (popped s) t l (length (implied_by implied l)) (long_popped w live lists s l h.long (next_there s l e).0 (next_there s l e).1) b
 
 -- after a falsified binary clause, propagation can continue once the current level is undone
 pub next_stops_binary : (w live : List ℕ) (lists : List (List Watch)) (implied : List (List ℕ)) (s t : PropagationState) (l : ℕ) →
-    IsReadyToPropagate w live lists implied s → IsNext s l → BinaryWalkInvariant implied l (popped s) t 0 → ReadyBelow w live lists implied t (current_level t)
+    IsReadyToPropagate w live lists implied s → IsNext s l → BinaryWalkInvariant implied l (popped s) t 0 → WatchedPropagationInvariant w live lists implied t (current_level t)
 next_stops_binary w live lists implied s t l h e b =
     stopped_binary w live lists implied (popped s) t l (long_popped w live lists s l h.long (next_there s l e).0 (next_there s l e).1) h.ranges
     (implied_popped implied s l h.long.agrees h.binary (next_there s l e).1) h.firsts b
 
 -- after propagation over binary clauses
-middle_binary : (implied : List (List ℕ)) (s t : PropagationState) (l : ℕ) → StateIsConsistent s → AreImplied implied s (λ m. level s m < current_level s + 1) → IsNext s l →
-    BinaryWalkInvariant implied l (popped s) t (length (implied_by implied l)) → AreImplied implied t (λ m. level t m < current_level t + 1)
+middle_binary : (implied : List (List ℕ)) (s t : PropagationState) (l : ℕ) → StateIsConsistent s → BinariesArePropagated implied s (λ m. level s m < current_level s + 1) → IsNext s l →
+    BinaryWalkInvariant implied l (popped s) t (length (implied_by implied l)) → BinariesArePropagated implied t (λ m. level t m < current_level t + 1)
 middle_binary implied s t l a i e b =
     binary_settled implied (popped s) t l (next_agrees s l a e) (implied_popped implied s l a i (next_there s l e).1) b
 
@@ -289,29 +289,29 @@ pub next_goes_on : (w v live : List ℕ) (lists lists' : List (List Watch)) (imp
     IsReadyToPropagate v live lists' implied u
 next_goes_on w v live lists lists' implied s t u l h e b x =
     ready_again w v live lists' implied t u b.agrees
-    (subst (λ (n : ℕ). AreLists implied n) (sym (b.moves [] []).grows.size) h.ranges)
+    (subst (λ (n : ℕ). AreImpliedLists implied n) (sym (b.moves [] []).grows.size) h.ranges)
     (middle_binary implied s t l h.long.agrees h.binary e b)
     (firsts_moved live implied w (popped s) w t (next_agrees s l h.long.agrees e) (b.moves w live) h.firsts) x
 
 -- the next literal was propagated up to a falsified long clause; propagation can continue one level down
 pub next_stops_long : (w v live : List ℕ) (lists lists' : List (List Watch)) (implied : List (List ℕ)) (s t u : PropagationState) (l o : ℕ) →
     IsReadyToPropagate w live lists implied s → IsNext s l → BinaryWalkInvariant implied l (popped s) t (length (implied_by implied l)) → WatchWalkEffect live w t v u lists' (Some o) →
-    ReadyBelow v live lists' implied u (current_level u)
+    WatchedPropagationInvariant v live lists' implied u (current_level u)
 next_stops_long w v live lists lists' implied s t u l o h e b x =
     stopped_long w v live lists' implied t u o b.agrees
-    (subst (λ (n : ℕ). AreLists implied n) (sym (b.moves [] []).grows.size) h.ranges)
+    (subst (λ (n : ℕ). AreImpliedLists implied n) (sym (b.moves [] []).grows.size) h.ranges)
     (middle_binary implied s t l h.long.agrees h.binary e b)
     (firsts_moved live implied w (popped s) w t (next_agrees s l h.long.agrees e) (b.moves w live) h.firsts) x
 
 -- one iteration is a stretch of propagation
 pub next_moves_binary : (live : List ℕ) (implied : List (List ℕ)) (w0 : List ℕ) (s0 : PropagationState) (w : List ℕ) (s t : PropagationState) (l at : ℕ) →
-    PropagatesOn live implied w0 s0 w s → BinaryWalkInvariant implied l (popped s) t at → PropagatesOn live implied w0 s0 w t
+    PropagationEffect live implied w0 s0 w s → BinaryWalkInvariant implied l (popped s) t at → PropagationEffect live implied w0 s0 w t
 next_moves_binary live implied w0 s0 w s t l at m b =
     moves_trans live implied w0 s0 w (popped s) w t (moves_trans live implied w0 s0 w s w (popped s) m (moves_popped live implied w s)) (b.moves w live)
 
 -- the propagation so far and that of the next literal are one propagation
 pub next_moves : (live : List ℕ) (implied : List (List ℕ)) (w0 : List ℕ) (s0 : PropagationState) (w v : List ℕ) (s t u : PropagationState) (lists : List (List Watch)) (found : Option ℕ) (l at : ℕ) →
-    PropagatesOn live implied w0 s0 w s → BinaryWalkInvariant implied l (popped s) t at → WatchWalkEffect live w t v u lists found → PropagatesOn live implied w0 s0 v u
+    PropagationEffect live implied w0 s0 w s → BinaryWalkInvariant implied l (popped s) t at → WatchWalkEffect live w t v u lists found → PropagationEffect live implied w0 s0 v u
 next_moves live implied w0 s0 w v s t u lists found l at m b x =
     moves_trans live implied w0 s0 w t v u (next_moves_binary live implied w0 s0 w s t l at m b) (x.moves implied)
 

@@ -9,11 +9,11 @@ use Rattle.sat_parts.specs.declared.prop.graph.ImplNode.{ImplNode}
 use Rattle.sat_parts.specs.declared.prop.graph.Reason.{Reason}
 use Rattle.sat_parts.specs.declared.prop.graph.Reason.TheVariants.{Unit as NoCause, Binary, Long}
 use Rattle.sat_parts.specs.clause.Orders.{PermutesClause}
-use Rattle.sat_parts.specs.clause.Stored.{AreClauses, lit_of, size_of}
+use Rattle.sat_parts.specs.clause.Stored.{AreLongClauses, lit_of, size_of}
 use Rattle.sat_parts.specs.prop.Values.{IsTrueLit, IsUnassignedLit}
 use Rattle.sat_parts.specs.prop.Graphs.{has_no_clause}
 use Rattle.sat_parts.specs.prop.State.{PropagationState, node, lit_at, StateIsConsistent, TrailGrows, enqueued}
-use Rattle.sat_parts.specs.prop.Reasons.{HasClauseReason, IsFalseBefore, Implies, AreUnitInTurn, HaveFirsts, PropagatesOn}
+use Rattle.sat_parts.specs.prop.Reasons.{HasClauseReason, IsFalseBefore, ReasonImplies, ReasonsAreUnit, TrailReasonsHaveLitFirst, PropagationEffect}
 use Rattle.sat_parts.proofs.lemmas.clause.OrderLemmas.{reorders_refl, reorders_trans, reorders_one}
 use Rattle.sat_parts.proofs.lemmas.prop.StateLemmas.{before_forth, removed_forth, grows_refl, grows_trans, grows_enqueued, lit_front, lit_last, node_kept, node_new, true_new}
 
@@ -23,7 +23,7 @@ false_before_forth a b bound l g h = elim h [
   | inr x ↦ inr (removed_forth a b (negated l) g x)
 ]
 
-pub implies_forth : (words live : List ℕ) (implied : List (List ℕ)) (a b : PropagationState) (i : ℕ) (r : Reason) → TrailGrows a b → i < length a.trail.lits → Implies words live implied a i r → Implies words live implied b i r
+pub implies_forth : (words live : List ℕ) (implied : List (List ℕ)) (a b : PropagationState) (i : ℕ) (r : Reason) → TrailGrows a b → i < length a.trail.lits → ReasonImplies words live implied a i r → ReasonImplies words live implied b i r
 implies_forth words live implied a b i NoCause g p h = tt
 implies_forth words live implied a b i (Binary ls) g p h =
     (subst (λ (m : ℕ). Contains (get_or implied (negated (get_or ls 0 0)) []) m) (sym (g.front i p)) h.0, false_before_forth a b i (get_or ls 0 0) g h.1)
@@ -38,16 +38,16 @@ caused_forth a b i g p h =
       ap (λ m. has_no_clause (node b m).reason) e ∙ ap (λ (z : ImplNode). has_no_clause z.reason) (g.nodes (lit_at a i) h.0) ∙ h.1,
     )
 
-pub moves_refl : (live : List ℕ) (implied : List (List ℕ)) (words : List ℕ) (s : PropagationState) → PropagatesOn live implied words s words s
+pub moves_refl : (live : List ℕ) (implied : List (List ℕ)) (words : List ℕ) (s : PropagationState) → PropagationEffect live implied words s words s
 moves_refl live implied words s = record {
   grows = grows_refl s;
   reorders = reorders_refl words live;
   firsts = λ o h t. refl;
   caused = λ i p q. absurd (omega arith);
-  turns = λ from p h. h;
+  reasons = λ from p h. h;
 }
 
-pub moves_trans : (live : List ℕ) (implied : List (List ℕ)) (u : List ℕ) (a : PropagationState) (v : List ℕ) (b : PropagationState) (w : List ℕ) (c : PropagationState) → PropagatesOn live implied u a v b → PropagatesOn live implied v b w c → PropagatesOn live implied u a w c
+pub moves_trans : (live : List ℕ) (implied : List (List ℕ)) (u : List ℕ) (a : PropagationState) (v : List ℕ) (b : PropagationState) (w : List ℕ) (c : PropagationState) → PropagationEffect live implied u a v b → PropagationEffect live implied v b w c → PropagationEffect live implied u a w c
 moves_trans live implied u a v b w c x y = record {
   grows = grows_trans a b c x.grows y.grows;
   reorders = reorders_trans u v w live x.reorders y.reorders;
@@ -58,14 +58,14 @@ moves_trans live implied u a v b w c x y = record {
     | inl lt ↦ caused_forth b c i y.grows lt (x.caused i p lt)
     | inr le ↦ y.caused i le q
   ];
-  turns = λ from p h. y.turns from (omega (arith, x.grows.longer)) (x.turns from p h);
+  reasons = λ from p h. y.reasons from (omega (arith, x.grows.longer)) (x.reasons from p h);
 }
 
 -- an unassigned literal becomes true by a unit clause
 pub moves_enqueued : (live : List ℕ) (implied : List (List ℕ)) (words : List ℕ) (s : PropagationState) (l : ℕ) (r : Reason) →
     StateIsConsistent s → IsUnassignedLit s.values l → variable l < length s.values → length s.trail.lits < s.trail.room →
-    has_no_clause r ≡ false → Implies words live implied (enqueued l r s) (length s.trail.lits) r →
-    PropagatesOn live implied words s words (enqueued l r s)
+    has_no_clause r ≡ false → ReasonImplies words live implied (enqueued l r s) (length s.trail.lits) r →
+    PropagationEffect live implied words s words (enqueued l r s)
 moves_enqueued live implied words s l r h n below room clause cause =
     let t : PropagationState = enqueued l r s in
     let g : TrailGrows s t = grows_enqueued s l r h n below room in
@@ -80,26 +80,26 @@ moves_enqueued live implied words s l r h n below room clause cause =
             subst (λ (m : ℕ). IsTrueLit t.values m) (sym there) (true_new s l r below),
             ap (λ m. has_no_clause (node t m).reason) there ∙ ap (λ (z : ImplNode). has_no_clause z.reason) (node_new s l r (omega (arith, h.nodes))) ∙ clause,
           );
-      turns = λ from p q i x y. elim (cases_eq i (length s.trail.lits)) [
+      reasons = λ from p q i x y. elim (cases_eq i (length s.trail.lits)) [
         | inl e ↦
             let f : (node t (lit_at t i)).reason ≡ r = ap (λ m. (node t (lit_at t m)).reason) e ∙ ap (λ m. (node t m).reason) (lit_last s l r) ∙ ap (λ (z : ImplNode). z.reason) (node_new s l r (omega (arith, h.nodes))) in
-            subst (λ (z : Reason). Implies words live implied t i z) (sym f) (subst (λ (z : ℕ). Implies words live implied t z r) (sym e) cause)
+            subst (λ (z : Reason). ReasonImplies words live implied t i z) (sym f) (subst (λ (z : ℕ). ReasonImplies words live implied t z r) (sym e) cause)
         | inr d ↦
             let k : i < length s.trail.lits = omega arith in
             let f : (node t (lit_at t i)).reason ≡ (node s (lit_at s i)).reason = ap (λ m. (node t m).reason) (lit_front s l r i k) ∙ ap (λ (z : ImplNode). z.reason) (node_kept s l (lit_at s i) r n (h.holds i k)) in
-            subst (λ (z : Reason). Implies words live implied t i z) (sym f) (implies_forth words live implied s t i (node s (lit_at s i)).reason g k (q i x k))
+            subst (λ (z : Reason). ReasonImplies words live implied t i z) (sym f) (implies_forth words live implied s t i (node s (lit_at s i)).reason g k (q i x k))
       ];
     }
 
 -- the literals of one clause are permuted, and a true first literal stays first
 pub implies_shuffled : (words words' live : List ℕ) (implied : List (List ℕ)) (s : PropagationState) (p i : ℕ) (r : Reason) (count : ℕ) →
-    AreClauses words live count → Contains live p → PermutesClause words words' p →
+    AreLongClauses words live count → Contains live p → PermutesClause words words' p →
     (IsTrueLit s.values (lit_of words p 0) → lit_of words' p 0 ≡ lit_of words p 0) → IsTrueLit s.values (lit_at s i) →
-    Implies words live implied s i r → Implies words' live implied s i r
+    ReasonImplies words live implied s i r → ReasonImplies words' live implied s i r
 implies_shuffled words words' live implied s p i NoCause count c g e first holds h = tt
 implies_shuffled words words' live implied s p i (Binary ls) count c g e first holds h = h
 implies_shuffled words words' live implied s p i (Long o) count c g e first holds h = elim (cases_eq p o) [
-  | inl q ↦ subst (λ (x : ℕ). Implies words live implied s i (Long x) → Implies words' live implied s i (Long x)) q
+  | inl q ↦ subst (λ (x : ℕ). ReasonImplies words live implied s i (Long x) → ReasonImplies words' live implied s i (Long x)) q
       (λ f.
       let at_first : lit_of words' p 0 ≡ lit_of words p 0 = first (subst (λ (m : ℕ). IsTrueLit s.values m) (sym f.1) holds) in
       let size : size_of words' p ≡ size_of words p = e.lits.size in
@@ -127,9 +127,9 @@ implies_shuffled words words' live implied s p i (Long o) count c g e first hold
 ]
 
 pub moves_shuffled : (live : List ℕ) (implied : List (List ℕ)) (words : List ℕ) (s : PropagationState) (words' : List ℕ) (p count : ℕ) →
-    StateIsConsistent s → AreClauses words live count → Contains live p → PermutesClause words words' p →
+    StateIsConsistent s → AreLongClauses words live count → Contains live p → PermutesClause words words' p →
     (IsTrueLit s.values (lit_of words p 0) → lit_of words' p 0 ≡ lit_of words p 0) →
-    PropagatesOn live implied words s words' s
+    PropagationEffect live implied words s words' s
 moves_shuffled live implied words s words' p count a c g e first = record {
   grows = grows_refl s;
   reorders = reorders_one words words' live p g e;
@@ -138,17 +138,17 @@ moves_shuffled live implied words s words' p count a c g e first = record {
     | inr n ↦ ap (λ (ls : List ℕ). get_or ls 0 0) (e.others live o g c.holds_clauses h n).lits
   ];
   caused = λ i x y. absurd (omega arith);
-  turns = λ from x h i y z. implies_shuffled words words' live implied s p i (node s (lit_at s i)).reason count c g e first (a.holds i z) (h i y z);
+  reasons = λ from x h i y z. implies_shuffled words words' live implied s p i (node s (lit_at s i)).reason count c g e first (a.holds i z) (h i y z);
 }
 
-from_long : (words live : List ℕ) (implied : List (List ℕ)) (s : PropagationState) (i o : ℕ) (r : Reason) → r ≡ Long o → Implies words live implied s i r → Contains live o × (lit_of words o 0 ≡ lit_at s i)
+from_long : (words live : List ℕ) (implied : List (List ℕ)) (s : PropagationState) (i o : ℕ) (r : Reason) → r ≡ Long o → ReasonImplies words live implied s i r → Contains live o × (lit_of words o 0 ≡ lit_at s i)
 from_long words live implied s i o r e h =
-    let f : Implies words live implied s i (Long o) = subst (λ (x : Reason). Implies words live implied s i x) e h in
+    let f : ReasonImplies words live implied s i (Long o) = subst (λ (x : Reason). ReasonImplies words live implied s i x) e h in
     (f.0, f.1)
 
 -- propagation keeps the literals of long reasons first
 pub firsts_moved : (live : List ℕ) (implied : List (List ℕ)) (words : List ℕ) (s : PropagationState) (words' : List ℕ) (s' : PropagationState) →
-    StateIsConsistent s → PropagatesOn live implied words s words' s' → HaveFirsts words live s → HaveFirsts words' live s'
+    StateIsConsistent s → PropagationEffect live implied words s words' s' → TrailReasonsHaveLitFirst words live s → TrailReasonsHaveLitFirst words' live s'
 firsts_moved live implied words s words' s' a m h i o p e = elim (cases_lt i (length s.trail.lits)) [
   | inl lt ↦
       let f : (node s' (lit_at s' i)).reason ≡ (node s (lit_at s i)).reason =
@@ -156,6 +156,6 @@ firsts_moved live implied words s words' s' a m h i o p e = elim (cases_lt i (le
       let x : Contains live o × (lit_of words o 0 ≡ lit_at s i) = h i o lt (sym f ∙ e) in
       (x.0, m.firsts o x.0 (subst (λ (l : ℕ). IsTrueLit s.values l) (sym x.1) (a.holds i lt)) ∙ x.1 ∙ sym (m.grows.front i lt))
   | inr le ↦
-      let none : AreUnitInTurn words live implied s (length s.trail.lits) = λ j x y. absurd (omega arith) in
-      from_long words' live implied s' i o (node s' (lit_at s' i)).reason e (m.turns (length s.trail.lits) (omega arith) none i le p)
+      let none : ReasonsAreUnit words live implied s (length s.trail.lits) = λ j x y. absurd (omega arith) in
+      from_long words' live implied s' i o (node s' (lit_at s' i)).reason e (m.reasons (length s.trail.lits) (omega arith) none i le p)
 ]

@@ -7,9 +7,9 @@ use Rattle.sat_base.specs.values.Literals.{variable, is_positive, negated}
 use Rattle.sat_parts.specs.declared.prop.graph.ImplNode.{ImplNode}
 use Rattle.sat_parts.specs.declared.prop.graph.Reason.{Reason}
 use Rattle.sat_parts.specs.prop.Values.{IsTrueLit, IsFalseLit, IsUnassignedLit, value_of}
-use Rattle.sat_parts.specs.prop.Trails.{IsTrail, LevelIs}
-use Rattle.sat_parts.specs.prop.Graphs.{node_at, new_node}
-use Rattle.sat_parts.specs.prop.State.{PropagationState, node, level, current_level, lit_at, IsRemoved, IsBefore, HasLeftQueue, StateIsConsistent, IsQueueCurrent, enqueued, TrailGrows, IsSatisfied}
+use Rattle.sat_parts.specs.prop.Trails.{IsTrail, IsAtLevel}
+use Rattle.sat_parts.specs.prop.Graphs.{enqueued_node, new_node}
+use Rattle.sat_parts.specs.prop.State.{PropagationState, node, level, current_level, lit_at, IsRemovedUnit, IsOnTrailBefore, HasLeftQueue, StateIsConsistent, IsQueueCurrent, enqueued, TrailGrows, IsSatisfied}
 
 pub negated_variable : (l : ℕ) → variable (negated l) ≡ variable l
 negated_variable l = omega arith
@@ -60,13 +60,13 @@ pub true_kept : (s : PropagationState) (l m : ℕ) (r : Reason) → IsUnassigned
 true_kept s l m r n t = get_or-set_other s.values (variable l) (variable m) (Some (is_positive l)) None (open_other s.values l m n t) ∙ t
 
 pub node_kept : (s : PropagationState) (l m : ℕ) (r : Reason) → IsUnassignedLit s.values l → IsTrueLit s.values m → node (enqueued l r s) m ≡ node s m
-node_kept s l m r n t = get_or-set_other s.nodes (variable l) (variable m) (node_at s.trail r) new_node (open_other s.values l m n t)
+node_kept s l m r n t = get_or-set_other s.nodes (variable l) (variable m) (enqueued_node s.trail r) new_node (open_other s.values l m n t)
 
 pub true_new : (s : PropagationState) (l : ℕ) (r : Reason) → variable l < length s.values → IsTrueLit (enqueued l r s).values l
 true_new s l r h = get_or-set_same s.values (variable l) (Some (is_positive l)) None h
 
-pub node_new : (s : PropagationState) (l : ℕ) (r : Reason) → variable l < length s.nodes → node (enqueued l r s) l ≡ node_at s.trail r
-node_new s l r h = get_or-set_same s.nodes (variable l) (node_at s.trail r) new_node h
+pub node_new : (s : PropagationState) (l : ℕ) (r : Reason) → variable l < length s.nodes → node (enqueued l r s) l ≡ enqueued_node s.trail r
+node_new s l r h = get_or-set_same s.nodes (variable l) (enqueued_node s.trail r) new_node h
 
 -- a literal that is true after l became true is l, or was true before
 pub true_back : (s : PropagationState) (l m : ℕ) (r : Reason) → variable l < length s.values → IsTrueLit (enqueued l r s).values m → (m ≡ l) ⊎ ((variable m ≢ variable l) × IsTrueLit s.values m)
@@ -94,7 +94,7 @@ pub agrees_enqueued : (s : PropagationState) (l : ℕ) (r : Reason) → StateIsC
 agrees_enqueued s l r h n below room =
     let size : length (s.trail.lits ++ l ∷ []) ≡ length s.trail.lits + 1 = length_push s.trail.lits l in
     let values : length (set s.values (variable l) (Some (is_positive l))) ≡ length s.values = length-set s.values (variable l) (Some (is_positive l)) in
-    let nodes : length (set s.nodes (variable l) (node_at s.trail r)) ≡ length s.nodes = length-set s.nodes (variable l) (node_at s.trail r) in
+    let nodes : length (set s.nodes (variable l) (enqueued_node s.trail r)) ≡ length s.nodes = length-set s.nodes (variable l) (enqueued_node s.trail r) in
     let in_nodes : variable l < length s.nodes = omega (arith, h.nodes) in
     let t : PropagationState = enqueued l r s in
     let last : lit_at t (length s.trail.lits) ≡ l = lit_last s l r in
@@ -122,7 +122,7 @@ agrees_enqueued s l r h n below room =
         | inr d ↦
             let q : i < length s.trail.lits = omega arith in
             let v : level s (lit_at s i) ≡ level t (lit_at t i) = sym (ap (λ m. (node t m).level) (lit_front s l r i q) ∙ ap (λ (x : ImplNode). x.level) (node_kept s l (lit_at s i) r n (old i q))) in
-            subst (λ (x : ℕ). LevelIs s.trail.starts i x) v (h.levels i q)
+            subst (λ (x : ℕ). IsAtLevel s.trail.starts i x) v (h.levels i q)
       ];
       known = λ m p. elim (true_back s l m r below p) [
         | inl e ↦ inl (record { place = length s.trail.lits; before = omega arith; within = omega arith; there = last ∙ sym e })
@@ -188,30 +188,30 @@ grows_trans a b c x y = record {
   removed = λ l r. x.removed l (y.removed l r);
 }
 
-pub removed_forth : (a b : PropagationState) (l : ℕ) → TrailGrows a b → IsRemoved a l → IsRemoved b l
+pub removed_forth : (a b : PropagationState) (l : ℕ) → TrailGrows a b → IsRemovedUnit a l → IsRemovedUnit b l
 removed_forth a b l g r = record {
   holds = g.kept l r.holds;
   depth = ap (λ (y : ImplNode). y.depth) (g.nodes l r.holds) ∙ r.depth;
   bottom = ap (λ (y : ImplNode). y.level) (g.nodes l r.holds) ∙ r.bottom;
 }
 
-pub before_forth : (a b : PropagationState) (bound l : ℕ) → TrailGrows a b → IsBefore a bound l → IsBefore b bound l
+pub before_forth : (a b : PropagationState) (bound l : ℕ) → TrailGrows a b → IsOnTrailBefore a bound l → IsOnTrailBefore b bound l
 before_forth a b bound l g h = record { place = h.place; before = h.before; within = omega (arith, h.within, g.longer); there = g.front h.place h.within ∙ h.there }
 
-pub before_back : (a b : PropagationState) (bound l : ℕ) → TrailGrows a b → bound ≤ length a.trail.lits → IsBefore b bound l → IsBefore a bound l
+pub before_back : (a b : PropagationState) (bound l : ℕ) → TrailGrows a b → bound ≤ length a.trail.lits → IsOnTrailBefore b bound l → IsOnTrailBefore a bound l
 before_back a b bound l g m h =
     let p : h.place < length a.trail.lits = omega (arith, h.before) in
     record { place = h.place; before = h.before; within = p; there = sym (g.front h.place p) ∙ h.there }
 
 pub left_forth : (a b : PropagationState) (l : ℕ) → TrailGrows a b → b.trail.head ≡ a.trail.head → HasLeftQueue a l → HasLeftQueue b l
 left_forth a b l g e h = elim h [
-  | inl x ↦ inl (subst (λ (y : ℕ). IsBefore b y l) (sym e) (before_forth a b a.trail.head l g x))
+  | inl x ↦ inl (subst (λ (y : ℕ). IsOnTrailBefore b y l) (sym e) (before_forth a b a.trail.head l g x))
   | inr x ↦ inr (removed_forth a b l g x)
 ]
 
 pub left_back : (a b : PropagationState) (l : ℕ) → TrailGrows a b → b.trail.head ≡ a.trail.head → IsTrail a.trail → HasLeftQueue b l → HasLeftQueue a l
 left_back a b l g e t h = elim h [
-  | inl x ↦ inl (before_back a b a.trail.head l g t.queue (subst (λ (y : ℕ). IsBefore b y l) e x))
+  | inl x ↦ inl (before_back a b a.trail.head l g t.queue (subst (λ (y : ℕ). IsOnTrailBefore b y l) e x))
   | inr x ↦ inr (g.removed l x)
 ]
 

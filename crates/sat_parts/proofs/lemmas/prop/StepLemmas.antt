@@ -9,20 +9,20 @@ use Rattle.sat_parts.specs.declared.prop.graph.ImplNode.{ImplNode}
 use Rattle.sat_parts.specs.declared.prop.graph.Reason.{Reason}
 use Rattle.sat_parts.specs.declared.prop.graph.Reason.TheVariants.{Unit as NoCause, Binary, Long}
 use Rattle.sat_parts.specs.clause.Db.{live_refs}
-use Rattle.sat_parts.specs.clause.Stored.{AreClauses, lit_of}
+use Rattle.sat_parts.specs.clause.Stored.{AreLongClauses, lit_of}
 use Rattle.sat_parts.specs.prop.Values.{IsTrueLit, IsUnassignedLit}
-use Rattle.sat_parts.specs.prop.Trails.{LevelIs, with_level}
+use Rattle.sat_parts.specs.prop.Trails.{IsAtLevel, with_level}
 use Rattle.sat_parts.specs.prop.Binaries.{implied_by}
-use Rattle.sat_parts.specs.prop.WatchLists.{Watching}
-use Rattle.sat_parts.specs.prop.State.{PropagationState, node, level, lit_at, IsRemoved, HasLeftQueue, StateIsConsistent, IsSatisfied, TrailGrows, enqueued}
-use Rattle.sat_parts.specs.prop.Reasons.{HaveFirsts}
-use Rattle.sat_parts.specs.prop.Ready.{AreWatched, AreLists}
-use Rattle.sat_parts.specs.prop.Propagation.{PropagationInvariant, EnqueuePrecondition, IsOwnLong, IsOwnBinary, PropagationPrecondition}
+use Rattle.sat_parts.specs.prop.WatchLists.{WatchState}
+use Rattle.sat_parts.specs.prop.State.{PropagationState, node, level, lit_at, IsRemovedUnit, HasLeftQueue, StateIsConsistent, IsSatisfied, TrailGrows, enqueued}
+use Rattle.sat_parts.specs.prop.Reasons.{TrailReasonsHaveLitFirst}
+use Rattle.sat_parts.specs.prop.Ready.{AreWatched, AreImpliedLists}
+use Rattle.sat_parts.specs.prop.Propagation.{PropagationInvariant, EnqueuePrecondition, IsLongReason, IsBinaryReason, PropagationPrecondition}
 use Rattle.sat_parts.proofs.lemmas.prop.StateLemmas.{left_true, left_back, level_kept, level_low, satisfied_forth, agrees_enqueued, grows_enqueued, queue_enqueued, lit_front, lit_last, node_kept, node_new, true_new}
 use Rattle.sat_parts.proofs.lemmas.prop.RoomLemmas.{room_for}
 
-firsts_enqueued : (words live : List ℕ) (s : PropagationState) (l : ℕ) (r : Reason) → StateIsConsistent s → IsUnassignedLit s.values l → variable l < length s.values → HaveFirsts words live s →
-    ((o : ℕ) → r ≡ Long o → Contains live o × (lit_of words o 0 ≡ l)) → HaveFirsts words live (enqueued l r s)
+firsts_enqueued : (words live : List ℕ) (s : PropagationState) (l : ℕ) (r : Reason) → StateIsConsistent s → IsUnassignedLit s.values l → variable l < length s.values → TrailReasonsHaveLitFirst words live s →
+    ((o : ℕ) → r ≡ Long o → Contains live o × (lit_of words o 0 ≡ l)) → TrailReasonsHaveLitFirst words live (enqueued l r s)
 firsts_enqueued words live s l r a n below h cause i o b e =
     let t : PropagationState = enqueued l r s in
     let size : length (s.trail.lits ++ l ∷ []) ≡ length s.trail.lits + 1 = length_push s.trail.lits l in
@@ -38,18 +38,18 @@ firsts_enqueued words live s l r a n below h cause i o b e =
           ((h i o k f).0, (h i o k f).1 ∙ sym same)
     ]
 
-own_long : (r : Reason) (o : ℕ) → IsOwnLong r o → r ≡ Long o
+own_long : (r : Reason) (o : ℕ) → IsLongReason r o → r ≡ Long o
 own_long NoCause o h = absurd h
 own_long (Binary ls) o h = absurd h
 own_long (Long p) o h = ap (λ q. Long q) h
 
-own_binary : (r : Reason) (lit l m : ℕ) → IsOwnBinary r lit l m → m ≡ lit
+own_binary : (r : Reason) (lit l m : ℕ) → IsBinaryReason r lit l m → m ≡ lit
 own_binary NoCause lit l m h = absurd h
 own_binary (Binary ls) lit l m h = h.0
 own_binary (Long o) lit l m h = absurd h
 
 -- the invariant gives the precondition of enqueueing
-pub asks_for_reason : (words refs : List ℕ) (w : Watching) (implied : List (List ℕ)) (s : PropagationState) (top l : ℕ) (r : Reason) → PropagationInvariant words refs w implied s top → EnqueuePrecondition l r words refs w implied s top
+pub asks_for_reason : (words refs : List ℕ) (w : WatchState) (implied : List (List ℕ)) (s : PropagationState) (top l : ℕ) (r : Reason) → PropagationInvariant words refs w implied s top → EnqueuePrecondition l r words refs w implied s top
 asks_for_reason words refs w implied s top l r h = record {
   holds_clauses = h.holds_clauses;
   clauses = h.clauses;
@@ -64,7 +64,7 @@ asks_for_reason words refs w implied s top l r h = record {
 }
 
 -- an unassigned literal becomes true
-pub asks_enqueued : (words refs : List ℕ) (w : Watching) (implied : List (List ℕ)) (s : PropagationState) (top l : ℕ) (r : Reason) → IsUnassignedLit s.values l → variable l < length s.values →
+pub asks_enqueued : (words refs : List ℕ) (w : WatchState) (implied : List (List ℕ)) (s : PropagationState) (top l : ℕ) (r : Reason) → IsUnassignedLit s.values l → variable l < length s.values →
     ((o : ℕ) → r ≡ Long o → Contains (live_refs words refs) o × (lit_of words o 0 ≡ l)) → EnqueuePrecondition l r words refs w implied s top → PropagationInvariant words refs w implied (enqueued l r s) top
 asks_enqueued words refs w implied s top l r n below cause h =
     let room : length s.trail.lits < s.trail.room = room_for s l r h.agrees n below in
@@ -73,7 +73,7 @@ asks_enqueued words refs w implied s top l r n below cause h =
     let level_new : level t l ≡ length s.trail.starts = ap (λ (z : ImplNode). z.level) (node_new s l r (omega (arith, h.agrees.nodes))) in
     record {
       holds_clauses = h.holds_clauses;
-      clauses = subst (λ (n : ℕ). AreClauses words (live_refs words refs) n) (sym g.size) h.clauses;
+      clauses = subst (λ (n : ℕ). AreLongClauses words (live_refs words refs) n) (sym g.size) h.clauses;
       room = h.room ∙ ap (λ n. 2 * n) (sym g.size);
       watches = λ on. subst (λ (n : ℕ). AreWatched words (live_refs words refs) w.lists n) (sym g.size) (h.watches on);
       agrees = agrees_enqueued s l r h.agrees n below room;
@@ -93,7 +93,7 @@ asks_enqueued words refs w implied s top l r n below cause h =
                   low = omega (arith, ap (λ m. level t m) first, level_new, z.1, same);
                 }
           ];
-      ranges = subst (λ (n : ℕ). AreLists implied n) (sym g.size) h.ranges;
+      ranges = subst (λ (n : ℕ). AreImpliedLists implied n) (sym g.size) h.ranges;
       binary = λ m k x d b.
           let y : HasLeftQueue s m = left_back s t m g refl h.agrees.trail x in
           let same : level t m ≡ level s m = level_kept s t m g (left_true s m h.agrees y) in
@@ -115,7 +115,7 @@ agrees_by s l r n below a = agrees_enqueued s l r a n below (room_for s l r a n 
 abbrev pub raised : PropagationState → PropagationState
 raised s = record s { trail = with_level s.trail }
 
-grows_raised : (s : PropagationState) (l : ℕ) → IsRemoved (raised s) l → IsRemoved s l
+grows_raised : (s : PropagationState) (l : ℕ) → IsRemovedUnit (raised s) l → IsRemovedUnit s l
 grows_raised s l r = record { holds = r.holds; depth = r.depth; bottom = r.bottom }
 
 -- one more level preserves `StateIsConsistent`
@@ -149,7 +149,7 @@ agrees_raised s h few =
       holds = h.holds;
       depths = h.depths;
       levels = λ i b.
-          let l : LevelIs s.trail.starts i (level s (lit_at s i)) = h.levels i b in
+          let l : IsAtLevel s.trail.starts i (level s (lit_at s i)) = h.levels i b in
           record {
             within = omega (arith, l.within);
             begun = λ k c. omega (arith, old k (omega (arith, l.within)), l.begun k c);
@@ -171,7 +171,7 @@ left_raised s l h = elim h [
 ]
 
 -- a level begins while the queue is empty
-pub asks_raised : (words refs : List ℕ) (w : Watching) (implied : List (List ℕ)) (s : PropagationState) → length s.trail.starts + 1 < 2 ^ 32 → s.trail.head ≡ length s.trail.lits →
+pub asks_raised : (words refs : List ℕ) (w : WatchState) (implied : List (List ℕ)) (s : PropagationState) → length s.trail.starts + 1 < 2 ^ 32 → s.trail.head ≡ length s.trail.lits →
     PropagationPrecondition words refs w implied s → PropagationPrecondition words refs w implied (raised s)
 asks_raised words refs w implied s few empty h = record {
   holds_clauses = h.holds_clauses;

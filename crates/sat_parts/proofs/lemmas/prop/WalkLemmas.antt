@@ -7,24 +7,24 @@ use Rattle.sat_base.specs.values.Literals.{negated}
 use Rattle.sat_store.specs.clause.Buffer.{lits_at}
 use Rattle.sat_parts.specs.declared.prop.watch.Watch.{Watch}
 use Rattle.sat_parts.specs.clause.Orders.{AreDistinct, IsReordering, PermutesClause}
-use Rattle.sat_parts.specs.clause.Stored.{AreClauses, lit_of, size_of}
-use Rattle.sat_parts.specs.prop.WatchLists.{no_watch, watch_on, watches_of, more_at}
+use Rattle.sat_parts.specs.clause.Stored.{AreLongClauses, lit_of, size_of}
+use Rattle.sat_parts.specs.prop.WatchLists.{no_watch, watch_on, watches_of, lists_with_watch}
 use Rattle.sat_parts.specs.prop.Ready.{HasLit, IsSoundWatch, HasWatch, AreWatched}
-use Rattle.sat_parts.specs.prop.Walk.{HasWatchOutside, AreWalked, IsOther}
+use Rattle.sat_parts.specs.prop.Walk.{HasWatchOutside, AreWatchedDuringWalk, PutsOtherWatchFirst}
 use Rattle.sat_parts.proofs.lemmas.clause.OrderLemmas.{shuffled_eq}
 use Rattle.sat_parts.proofs.lemmas.prop.StateLemmas.{negated_twice}
 
 -- visiting the clause at p leaves the literals of other live clauses unchanged
-pub same_lits : (w v live : List ℕ) (count p o : ℕ) → AreClauses w live count → Contains live p → PermutesClause w v p → Contains live o → p ≢ o → lits_at v o ≡ lits_at w o
+pub same_lits : (w v live : List ℕ) (count p o : ℕ) → AreLongClauses w live count → Contains live p → PermutesClause w v p → Contains live o → p ≢ o → lits_at v o ≡ lits_at w o
 same_lits w v live count p o c hp e ho n = (e.others live o hp c.holds_clauses ho n).lits
 
-pub shuffled_all : (w v live : List ℕ) (count p o : ℕ) → AreClauses w live count → Contains live p → PermutesClause w v p → Contains live o → IsReordering (lits_at w o) (lits_at v o)
+pub shuffled_all : (w v live : List ℕ) (count p o : ℕ) → AreLongClauses w live count → Contains live p → PermutesClause w v p → Contains live o → IsReordering (lits_at w o) (lits_at v o)
 shuffled_all w v live count p o c hp e ho = elim (cases_eq p o) [
   | inl q ↦ subst (λ (x : ℕ). IsReordering (lits_at w x) (lits_at v x)) q e.lits
   | inr n ↦ shuffled_eq (lits_at w o) (lits_at v o) (same_lits w v live count p o c hp e ho n)
 ]
 
-pub good_shuffled : (w v live : List ℕ) (count p : ℕ) (x : Watch) → AreClauses w live count → Contains live p → PermutesClause w v p → IsSoundWatch w live x → IsSoundWatch v live x
+pub good_shuffled : (w v live : List ℕ) (count p : ℕ) (x : Watch) → AreLongClauses w live count → Contains live p → PermutesClause w v p → IsSoundWatch w live x → IsSoundWatch v live x
 good_shuffled w v live count p x c hp e g =
     let s : IsReordering (lits_at w x.cref) (lits_at v x.cref) = shuffled_all w v live count p x.cref c hp e g.0 in
     let m : (j : ℕ) × ((j < size_of w x.cref) × (lit_of v x.cref j ≡ lit_of w x.cref g.1.0)) = s.forth g.1.0 g.1.1.0 in
@@ -35,7 +35,7 @@ abbrev pub KeepsFirstTwo : List ℕ → List ℕ → ℕ → Type 0
 KeepsFirstTwo w v p = (i : ℕ) → i < 2 → (j : ℕ) × ((j < 2) × (lit_of v p i ≡ lit_of w p j))
 
 -- if one clause keeps its first two literals, all clauses do
-pub first_two : (w v live : List ℕ) (count p o : ℕ) → AreClauses w live count → Contains live p → PermutesClause w v p → Contains live o → KeepsFirstTwo w v p → KeepsFirstTwo w v o
+pub first_two : (w v live : List ℕ) (count p o : ℕ) → AreLongClauses w live count → Contains live p → PermutesClause w v p → Contains live o → KeepsFirstTwo w v p → KeepsFirstTwo w v o
 first_two w v live count p o c hp e ho f = elim (cases_eq p o) [
   | inl q ↦ subst (λ (x : ℕ). KeepsFirstTwo w v x) q f
   | inr n ↦ λ i hi. (i, (hi, ap (λ (ls : List ℕ). get_or ls i 0) (same_lits w v live count p o c hp e ho n)))
@@ -49,7 +49,7 @@ at_two P zero one i hi = elim (cases_eq i 0) [
 ]
 
 -- putting the false literal second keeps the first two literals
-pub oriented_two : (w v : List ℕ) (p fl : ℕ) → IsOther w v p fl → lit_of v p 1 ≡ fl → KeepsFirstTwo w v p
+pub oriented_two : (w v : List ℕ) (p fl : ℕ) → PutsOtherWatchFirst w v p fl → lit_of v p 1 ≡ fl → KeepsFirstTwo w v p
 oriented_two w v p fl other second =
     let F : ℕ → Type 0 = λ i. (j : ℕ) × ((j < 2) × (lit_of v p i ≡ lit_of w p j)) in
     let f0 : F 0 = elim other [ inl s ↦ (0, (omega arith, s.1)) | inr s ↦ (1, (omega arith, s.1)) ] in
@@ -70,9 +70,9 @@ kept_watch list kept at o x gap lt same h =
     ]
 
 pub walked_kept : (w v live : List ℕ) (lists : List (List Watch)) (list : List Watch) (lit kept at count p l : ℕ) →
-    AreClauses w live count → AreWalked w live lists list lit kept at count → at < length list → p ≡ (get_or list at no_watch).cref →
+    AreLongClauses w live count → AreWatchedDuringWalk w live lists list lit kept at count → at < length list → p ≡ (get_or list at no_watch).cref →
     PermutesClause w v p → KeepsFirstTwo w v p → HasLit v p l →
-    AreWalked v live lists (set list kept (watch_on p l)) lit (kept + 1) (at + 1) count
+    AreWatchedDuringWalk v live lists (set list kept (watch_on p l)) lit (kept + 1) (at + 1) count
 walked_kept w v live lists list lit kept at count p l c h lt at_p e two has =
     let hp : Contains live p = subst (λ (z : ℕ). Contains live z) (sym at_p) (h.mine at lt).0 in
     let x : Watch = watch_on p l in
@@ -104,9 +104,9 @@ not_watched w p lit n0 n1 = at_two (λ i. negated (lit_of w p i) ≢ lit)
 
 -- the watch at index `at` is dropped, because its clause does not watch the negation of lit
 pub walked_stale : (w live : List ℕ) (lists : List (List Watch)) (list : List Watch) (lit kept at count p : ℕ) →
-    AreWalked w live lists list lit kept at count → at < length list → p ≡ (get_or list at no_watch).cref →
+    AreWatchedDuringWalk w live lists list lit kept at count → at < length list → p ≡ (get_or list at no_watch).cref →
     lit_of w p 0 ≢ negated lit → lit_of w p 1 ≢ negated lit →
-    AreWalked w live lists list lit kept (at + 1) count
+    AreWatchedDuringWalk w live lists list lit kept (at + 1) count
 walked_stale w live lists list lit kept at count p h lt at_p n0 n1 =
     let gap : kept ≤ at = h.gap in
     record {
@@ -127,17 +127,17 @@ walked_stale w live lists list lit kept at count p h lt at_p n0 n1 =
     }
 
 -- adding a watch keeps the other watches
-pub more_watch : (lists : List (List Watch)) (m l o : ℕ) (x : Watch) → m < length lists → HasWatch (watches_of lists l) o → HasWatch (watches_of (more_at m x lists) l) o
+pub more_watch : (lists : List (List Watch)) (m l o : ℕ) (x : Watch) → m < length lists → HasWatch (watches_of lists l) o → HasWatch (watches_of (lists_with_watch m x lists) l) o
 more_watch lists m l o x lt h = elim (cases_eq l m) [
   | inl r ↦
-      let e : watches_of (more_at m x lists) l ≡ watches_of lists l ++ x ∷ [] =
-      ap (λ k. watches_of (more_at m x lists) k) r ∙ get_or-set_same lists m (watches_of lists m ++ x ∷ []) [] lt ∙ ap (λ k. watches_of lists k ++ x ∷ []) (sym r) in
+      let e : watches_of (lists_with_watch m x lists) l ≡ watches_of lists l ++ x ∷ [] =
+      ap (λ k. watches_of (lists_with_watch m x lists) k) r ∙ get_or-set_same lists m (watches_of lists m ++ x ∷ []) [] lt ∙ ap (λ k. watches_of lists k ++ x ∷ []) (sym r) in
       subst (λ (xs : List Watch). HasWatch xs o) (sym e)
       (h.0, (omega (arith, h.1.0, length-append (watches_of lists l) (x ∷ [])), ap (λ (y : Watch). y.cref) (get_or_append_left (watches_of lists l) (x ∷ []) no_watch h.0 h.1.0) ∙ h.1.1))
   | inr n ↦ subst (λ (xs : List Watch). HasWatch xs o) (sym (get_or-set_other lists m l (watches_of lists m ++ x ∷ []) [] n)) h
 ]
 
-pub new_watch : (lists : List (List Watch)) (m : ℕ) (x : Watch) → m < length lists → HasWatch (watches_of (more_at m x lists) m) x.cref
+pub new_watch : (lists : List (List Watch)) (m : ℕ) (x : Watch) → m < length lists → HasWatch (watches_of (lists_with_watch m x lists) m) x.cref
 new_watch lists m x lt =
     subst (λ (xs : List Watch). HasWatch xs x.cref) (sym (get_or-set_same lists m (watches_of lists m ++ x ∷ []) [] lt))
     (length (watches_of lists m), (omega (arith, length-append (watches_of lists m) (x ∷ [])), ap (λ (z : Watch). z.cref) (get_or_at (watches_of lists m) x [] no_watch (length (watches_of lists m)) refl)))
@@ -155,9 +155,9 @@ good_push w live xs x h g p q = elim (cases_eq p (length xs)) [
 ]
 
 pub good_lists : (w live : List ℕ) (lists : List (List Watch)) (m : ℕ) (x : Watch) → m < length lists → IsSoundWatch w live x →
-    ((l : ℕ) → AllGood w live (watches_of lists l)) → (l : ℕ) → AllGood w live (watches_of (more_at m x lists) l)
+    ((l : ℕ) → AllGood w live (watches_of lists l)) → (l : ℕ) → AllGood w live (watches_of (lists_with_watch m x lists) l)
 good_lists w live lists m x lt g h l = elim (cases_eq l m) [
-  | inl r ↦ subst (λ (z : ℕ). AllGood w live (watches_of (more_at m x lists) z)) (sym r)
+  | inl r ↦ subst (λ (z : ℕ). AllGood w live (watches_of (lists_with_watch m x lists) z)) (sym r)
       (subst (λ (z : List Watch). AllGood w live z) (sym (get_or-set_same lists m (watches_of lists m ++ x ∷ []) [] lt)) (good_push w live (watches_of lists m) x (h m) g))
   | inr n ↦ subst (λ (z : List Watch). AllGood w live z) (sym (get_or-set_other lists m l (watches_of lists m ++ x ∷ []) [] n)) (h l)
 ]
@@ -169,7 +169,7 @@ first_second ls d long e = zero_one 0 1 refl refl (d 0 1 (omega arith) (omega ar
     zero_one a b p q r = omega arith
 
 -- after a visit, the first literal is not the negation of lit, because the clause has no literal twice
-pub first_other : (w v : List ℕ) (p lit : ℕ) → AreDistinct (lits_at w p) → 2 ≤ size_of w p → IsOther w v p (negated lit) → negated (lit_of v p 0) ≢ lit
+pub first_other : (w v : List ℕ) (p lit : ℕ) → AreDistinct (lits_at w p) → 2 ≤ size_of w p → PutsOtherWatchFirst w v p (negated lit) → negated (lit_of v p 0) ≢ lit
 first_other w v p lit d long other r =
     let fl : lit_of v p 0 ≡ negated lit = sym (negated_twice (lit_of v p 0)) ∙ ap (λ z. negated z) r in
     elim other [
@@ -179,9 +179,9 @@ first_other w v p lit d long other r =
 
 -- the watch at index `at` is dropped, and its clause watches its new second literal instead
 pub walked_moved : (w v live : List ℕ) (lists : List (List Watch)) (list : List Watch) (lit kept at count p : ℕ) →
-    AreClauses w live count → AreClauses v live count → AreWalked w live lists list lit kept at count → at < length list → p ≡ (get_or list at no_watch).cref →
-    PermutesClause w v p → IsOther w v p (negated lit) → negated (lit_of v p 1) ≢ lit →
-    AreWalked v live (more_at (negated (lit_of v p 1)) (watch_on p (lit_of v p 0)) lists) list lit kept (at + 1) count
+    AreLongClauses w live count → AreLongClauses v live count → AreWatchedDuringWalk w live lists list lit kept at count → at < length list → p ≡ (get_or list at no_watch).cref →
+    PermutesClause w v p → PutsOtherWatchFirst w v p (negated lit) → negated (lit_of v p 1) ≢ lit →
+    AreWatchedDuringWalk v live (lists_with_watch (negated (lit_of v p 1)) (watch_on p (lit_of v p 0)) lists) list lit kept (at + 1) count
 walked_moved w v live lists list lit kept at count p c c' h lt at_p e other new =
     let hp : Contains live p = subst (λ (z : ℕ). Contains live z) (sym at_p) (h.mine at lt).0 in
     let gap : kept ≤ at = h.gap in
@@ -194,7 +194,7 @@ walked_moved w v live lists list lit kept at count p c c' h lt at_p e other new 
     let x : Watch = watch_on p (lit_of v p 0) in
     let good : IsSoundWatch v live (watch_on p (lit_of v p 0)) = (hp, (0, (omega arith, refl))) in
     let first_ne : negated (lit_of v p 0) ≢ lit = first_other w v p lit (c.distinct p hp) (omega arith) other in
-    let lists' : List (List Watch) = more_at (negated (lit_of v p 1)) (watch_on p (lit_of v p 0)) lists in
+    let lists' : List (List Watch) = lists_with_watch (negated (lit_of v p 1)) (watch_on p (lit_of v p 0)) lists in
     let W : ℕ → ℕ → Type 0 = λ o i. ((negated (lit_of v o i) ≡ lit) × HasWatchOutside list kept (at + 1) o) ⊎ ((negated (lit_of v o i) ≢ lit) × HasWatch (watches_of lists' (negated (lit_of v o i))) o) in
     let old : (j : ℕ) → j < 2 → lit_of v p 0 ≡ lit_of w p j → HasWatch (watches_of lists (negated (lit_of v p 0))) p = λ j hj q.
     elim (h.both p j hp hj) [
@@ -272,7 +272,7 @@ cut_good w live kept at list gap within g p b =
 
 -- the walked list is put back without the dropped watches
 pub walked_close : (w live : List ℕ) (lists : List (List Watch)) (list : List Watch) (lit kept at count : ℕ) →
-    AreWalked w live lists list lit kept at count → lit < 2 * count →
+    AreWatchedDuringWalk w live lists list lit kept at count → lit < 2 * count →
     AreWatched w live (set lists lit (cut kept at list)) count
 walked_close w live lists list lit kept at count h small =
     let room : length lists ≡ 2 * count = h.room in
@@ -294,7 +294,7 @@ walked_close w live lists list lit kept at count h small =
 
 -- the watches of a literal are taken out
 pub walked_open : (w live : List ℕ) (lists : List (List Watch)) (lit count : ℕ) → AreWatched w live lists count → lit < 2 * count →
-    AreWalked w live (set lists lit []) (watches_of lists lit) lit 0 0 count
+    AreWatchedDuringWalk w live (set lists lit []) (watches_of lists lit) lit 0 0 count
 walked_open w live lists lit count h small =
     let room : length lists ≡ 2 * count = h.room in
     let in_lists : lit < length lists = omega arith in

@@ -10,13 +10,13 @@ use Rattle.sat_parts.specs.declared.prop.graph.Reason.{Reason}
 use Rattle.sat_parts.specs.declared.prop.graph.Reason.TheVariants.{Long}
 use Rattle.sat_parts.specs.declared.prop.watch.Watch.{Watch}
 use Rattle.sat_parts.specs.clause.Orders.{PermutesClause}
-use Rattle.sat_parts.specs.clause.Stored.{AreClauses, lit_of, size_of}
+use Rattle.sat_parts.specs.clause.Stored.{AreLongClauses, lit_of, size_of}
 use Rattle.sat_parts.specs.prop.Values.{IsTrueLit, IsFalseLit, IsUnassignedLit}
-use Rattle.sat_parts.specs.prop.WatchLists.{no_watch, watch_on, watches_of, more_at}
+use Rattle.sat_parts.specs.prop.WatchLists.{no_watch, watch_on, watches_of, lists_with_watch}
 use Rattle.sat_parts.specs.prop.State.{PropagationState, level, current_level, HasLeftQueue, StateIsConsistent, IsQueueCurrent, IsSatisfied, enqueued, TrailGrows}
-use Rattle.sat_parts.specs.prop.Reasons.{IsFalseBefore, Implies, PropagatesOn}
-use Rattle.sat_parts.specs.prop.Ready.{HasLit, HasWatch, IsSoundWatch, AreWatched, LongReady}
-use Rattle.sat_parts.specs.prop.Walk.{WalkInvariant, IsOther, WalkInvariantAtClause, WatchWalkEffect}
+use Rattle.sat_parts.specs.prop.Reasons.{IsFalseBefore, ReasonImplies, PropagationEffect}
+use Rattle.sat_parts.specs.prop.Ready.{HasLit, HasWatch, IsSoundWatch, AreWatched, LongPropagationInvariant}
+use Rattle.sat_parts.specs.prop.Walk.{WalkInvariant, PutsOtherWatchFirst, PutsFalseLitSecond, WatchWalkEffect}
 use Rattle.sat_parts.proofs.lemmas.clause.OrderLemmas.{shuffles_refl, kept_clauses, reorders_one}
 use Rattle.sat_parts.proofs.lemmas.prop.StateLemmas.{true_from_false, false_from_true, not_both, level_low, left_true, agrees_enqueued, grows_enqueued, queue_enqueued, true_new, before_forth, removed_forth, lit_last}
 use Rattle.sat_parts.proofs.lemmas.prop.RoomLemmas.{room_for, below_from_value}
@@ -28,7 +28,7 @@ use Rattle.sat_parts.proofs.lemmas.prop.HalfLemmas.{satisfied_order, place_live,
 -- `w0` and the state `s0`.
 pub record Walking (live w0 : List ℕ) (s0 : PropagationState) (w : List ℕ) (s : PropagationState) (lists : List (List Watch)) (list : List Watch) (lit kept at : ℕ) : Type 0 where
   pub half : WalkInvariant w live s lists list lit kept at
-  pub moves : (implied : List (List ℕ)) → PropagatesOn live implied w0 s0 w s
+  pub moves : (implied : List (List ℕ)) → PropagationEffect live implied w0 s0 w s
   pub head : s.trail.head ≡ s0.trail.head
 
 -- the negation of the propagated literal is false
@@ -39,7 +39,7 @@ pub lit_false : (w live : List ℕ) (s : PropagationState) (lists : List (List W
 lit_false w live s lists list lit kept at h = false_lit w live s lists list lit kept at h
 
 -- a true first literal stays the first
-first_stays : (w v : List ℕ) (s : PropagationState) (p fl : ℕ) → IsFalseLit s.values fl → IsOther w v p fl → IsTrueLit s.values (lit_of w p 0) → lit_of v p 0 ≡ lit_of w p 0
+first_stays : (w v : List ℕ) (s : PropagationState) (p fl : ℕ) → IsFalseLit s.values fl → PutsOtherWatchFirst w v p fl → IsTrueLit s.values (lit_of w p 0) → lit_of v p 0 ≡ lit_of w p 0
 first_stays w v s p fl f other t = elim other [
   | inl x ↦ x.1
   | inr x ↦ absurd (not_both s.values fl (subst (λ (z : ℕ). IsTrueLit s.values z) x.0 t) f)
@@ -79,8 +79,8 @@ step_stale live w0 s0 w s lists list lit kept at p h lt at_p n0 n1 = record {
 -- a visit is a stretch of propagation
 visit_moves : (live w0 : List ℕ) (s0 : PropagationState) (w v : List ℕ) (s : PropagationState) (lists : List (List Watch)) (list : List Watch) (lit kept at p : ℕ) →
     Walking live w0 s0 w s lists list lit kept at → at < length list → p ≡ (get_or list at no_watch).cref →
-    PermutesClause w v p → IsOther w v p (negated lit) →
-    (implied : List (List ℕ)) → PropagatesOn live implied w0 s0 v s
+    PermutesClause w v p → PutsOtherWatchFirst w v p (negated lit) →
+    (implied : List (List ℕ)) → PropagationEffect live implied w0 s0 v s
 visit_moves live w0 s0 w v s lists list lit kept at p h lt at_p e other implied =
     let half : WalkInvariant w live s lists list lit kept at = h.half in
     moves_trans live implied w0 s0 w s v s (h.moves implied)
@@ -90,8 +90,8 @@ visit_moves live w0 s0 w v s lists list lit kept at p h lt at_p e other implied 
 -- the clause watches another literal instead, and its watch moves to that literal
 pub step_moved : (live w0 : List ℕ) (s0 : PropagationState) (w v : List ℕ) (s : PropagationState) (lists : List (List Watch)) (list : List Watch) (lit kept at p : ℕ) →
     Walking live w0 s0 w s lists list lit kept at → at < length list → p ≡ (get_or list at no_watch).cref →
-    PermutesClause w v p → IsOther w v p (negated lit) → (IsFalseLit s.values (lit_of v p 1) → ⊥) →
-    Walking live w0 s0 v s (more_at (negated (lit_of v p 1)) (watch_on p (lit_of v p 0)) lists) list lit kept (at + 1)
+    PermutesClause w v p → PutsOtherWatchFirst w v p (negated lit) → (IsFalseLit s.values (lit_of v p 1) → ⊥) →
+    Walking live w0 s0 v s (lists_with_watch (negated (lit_of v p 1)) (watch_on p (lit_of v p 0)) lists) list lit kept (at + 1)
 step_moved live w0 s0 w v s lists list lit kept at p h lt at_p e other opened = record {
   half = half_moved w v live s lists list lit kept at p h.half lt at_p e other opened;
   moves = visit_moves live w0 s0 w v s lists list lit kept at p h lt at_p e other;
@@ -108,7 +108,7 @@ first_there w v live s lists list lit kept at p h hp e =
 -- the clause has a true first literal, and its watch stays
 pub step_kept : (live w0 : List ℕ) (s0 : PropagationState) (w v : List ℕ) (s : PropagationState) (lists : List (List Watch)) (list : List Watch) (lit kept at p n : ℕ) →
     Walking live w0 s0 w s lists list lit kept at → at < length list → p ≡ (get_or list at no_watch).cref →
-    PermutesClause w v p → WalkInvariantAtClause w v p (negated lit) → n ≡ lit_of v p 0 → IsTrueLit s.values (lit_of v p 0) →
+    PermutesClause w v p → PutsFalseLitSecond w v p (negated lit) → n ≡ lit_of v p 0 → IsTrueLit s.values (lit_of v p 0) →
     Walking live w0 s0 v s lists (set list kept (watch_on p n)) lit (kept + 1) (at + 1)
 step_kept live w0 s0 w v s lists list lit kept at p n h lt at_p e o n_is t =
     let half : WalkInvariant w live s lists list lit kept at = h.half in
@@ -125,7 +125,7 @@ step_kept live w0 s0 w v s lists list lit kept at p n h lt at_p e o n_is t =
 pub lit_below : (w v live : List ℕ) (s : PropagationState) (lists : List (List Watch)) (list : List Watch) (lit kept at p k : ℕ) →
     WalkInvariant w live s lists list lit kept at → Contains live p → PermutesClause w v p → k < size_of v p → variable (lit_of v p k) < length s.values
 lit_below w v live s lists list lit kept at p k h hp e b =
-    let c : AreClauses v live (length s.values) = kept_clauses w v live (length s.values) h.clauses (reorders_one w v live p hp e) in
+    let c : AreLongClauses v live (length s.values) = kept_clauses w v live (length s.values) h.clauses (reorders_one w v live p hp e) in
     omega (arith, c.below p k hp b)
 
 -- a false literal was false before the next position of the trail
@@ -138,7 +138,7 @@ false_so_far s l n r a g f = elim (a.known (negated l) (true_from_false s.values
 -- the clause makes its first literal true, and its watch stays
 pub step_propagates : (live w0 : List ℕ) (s0 : PropagationState) (w v : List ℕ) (s : PropagationState) (lists : List (List Watch)) (list : List Watch) (lit kept at p n : ℕ) →
     Walking live w0 s0 w s lists list lit kept at → at < length list → p ≡ (get_or list at no_watch).cref →
-    PermutesClause w v p → WalkInvariantAtClause w v p (negated lit) → n ≡ lit_of v p 0 →
+    PermutesClause w v p → PutsFalseLitSecond w v p (negated lit) → n ≡ lit_of v p 0 →
     ((k : ℕ) → 1 ≤ k → k < size_of v p → IsFalseLit s.values (lit_of v p k)) → IsUnassignedLit s.values n →
     Walking live w0 s0 v (enqueued n (Long p) s) lists (set list kept (watch_on p n)) lit (kept + 1) (at + 1)
 step_propagates live w0 s0 w v s lists list lit kept at p n h lt at_p e o n_is others open_n =
@@ -153,7 +153,7 @@ step_propagates live w0 s0 w v s lists list lit kept at p n h lt at_p e o n_is o
     let q : IsQueueCurrent (enqueued n (Long p) s) = queue_enqueued s n (Long p) half.agrees half.queue open_n small in
     let grown : WalkInvariant w live (enqueued n (Long p) s) lists list lit kept at = half_grows w live s t lists list lit kept at half g refl a q in
     let holds : IsTrueLit t.values (lit_of v p 0) = subst (λ (z : ℕ). IsTrueLit t.values z) n_is (true_new s n (Long p) small) in
-    let cause : (implied : List (List ℕ)) → Implies v live implied t (length s.trail.lits) (Long p) =
+    let cause : (implied : List (List ℕ)) → ReasonImplies v live implied t (length s.trail.lits) (Long p) =
     λ implied. (hp, sym n_is ∙ sym (lit_last s n (Long p)), λ k x y. false_so_far s (lit_of v p k) n (Long p) half.agrees g (others k x y)) in
     record {
       half = half_kept w v live t lists list lit kept at p n grown lt at_p e (oriented_two w v p (negated lit) o.other o.second) (0, (b, sym n_is))
@@ -166,7 +166,7 @@ step_propagates live w0 s0 w v s lists list lit kept at p n h lt at_p e o n_is o
 -- the clause is falsified: the walk ends, and clauses stay propagated below the current level
 pub walk_falsified : (live w0 : List ℕ) (s0 : PropagationState) (w v : List ℕ) (s : PropagationState) (lists : List (List Watch)) (list : List Watch) (lit kept at p n : ℕ) →
     Walking live w0 s0 w s lists list lit kept at → at < length list → p ≡ (get_or list at no_watch).cref →
-    PermutesClause w v p → WalkInvariantAtClause w v p (negated lit) → n ≡ lit_of v p 0 →
+    PermutesClause w v p → PutsFalseLitSecond w v p (negated lit) → n ≡ lit_of v p 0 →
     ((k : ℕ) → k < size_of v p → IsFalseLit s.values (lit_of v p k)) → lit < 2 * length s.values →
     WatchWalkEffect live w0 s0 v s (set lists lit (cut (kept + 1) (at + 1) (set list kept (watch_on p n)))) (Some p)
 walk_falsified live w0 s0 w v s lists list lit kept at p n h lt at_p e o n_is all small =
@@ -223,7 +223,7 @@ walk_done live w0 s0 w s lists list lit kept at h end small =
 
 -- the watches of lit are taken out, while only the clauses that lit made false are not propagated
 pub walk_open : (live w : List ℕ) (s : PropagationState) (lists : List (List Watch)) (lit : ℕ) →
-    LongReady w live lists s (λ l. l ≢ lit) → HasLeftQueue s lit → level s lit ≡ current_level s → lit < 2 * length s.values →
+    LongPropagationInvariant w live lists s (λ l. l ≢ lit) → HasLeftQueue s lit → level s lit ≡ current_level s → lit < 2 * length s.values →
     Walking live w s w s (set lists lit []) (watches_of lists lit) lit 0 0
 walk_open live w s lists lit h left top small = record {
   half = record {

@@ -1,4 +1,4 @@
--- The word of a trail, and what preserves `IsLevelled`.
+-- The word of a trail, and what preserves `LevelsBeginWithDecisions`.
 use Rattle.std.proofs.Common.{ℕ, ◌≡◌, ◌≢◌, ◌+◌, ◌<◌, ◌≤◌, inl, inr, List, [], ◌∷◌, ◌++◌, suc, zero, length, get_or, take, drop, ◌-◌, length-drop, refl, sym, ap, ◌∙◌, subst, arith, Bool, true, false, ◌||◌, ◌==◌, cond, append_assoc}
 use Rattle.std.specs.Prelude.{replicate}
 use Rattle.std.proofs.lemmas.Bool.{cases_eq, cases_lt, ne_eqb, eq-eqb}
@@ -9,15 +9,15 @@ use Rattle.sat_parts.specs.declared.prop.graph.Reason.{Reason}
 use Rattle.sat_parts.specs.declared.prop.graph.Reason.TheVariants.{Unit as NoCause}
 use Rattle.sat_parts.specs.prop.Graphs.{has_no_clause}
 use Rattle.sat_parts.specs.prop.Values.{Values, IsUnassignedLit}
-use Rattle.sat_parts.specs.prop.Trails.{Trailed, with_lit, with_level, cut_to}
-use Rattle.sat_parts.specs.prop.Undone.{undone_to}
+use Rattle.sat_parts.specs.prop.Trails.{TrailState, with_lit, with_level, without_levels_above}
+use Rattle.sat_parts.specs.prop.Undone.{with_levels_undone}
 use Rattle.sat_parts.specs.prop.State.{PropagationState, node, lit_at, StateIsConsistent, enqueued}
-use Rattle.sat_parts.specs.prop.Reasons.{PropagatesOn}
+use Rattle.sat_parts.specs.prop.Reasons.{PropagationEffect}
 use Rattle.sat_parts.specs.prop.Ready.{state_of}
-use Rattle.sat_parts.specs.prop.TrailWord.{Letter, D, P, begins, letter, letters, trail_word, IsLowerWord, BeginsNoLevel, IsLevelled, decided_on, LevelsStay, WordsRise}
+use Rattle.sat_parts.specs.prop.TrailWord.{Letter, D, P, begins_level, trail_letter, letters, trail_word, IsLowerWord, BeginsNoLevel, LevelsBeginWithDecisions, decided_on, LevelsArePreserved, TrailWordsIncrease}
 use Rattle.sat_parts.proofs.lemmas.prop.StateLemmas.{lit_front, lit_last, node_kept, node_new}
 
-levels_none : (s : PropagationState) → s.trail.starts ≡ [] → IsLevelled s
+levels_none : (s : PropagationState) → s.trail.starts ≡ [] → LevelsBeginWithDecisions s
 levels_none s e =
     let n : length s.trail.starts ≡ 0 = ap (λ (xs : List ℕ). length xs) e in
     record {
@@ -37,7 +37,7 @@ reason_new : (s : PropagationState) (l : ℕ) (r : Reason) → StateIsConsistent
 reason_new s l r h below =
     ap (λ m. (node (enqueued l r s) m).reason) (lit_last s l r) ∙ ap (λ (x : ImplNode). x.reason) (node_new s l r (omega (arith, h.nodes)))
 
-levels_caused : (s : PropagationState) (l : ℕ) (r : Reason) → StateIsConsistent s → IsUnassignedLit s.values l → variable l < length s.values → has_no_clause r ≡ false → IsLevelled s → IsLevelled (enqueued l r s)
+levels_caused : (s : PropagationState) (l : ℕ) (r : Reason) → StateIsConsistent s → IsUnassignedLit s.values l → variable l < length s.values → has_no_clause r ≡ false → LevelsBeginWithDecisions s → LevelsBeginWithDecisions (enqueued l r s)
 levels_caused s l r h n below clause x =
     let size : length (s.trail.lits ++ l ∷ []) ≡ length s.trail.lits + 1 = length_push s.trail.lits l in
     record {
@@ -51,7 +51,7 @@ levels_caused s l r h n below clause x =
       ];
     }
 
-levels_decided : (s : PropagationState) (l : ℕ) → StateIsConsistent s → IsUnassignedLit s.values l → variable l < length s.values → IsLevelled s → IsLevelled (decided_on l s)
+levels_decided : (s : PropagationState) (l : ℕ) → StateIsConsistent s → IsUnassignedLit s.values l → variable l < length s.values → LevelsBeginWithDecisions s → LevelsBeginWithDecisions (decided_on l s)
 levels_decided s l h n below x =
     let u : PropagationState = record s { trail = with_level s.trail } in
     let v : PropagationState = decided_on l s in
@@ -93,7 +93,7 @@ levels_decided s l h n below x =
           ];
     }
 
-levels_moved : (words live words' : List ℕ) (implied : List (List ℕ)) (s s' : PropagationState) → StateIsConsistent s → PropagatesOn live implied words s words' s' → IsLevelled s → IsLevelled s'
+levels_moved : (words live words' : List ℕ) (implied : List (List ℕ)) (s s' : PropagationState) → StateIsConsistent s → PropagationEffect live implied words s words' s' → LevelsBeginWithDecisions s → LevelsBeginWithDecisions s'
 levels_moved words live words' implied s s' h m x =
     let front : (i : ℕ) → i < length s.trail.lits → (node s' (lit_at s' i)).reason ≡ (node s (lit_at s i)).reason = λ i b.
     ap (λ l. (node s' l).reason) (m.grows.front i b) ∙ ap (λ (z : ImplNode). z.reason) (m.grows.nodes (lit_at s i) (h.holds i b)) in
@@ -114,8 +114,8 @@ levels_moved words live words' implied s s' h m x =
     let whole : Whole s'.trail.starts = subst Whole (sym m.grows.starts) (x.strict, begun, decided, caused) in
     record { strict = whole.0; begun = whole.1; decided = whole.2; caused = whole.3 }
 
-levels_undone : (a : Values) (nodes : List ImplNode) (t : Trailed) (level : ℕ) → StateIsConsistent (state_of a nodes t) → level < length t.starts → IsLevelled (state_of a nodes t) →
-    IsLevelled (state_of (undone_to level t a) nodes (cut_to level t))
+levels_undone : (a : Values) (nodes : List ImplNode) (t : TrailState) (level : ℕ) → StateIsConsistent (state_of a nodes t) → level < length t.starts → LevelsBeginWithDecisions (state_of a nodes t) →
+    LevelsBeginWithDecisions (state_of (with_levels_undone level t a) nodes (without_levels_above level t))
 levels_undone a nodes t level h lt x =
     let cut : ℕ = get_or t.starts level 0 in
     let within : get_or t.starts level 0 < length t.lits = x.begun level lt in
@@ -144,7 +144,7 @@ levels_undone a nodes t level h lt x =
           ]);
     }
 
-pub levels_stay : LevelsStay
+pub levels_stay : LevelsArePreserved
 levels_stay = record { none = levels_none; decides = levels_decided; caused = levels_caused; moves = levels_moved; undone = levels_undone }
 
 or_false : (a b : Bool) → a ≡ false → b ≡ false → (a || b) ≡ false
@@ -163,52 +163,52 @@ or_assoc : (a b c : Bool) → ((a || b) || c) ≡ (a || (b || c))
 or_assoc true b c = refl
 or_assoc false b c = refl
 
-begins_none : (starts : List ℕ) (i : ℕ) → BeginsNoLevel starts i → begins starts i ≡ false
+begins_none : (starts : List ℕ) (i : ℕ) → BeginsNoLevel starts i → begins_level starts i ≡ false
 begins_none [] i h = refl
-begins_none (k ∷ ks) i h = or_false (k == i) (begins ks i) (ne_eqb k i (h 0 (omega arith))) (begins_none ks i (λ j b e. h (suc j) (omega arith) e))
+begins_none (k ∷ ks) i h = or_false (k == i) (begins_level ks i) (ne_eqb k i (h 0 (omega arith))) (begins_none ks i (λ j b e. h (suc j) (omega arith) e))
 
-begins_append : (xs ys : List ℕ) (i : ℕ) → begins (xs ++ ys) i ≡ (begins xs i || begins ys i)
+begins_append : (xs ys : List ℕ) (i : ℕ) → begins_level (xs ++ ys) i ≡ (begins_level xs i || begins_level ys i)
 begins_append [] ys i = refl
-begins_append (x ∷ xs) ys i = ap (λ b. (x == i) || b) (begins_append xs ys i) ∙ sym (or_assoc (x == i) (begins xs i) (begins ys i))
+begins_append (x ∷ xs) ys i = ap (λ b. (x == i) || b) (begins_append xs ys i) ∙ sym (or_assoc (x == i) (begins_level xs i) (begins_level ys i))
 
-begins_there : (xs : List ℕ) (k : ℕ) → k < length xs → begins xs (get_or xs k 0) ≡ true
+begins_there : (xs : List ℕ) (k : ℕ) → k < length xs → begins_level xs (get_or xs k 0) ≡ true
 begins_there [] k b = absurd (omega arith)
-begins_there (x ∷ xs) zero b = ap (λ c. c || begins xs x) (eq-eqb x x refl)
+begins_there (x ∷ xs) zero b = ap (λ c. c || begins_level xs x) (eq-eqb x x refl)
 begins_there (x ∷ xs) (suc k) b = ap (λ c. (x == get_or xs k 0) || c) (begins_there xs k (omega arith)) ∙ or_true (x == get_or xs k 0)
 
 -- letters depend only on which levels begin at their positions
-letters_same : (xs ys lits : List ℕ) (at : ℕ) → ((i : ℕ) → at ≤ i → i < at + length lits → begins xs i ≡ begins ys i) → letters xs lits at ≡ letters ys lits at
+letters_same : (xs ys lits : List ℕ) (at : ℕ) → ((i : ℕ) → at ≤ i → i < at + length lits → begins_level xs i ≡ begins_level ys i) → letters xs lits at ≡ letters ys lits at
 letters_same xs ys [] at h = refl
 letters_same xs ys (l ∷ ls) at h =
     ap (λ (b : Bool). cond b D P ∷ letters xs ls (at + 1)) (h at (omega arith) (omega arith))
-    ∙ ap (λ (w : List Letter). letter ys at ∷ w) (letters_same xs ys ls (at + 1) (λ i b c. h i (omega arith) (omega arith)))
+    ∙ ap (λ (w : List Letter). trail_letter ys at ∷ w) (letters_same xs ys ls (at + 1) (λ i b c. h i (omega arith) (omega arith)))
 
 letters_append : (starts xs ys : List ℕ) (at : ℕ) → letters starts (xs ++ ys) at ≡ letters starts xs at ++ letters starts ys (at + length xs)
 letters_append starts [] ys at = ap (λ n. letters starts ys n) (omega arith)
 letters_append starts (x ∷ xs) ys at =
-    ap (λ (w : List Letter). letter starts at ∷ w) (letters_append starts xs ys (at + 1) ∙ ap (λ n. letters starts xs (at + 1) ++ letters starts ys n) (omega arith))
+    ap (λ (w : List Letter). trail_letter starts at ∷ w) (letters_append starts xs ys (at + 1) ∙ ap (λ n. letters starts xs (at + 1) ++ letters starts ys n) (omega arith))
 
-word_caused : (s : PropagationState) (l : ℕ) → IsLevelled s → trail_word (with_lit l s.trail) ≡ trail_word s.trail ++ P ∷ []
+word_caused : (s : PropagationState) (l : ℕ) → LevelsBeginWithDecisions s → trail_word (with_lit l s.trail) ≡ trail_word s.trail ++ P ∷ []
 word_caused s l x =
-    let t : Trailed = s.trail in
-    let none : begins s.trail.starts (0 + length s.trail.lits) ≡ false = begins_none s.trail.starts (0 + length s.trail.lits) (λ k b e. omega (arith, x.begun k b)) in
+    let t : TrailState = s.trail in
+    let none : begins_level s.trail.starts (0 + length s.trail.lits) ≡ false = begins_none s.trail.starts (0 + length s.trail.lits) (λ k b e. omega (arith, x.begun k b)) in
     let last : letters s.trail.starts (l ∷ []) (0 + length s.trail.lits) ≡ P ∷ [] = ap (λ (b : Bool). cond b D P ∷ []) none in
     ap (λ (w : List Letter). replicate t.cleared P ++ w) (letters_append t.starts t.lits (l ∷ []) 0 ∙ ap (λ (w : List Letter). letters t.starts t.lits 0 ++ w) last)
     ∙ sym (append_assoc (replicate t.cleared P) (letters t.starts t.lits 0) (P ∷ []))
 
-word_decided : (s : PropagationState) (l : ℕ) → IsLevelled s → trail_word (with_lit l (with_level s.trail)) ≡ trail_word s.trail ++ D ∷ []
+word_decided : (s : PropagationState) (l : ℕ) → LevelsBeginWithDecisions s → trail_word (with_lit l (with_level s.trail)) ≡ trail_word s.trail ++ D ∷ []
 word_decided s l x =
-    let t : Trailed = s.trail in
+    let t : TrailState = s.trail in
     let n : ℕ = length s.trail.lits in
     let more : List ℕ = s.trail.starts ++ length s.trail.lits ∷ [] in
-    let there : begins (s.trail.starts ++ length s.trail.lits ∷ []) (0 + length s.trail.lits) ≡ true =
+    let there : begins_level (s.trail.starts ++ length s.trail.lits ∷ []) (0 + length s.trail.lits) ≡ true =
     begins_append s.trail.starts (length s.trail.lits ∷ []) (0 + length s.trail.lits)
-    ∙ ap (λ b. begins s.trail.starts (0 + length s.trail.lits) || (b || false)) (eq-eqb (length s.trail.lits) (0 + length s.trail.lits) (omega arith))
-    ∙ or_true (begins s.trail.starts (0 + length s.trail.lits)) in
+    ∙ ap (λ b. begins_level s.trail.starts (0 + length s.trail.lits) || (b || false)) (eq-eqb (length s.trail.lits) (0 + length s.trail.lits) (omega arith))
+    ∙ or_true (begins_level s.trail.starts (0 + length s.trail.lits)) in
     let last : letters more (l ∷ []) (0 + length s.trail.lits) ≡ D ∷ [] = ap (λ (b : Bool). cond b D P ∷ []) there in
     let front : letters more t.lits 0 ≡ letters t.starts t.lits 0 = letters_same more t.starts t.lits 0 (λ i a b.
     begins_append t.starts (n ∷ []) i
-    ∙ ap (λ c. begins t.starts i || (c || false)) (ne_eqb n i (λ e. omega arith)) ∙ or_none (begins t.starts i)) in
+    ∙ ap (λ c. begins_level t.starts i || (c || false)) (ne_eqb n i (λ e. omega arith)) ∙ or_none (begins_level t.starts i)) in
     ap (λ (w : List Letter). replicate t.cleared P ++ w) (letters_append more t.lits (l ∷ []) 0 ∙ ap (λ (w : List Letter). letters more t.lits 0 ++ w) last ∙ ap (λ (w : List Letter). w ++ D ∷ []) front)
     ∙ sym (append_assoc (replicate t.cleared P) (letters t.starts t.lits 0) (D ∷ []))
 
@@ -223,9 +223,9 @@ from_place [] k b = absurd (omega arith)
 from_place (x ∷ xs) zero b = refl
 from_place (x ∷ xs) (suc k) b = from_place xs k (omega arith)
 
-word_rises : (s : PropagationState) (l level : ℕ) → IsLevelled s → level < length s.trail.starts → IsLowerWord (trail_word s.trail) (trail_word (with_lit l (cut_to level s.trail)))
+word_rises : (s : PropagationState) (l level : ℕ) → LevelsBeginWithDecisions s → level < length s.trail.starts → IsLowerWord (trail_word s.trail) (trail_word (with_lit l (without_levels_above level s.trail)))
 word_rises s l level x lt =
-    let t : Trailed = s.trail in
+    let t : TrailState = s.trail in
     let cut : ℕ = get_or s.trail.starts level 0 in
     let few : List ℕ = take level s.trail.starts in
     let front : List ℕ = take (get_or s.trail.starts level 0) s.trail.lits in
@@ -236,15 +236,15 @@ word_rises s l level x lt =
       | inl e ↦ (let f : get_or s.trail.starts level 0 ≡ get_or s.trail.starts k 0 = ap (λ z. get_or s.trail.starts z 0) e in omega arith)
       | inr n ↦ omega (arith, x.strict level k (omega arith) b)
     ] in
-    let same : (i : ℕ) → i < get_or s.trail.starts level 0 → begins s.trail.starts i ≡ begins (take level s.trail.starts) i = λ i b.
-    ap (λ (xs : List ℕ). begins xs i) (sym (take-append-drop level s.trail.starts)) ∙ begins_append (take level s.trail.starts) (drop level s.trail.starts) i
-    ∙ ap (λ c. begins (take level s.trail.starts) i || c) (begins_none (drop level s.trail.starts) i (λ k y e.
+    let same : (i : ℕ) → i < get_or s.trail.starts level 0 → begins_level s.trail.starts i ≡ begins_level (take level s.trail.starts) i = λ i b.
+    ap (λ (xs : List ℕ). begins_level xs i) (sym (take-append-drop level s.trail.starts)) ∙ begins_append (take level s.trail.starts) (drop level s.trail.starts) i
+    ∙ ap (λ c. begins_level (take level s.trail.starts) i || c) (begins_none (drop level s.trail.starts) i (λ k y e.
     let n : length (drop level s.trail.starts) ≡ length s.trail.starts - level = length-drop level s.trail.starts in
     omega (arith, late (level + k) (omega arith) (omega arith), get_or-drop level s.trail.starts k 0)))
-    ∙ or_none (begins (take level s.trail.starts) i) in
-    let none : begins (take level s.trail.starts) (0 + length front) ≡ false = begins_none (take level s.trail.starts) (0 + length front) (λ k b e.
+    ∙ or_none (begins_level (take level s.trail.starts) i) in
+    let none : begins_level (take level s.trail.starts) (0 + length front) ≡ false = begins_none (take level s.trail.starts) (0 + length front) (λ k b e.
     omega (arith, x.strict k level (omega arith) lt, get_or-take level s.trail.starts k 0 (omega arith))) in
-    let there : begins s.trail.starts (0 + length front) ≡ true = ap (λ i. begins s.trail.starts i) (omega arith) ∙ begins_there s.trail.starts level lt in
+    let there : begins_level s.trail.starts (0 + length front) ≡ true = ap (λ i. begins_level s.trail.starts i) (omega arith) ∙ begins_there s.trail.starts level lt in
     let old : letters t.starts t.lits 0 ≡ letters few front 0 ++ D ∷ letters t.starts (drop (suc cut) t.lits) (0 + length front + 1) =
     ap (λ (xs : List ℕ). letters t.starts xs 0) (sym (take-append-drop cut t.lits)) ∙ letters_append t.starts front (drop cut t.lits) 0
     ∙ ap (λ (xs : List ℕ). letters t.starts front 0 ++ letters t.starts xs (0 + length front)) (from_place t.lits cut within)
@@ -256,11 +256,11 @@ word_rises s l level x lt =
     let whole : trail_word t ≡ pre ++ D ∷ letters t.starts (drop (suc cut) t.lits) (0 + length front + 1) =
     ap (λ (w : List Letter). replicate t.cleared P ++ w) old
     ∙ sym (append_assoc (replicate t.cleared P) (letters few front 0) (D ∷ letters t.starts (drop (suc cut) t.lits) (0 + length front + 1))) in
-    let whole' : trail_word (with_lit l (cut_to level t)) ≡ pre ++ P ∷ [] =
+    let whole' : trail_word (with_lit l (without_levels_above level t)) ≡ pre ++ P ∷ [] =
     ap (λ (w : List Letter). replicate t.cleared P ++ w) new ∙ sym (append_assoc (replicate t.cleared P) (letters few front 0) (P ∷ [])) in
-    subst (λ (w : List Letter). IsLowerWord w (trail_word (with_lit l (cut_to level t)))) (sym whole)
+    subst (λ (w : List Letter). IsLowerWord w (trail_word (with_lit l (without_levels_above level t)))) (sym whole)
     (subst (λ (w : List Letter). IsLowerWord (pre ++ D ∷ letters t.starts (drop (suc cut) t.lits) (0 + length front + 1)) w) (sym whole')
     (below_there pre (letters t.starts (drop (suc cut) t.lits) (0 + length front + 1)) []))
 
-pub words_rise : WordsRise
+pub words_rise : TrailWordsIncrease
 words_rise = record { decided = word_decided; caused = word_caused; rises = word_rises }

@@ -10,7 +10,7 @@ use Rattle.sat_checker.proofs.lemmas.sets.Order.{among-append}
 use Rattle.sat_store.specs.clause.Buffer.{lits_at}
 use Rattle.sat_parts.specs.clause.Db.{live_refs}
 use Rattle.sat_parts.specs.clause.Stored.{lit_of, size_of}
-use Rattle.sat_parts.specs.prop.WatchLists.{Watching}
+use Rattle.sat_parts.specs.prop.WatchLists.{WatchState}
 use Rattle.sat_parts.specs.prop.Binaries.{implied_by}
 use Rattle.sat_parts.specs.prop.Values.{IsTrueLit, IsFalseLit}
 use Rattle.sat_parts.specs.prop.State.{PropagationState, level, current_level, HasLeftQueue, IsSatisfied}
@@ -19,7 +19,7 @@ use Rattle.sat_parts.proofs.lemmas.clause.ListLemmas.{at_place}
 use Rattle.sat_parts.proofs.lemmas.prop.StateLemmas.{negated_variable, negated_twice, true_from_false, false_from_true, not_both}
 use Rattle.sat_solver.specs.analyze_conflict.AnalysisState.{AnalysisState}
 use Rattle.sat_solver.specs.analyze_conflict.Derivation.{AreLevelZeroLits, AnalysisResult}
-use Rattle.sat_solver.specs.analyze_conflict.Advances.{IsStored, stored_long, stored_pair, UnitPropagateTo, LearnedIsEmpowering}
+use Rattle.sat_solver.specs.analyze_conflict.Empowering.{IsStored, stored_long, stored_pair, UnitPropagateTo, LearnedIsEmpowering}
 use Rattle.sat_solver.proofs.lemmas.analyze_conflict.InTurn.{negation_of}
 use Rattle.sat_solver.proofs.lemmas.analyze_conflict.Meeting.{level_by_variable}
 use Rattle.sat_solver.proofs.lemmas.analyze_conflict.Callers.{low_left}
@@ -43,7 +43,7 @@ satisfied_low s back o c bound h le x = elim (h x.place x.within) [
   | inr n ↦ absurd (not_both s.values (get_or c x.place 0) x.holds (subst (λ z. IsFalseLit s.values z) (negated_twice (get_or c x.place 0)) (false_from_true s.values (negated (get_or c x.place 0)) n.holds)))
 ]
 
-long_low : (words refs : List ℕ) (watching : Watching) (implied : List (List ℕ)) (s : PropagationState) (back o p : ℕ) → PropagationInvariant words refs watching implied s (current_level s) → back < current_level s → Contains (live_refs words refs) p →
+long_low : (words refs : List ℕ) (watching : WatchState) (implied : List (List ℕ)) (s : PropagationState) (back o p : ℕ) → PropagationInvariant words refs watching implied s (current_level s) → back < current_level s → Contains (live_refs words refs) p →
     OthersLow s back (lits_at words p) o → IsLow s back o
 long_low words refs watching implied s back o p a lt c h =
     let long : 3 ≤ size_of words p = a.clauses.long p c in
@@ -61,7 +61,7 @@ long_low words refs watching implied s back o p a lt c h =
         let left : HasLeftQueue s (negated (lit_of words p i)) = low_left s (negated (lit_of words p i)) a.agrees a.queue n.holds below in
         satisfied_low s back o (lits_at words p) (level s (negated (lit_of words p i))) h n.low (a.settled p i c two left below)
 
-pair_low : (words refs : List ℕ) (watching : Watching) (implied : List (List ℕ)) (s : PropagationState) (back a b : ℕ) → PropagationInvariant words refs watching implied s (current_level s) → back < current_level s → Contains (implied_by implied (negated b)) a →
+pair_low : (words refs : List ℕ) (watching : WatchState) (implied : List (List ℕ)) (s : PropagationState) (back a b : ℕ) → PropagationInvariant words refs watching implied s (current_level s) → back < current_level s → Contains (implied_by implied (negated b)) a →
     IsLow s back (negated b) → IsLow s back a
 pair_low words refs watching implied s back a b h lt c n =
     let below : level s (negated b) < current_level s = omega (arith, n.low) in
@@ -69,7 +69,7 @@ pair_low words refs watching implied s back a b h lt c n =
     let x : IsTrueLit s.values (get_or (implied_by implied (negated b)) c.0 0) × (level s (get_or (implied_by implied (negated b)) c.0 0) ≤ level s (negated b)) = h.binary (negated b) c.0 left below c.1 in
     subst (λ z. IsLow s back z) (at_place (implied_by implied (negated b)) a c) (record { holds = x.0; low = omega (arith, x.1, n.low) })
 
-pub stored_low : (words refs : List ℕ) (watching : Watching) (implied : List (List ℕ)) (s : PropagationState) (back o : ℕ) (c : List ℕ) → PropagationInvariant words refs watching implied s (current_level s) → back < current_level s → IsStored words (live_refs words refs) implied c →
+pub stored_low : (words refs : List ℕ) (watching : WatchState) (implied : List (List ℕ)) (s : PropagationState) (back o : ℕ) (c : List ℕ) → PropagationInvariant words refs watching implied s (current_level s) → back < current_level s → IsStored words (live_refs words refs) implied c →
     OthersLow s back c o → IsLow s back o
 stored_low words refs watching implied s back o c a lt (stored_long p in_live e) h = long_low words refs watching implied s back o p a lt in_live (subst (λ (xs : List ℕ). OthersLow s back xs o) e h)
 stored_low words refs watching implied s back o c a lt (stored_pair x y p e) h =
@@ -96,7 +96,7 @@ all_of : (us ls : List ℕ) (o : ℕ) → IsFalsified us ls → AllByRecursion (
 all_of us [] o h = tt
 all_of us (l ∷ ls) o h = (inr h.0, all_of us ls o h.1)
 
-reached_low : (words refs : List ℕ) (watching : Watching) (implied : List (List ℕ)) (s : PropagationState) (back : ℕ) (us : List ℕ) (picked : List (List ℕ)) (reached : List ℕ) → PropagationInvariant words refs watching implied s (current_level s) → back < current_level s →
+reached_low : (words refs : List ℕ) (watching : WatchState) (implied : List (List ℕ)) (s : PropagationState) (back : ℕ) (us : List ℕ) (picked : List (List ℕ)) (reached : List ℕ) → PropagationInvariant words refs watching implied s (current_level s) → back < current_level s →
     AllByRecursion (IsStored words (live_refs words refs) implied) picked → AreLow s back us → UnitPropagateTo us picked reached → AreLow s back reached
 reached_low words refs watching implied s back us [] reached a lt st h e = subst (λ (xs : List ℕ). AreLow s back xs) (sym e) h
 reached_low words refs watching implied s back us (c ∷ cs) reached a lt st h r =

@@ -8,15 +8,15 @@ use Rattle.sat_parts.specs.declared.prop.graph.Reason.TheVariants.{Unit as NoCau
 use Rattle.sat_parts.specs.declared.prop.graph.Conflict.{Conflict}
 use Rattle.sat_parts.specs.declared.prop.graph.Conflict.TheVariants as conflicts
 use Rattle.sat_parts.specs.clause.Db.{live_refs}
-use Rattle.sat_parts.specs.clause.Stored.{AreClauses, lit_of, size_of}
-use Rattle.sat_parts.specs.prop.WatchLists.{Watching}
+use Rattle.sat_parts.specs.clause.Stored.{AreLongClauses, lit_of, size_of}
+use Rattle.sat_parts.specs.prop.WatchLists.{WatchState}
 use Rattle.sat_parts.specs.prop.Binaries.{implied_by}
 use Rattle.sat_parts.specs.prop.Values.{IsTrueLit, IsFalseLit}
-use Rattle.sat_parts.specs.prop.Causes.{causes, falsified}
+use Rattle.sat_parts.specs.prop.ReasonLits.{reason_lits, conflict_lits}
 use Rattle.sat_parts.specs.prop.Graphs.{node_of}
 use Rattle.sat_parts.specs.prop.State.{PropagationState, node, level, current_level, lit_at, HasLeftQueue, StateIsConsistent, IsQueueCurrent, IsSatisfied}
-use Rattle.sat_parts.specs.prop.Reasons.{IsFalseBefore, Implies, AreUnitInTurn}
-use Rattle.sat_parts.specs.prop.TrailWord.{IsLevelled}
+use Rattle.sat_parts.specs.prop.Reasons.{IsFalseBefore, ReasonImplies, ReasonsAreUnit}
+use Rattle.sat_parts.specs.prop.TrailWord.{LevelsBeginWithDecisions}
 use Rattle.sat_parts.specs.prop.Ready.{IsConflict, AreAllFalse}
 use Rattle.sat_parts.specs.prop.Propagation.{PropagationInvariant}
 use Rattle.sat_parts.proofs.lemmas.clause.ListLemmas.{at_place}
@@ -39,8 +39,8 @@ false_level s r a f n =
     omega (arith, level_low s (negated r) a (true_from_false s.values r f))
 
 -- a conflict after propagation has a literal of the current level
-pub conflict_top : (words refs : List ℕ) (w : Watching) (implied : List (List ℕ)) (s : PropagationState) (e : Conflict) → PropagationInvariant words refs w implied s (current_level s) →
-    IsConflict words (live_refs words refs) implied s.values e → HasCurrentLevelLit s (falsified words e)
+pub conflict_top : (words refs : List ℕ) (w : WatchState) (implied : List (List ℕ)) (s : PropagationState) (e : Conflict) → PropagationInvariant words refs w implied s (current_level s) →
+    IsConflict words (live_refs words refs) implied s.values e → HasCurrentLevelLit s (conflict_lits words e)
 conflict_top words refs w implied s (conflicts.Binary ls) asks c = elim (cases_eq (level s (get_or ls 1 0)) (current_level s)) [
   | inl t ↦ (1, (omega arith, t))
   | inr n ↦
@@ -63,7 +63,7 @@ conflict_top words refs w implied s (conflicts.Long o) asks c =
           absurd (not_both s.values (get_or (lits_at words o) x.place 0) x.holds (c.1 x.place x.within))
     ]
 
-before_by : (words live : List ℕ) (implied : List (List ℕ)) (s : PropagationState) (p k : ℕ) (r : Reason) → Implies words live implied s p r → k < length (causes words r) → IsFalseBefore s p (get_or (causes words r) k 0)
+before_by : (words live : List ℕ) (implied : List (List ℕ)) (s : PropagationState) (p k : ℕ) (r : Reason) → ReasonImplies words live implied s p r → k < length (reason_lits words r) → IsFalseBefore s p (get_or (reason_lits words r) k 0)
 before_by words live implied s p k NoCause h lt = absurd (omega arith)
 before_by words live implied s p k (Binary ls) h lt =
     let e : 0 ≡ k = omega arith in
@@ -71,7 +71,7 @@ before_by words live implied s p k (Binary ls) h lt =
 before_by words live implied s p k (Long o) h lt =
     subst (λ z. IsFalseBefore s p z) (sym (get_or-drop 1 (lits_at words o) k 0)) (h.2 (1 + k) (omega arith) (omega (arith, length-drop 1 (lits_at words o))))
 
-pub stands_by : (words live : List ℕ) (implied : List (List ℕ)) (s : PropagationState) (p o : ℕ) (r : Reason) (count : ℕ) → AreClauses words live count → Implies words live implied s p r → r ≡ Long o → IsClause words o × (0 < length (lits_at words o))
+pub stands_by : (words live : List ℕ) (implied : List (List ℕ)) (s : PropagationState) (p o : ℕ) (r : Reason) (count : ℕ) → AreLongClauses words live count → ReasonImplies words live implied s p r → r ≡ Long o → IsClause words o × (0 < length (lits_at words o))
 stands_by words live implied s p o NoCause count c h e = (let x : NoCause ≡ Long o = e in cc)
 stands_by words live implied s p o (Binary ls) count c h e = (let x : Binary ls ≡ Long o = e in cc)
 stands_by words live implied s p o (Long q) count c h e =
@@ -80,8 +80,8 @@ stands_by words live implied s p o (Long q) count c h e =
 
 -- analysis may begin if the parts agree, reasons are unit in turn above level 0, and every level begins with a
 -- decision
-pub can_analyze : (words live : List ℕ) (implied : List (List ℕ)) (s : PropagationState) (count : ℕ) → StateIsConsistent s → IsLevelled s → 0 < current_level s → AreClauses words live count →
-    AreUnitInTurn words live implied s (get_or s.trail.starts 0 0) → CanAnalyze words s
+pub can_analyze : (words live : List ℕ) (implied : List (List ℕ)) (s : PropagationState) (count : ℕ) → StateIsConsistent s → LevelsBeginWithDecisions s → 0 < current_level s → AreLongClauses words live count →
+    ReasonsAreUnit words live implied s (get_or s.trail.starts 0 0) → CanAnalyze words s
 can_analyze words live implied s count a levelled above clauses t = record {
   agrees = a;
   levelled = levelled;
@@ -90,7 +90,7 @@ can_analyze words live implied s count a levelled above clauses t = record {
   valid = λ p o first lt e. stands_by words live implied s p o (node s (lit_at s p)).reason count clauses (t p first lt) e;
 }
 
-pub conflict_fails : (words live : List ℕ) (implied : List (List ℕ)) (values : List (Option Bool)) (e : Conflict) → IsConflict words live implied values e → AreAllFalse values (falsified words e)
+pub conflict_fails : (words live : List ℕ) (implied : List (List ℕ)) (values : List (Option Bool)) (e : Conflict) → IsConflict words live implied values e → AreAllFalse values (conflict_lits words e)
 conflict_fails words live implied values (conflicts.Binary ls) c zero lt = c.1
 conflict_fails words live implied values (conflicts.Binary ls) c (suc zero) lt = c.2
 conflict_fails words live implied values (conflicts.Binary ls) c (suc (suc k)) lt = absurd (omega arith)

@@ -17,13 +17,13 @@ use Rattle.sat_parts.specs.prop.Reasons.{IsFalseBefore}
 use Rattle.sat_parts.proofs.lemmas.prop.RoomLemmas.{below_from_value}
 use Rattle.sat_parts.proofs.lemmas.clause.OrderLemmas.{other, swapped_at, shuffled_swapped, shuffled_refl, shuffled_trans}
 use Rattle.sat_solver.specs.analyze_conflict.AnalysisState.{AnalysisState}
-use Rattle.sat_solver.specs.analyze_conflict.Marks.{causes_at, CanAnalyze, IsReasoned, MarksWork}
+use Rattle.sat_solver.specs.analyze_conflict.Marks.{causes_at, CanAnalyze, IsReasoned, AreFlagsOf}
 use Rattle.sat_solver.proofs.lemmas.analyze_conflict.InTurn.{above_first}
 use Rattle.sat_solver.proofs.lemmas.analyze_conflict.Meeting.{OpenPlace, open_some, variable_below}
 use Rattle.sat_solver.proofs.lemmas.analyze_conflict.Resolution.{IsLastFlagged}
 
 -- if literals are still to be resolved, some literal of the trail is flagged
-pub some_flagged : (s : PropagationState) (top : ℕ) (w : AnalysisState) (at : ℕ) (lits : List ℕ) → lits ≡ s.trail.lits → MarksWork s top w at → 0 < w.pending → (p : ℕ) × ((p < at) × (get_or w.flags (variable (get_or lits p 0)) false ≡ true))
+pub some_flagged : (s : PropagationState) (top : ℕ) (w : AnalysisState) (at : ℕ) (lits : List ℕ) → lits ≡ s.trail.lits → AreFlagsOf s top w at → 0 < w.pending → (p : ℕ) × ((p < at) × (get_or w.flags (variable (get_or lits p 0)) false ≡ true))
 some_flagged s top w at lits e m some =
     let x : OpenPlace s top w.flags at = open_some s top w.flags at (omega (arith, m.counted)) in
     (x.place, (x.before, ap (λ (ls : List ℕ). get_or w.flags (variable (get_or ls x.place 0)) false) e ∙ x.flagged))
@@ -126,7 +126,7 @@ shuffled_nodes nodes ls ms h inside k lt =
     let o : (j : ℕ) × ((j < length ls) × (get_or ls j 0 ≡ get_or ms k 0)) = h.back k (omega (arith, h.size)) in
     omega (arith, inside o.0 o.1.0, ap (λ z. variable z) o.1.1)
 
-pub place_variable : (s : PropagationState) (top : ℕ) (w : AnalysisState) (at p : ℕ) → StateIsConsistent s → MarksWork s top w at → p < at → variable (lit_at s p) < length w.flags
+pub place_variable : (s : PropagationState) (top : ℕ) (w : AnalysisState) (at p : ℕ) → StateIsConsistent s → AreFlagsOf s top w at → p < at → variable (lit_at s p) < length w.flags
 place_variable s top w at p a m lt =
     let within : p < length s.trail.lits = omega (arith, m.within) in
     omega (arith, m.size, below_from_value s.values (variable (lit_at s p)) (is_positive (lit_at s p)) (a.holds p within))

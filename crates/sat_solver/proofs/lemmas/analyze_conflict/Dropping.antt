@@ -11,8 +11,8 @@ use Rattle.sat_parts.specs.prop.State.{PropagationState, level, current_level}
 use Rattle.sat_parts.proofs.lemmas.clause.ListLemmas.{at_place, place_in, in_tail, there}
 use Rattle.sat_parts.proofs.lemmas.prop.StateLemmas.{negated_variable, negated_twice}
 use Rattle.sat_solver.specs.analyze_conflict.AnalysisState.{AnalysisState}
-use Rattle.sat_solver.specs.analyze_conflict.Marks.{IsLower, HasVariable}
-use Rattle.sat_solver.specs.analyze_conflict.Minimal.{IsUse, use_top, use_low, MinimizationInvariant, IsNewUse, MarksMore, used_up, Minimal}
+use Rattle.sat_solver.specs.analyze_conflict.Marks.{IsLowerFlagged, HasVariable}
+use Rattle.sat_solver.specs.analyze_conflict.Minimization.{IsUsedLit, use_top, use_low, MinimizationInvariant, IsUsedFrom, AddsMarks, with_used, ClauseMinimizationInvariant}
 use Rattle.sat_solver.proofs.lemmas.analyze_conflict.Minimizing.{front_at}
 
 -- an element of a list is also in the list with one more element in the middle
@@ -73,14 +73,14 @@ not_middle xs ys c d h =
     skip_other (length xs) h.0 (d (skip (length xs) h.0) (length xs) (skip_within xs ys c h.0 h.1) (omega arith)
     (skip_at xs ys c h.0 ∙ at_place (xs ++ ys) c h ∙ sym (get_or_at xs c ys 0 (length xs) refl)))
 
-lower_kept : (s : PropagationState) (w w' : AnalysisState) (r : ℕ) → MarksMore w w' → IsLower s (current_level s) w.flags r → IsLower s (current_level s) w'.flags r
+lower_kept : (s : PropagationState) (w w' : AnalysisState) (r : ℕ) → AddsMarks w w' → IsLowerFlagged s (current_level s) w.flags r → IsLowerFlagged s (current_level s) w'.flags r
 lower_kept s w w' r m h = record { fails = h.fails; above = h.above; below = h.below; flagged = m.kept (variable r) h.flagged }
 
 -- after a successful search the literal is dropped
-pub dropped : (words : List ℕ) (s : PropagationState) (conflict : List ℕ) (first low c : ℕ) (xs ys : List ℕ) (w w' : AnalysisState) → Minimal words s conflict first low (xs ++ c ∷ ys) w → c ≢ first →
-    MarksMore (used_up (negated c) w) w' → MinimizationInvariant words s conflict first low w' (length w'.used) → Minimal words s conflict first low (xs ++ ys) w'
+pub dropped : (words : List ℕ) (s : PropagationState) (conflict : List ℕ) (first low c : ℕ) (xs ys : List ℕ) (w w' : AnalysisState) → ClauseMinimizationInvariant words s conflict first low (xs ++ c ∷ ys) w → c ≢ first →
+    AddsMarks (with_used (negated c) w) w' → MinimizationInvariant words s conflict first low w' (length w'.used) → ClauseMinimizationInvariant words s conflict first low (xs ++ ys) w'
 dropped words s conflict first low c xs ys w w' h other m x =
-    let w1 : AnalysisState = used_up (negated c) w in
+    let w1 : AnalysisState = with_used (negated c) w in
     let n : length w1.used ≡ length w.used + 1 = length_push w.used (negated c) in
     let c_at : get_or w'.used (length w.used) 0 ≡ negated c = front_at w1 w' (length w.used) 0 m (omega arith) ∙ get_or_push w.used (negated c) 0 (length w.used) refl in
     let old_at : (k : ℕ) → k < length w.used → get_or w'.used k 0 ≡ get_or w.used k 0 = λ k lt. front_at w1 w' k 0 m (omega arith) ∙ get_or_append_left w.used (negated c ∷ []) 0 k lt in
@@ -108,22 +108,22 @@ dropped words s conflict first low c xs ys w w' h other m x =
               | inr d ↦
                   let fresh : get_or w.flags (variable l) false ≡ false = ap (λ z. get_or w.flags (variable z) false) (sym l_at) ∙ m.fresh a.0 (omega arith) a.1 in
                   elim (h.lower (negated l) (in_middle xs ys c (negated l) b)) [
-                    | inl e ↦ low_not_top s low w'.flags a.0 l first (subst (λ z. IsUse s low w'.flags a.0 z) l_at (x.uses a.0 a.1)) (omega (arith, h.searching.following)) e h.top
+                    | inl e ↦ low_not_top s low w'.flags a.0 l first (subst (λ z. IsUsedLit s low w'.flags a.0 z) l_at (x.uses a.0 a.1)) (omega (arith, h.searching.following)) e h.top
                     | inr y ↦ both_ways (get_or w.flags (variable l) false) fresh (ap (λ v. get_or w.flags v false) (sym (negated_variable l)) ∙ y.flagged)
                   ]
             ]
           ];
     }
   where
-    same_flags : (s : PropagationState) (w : AnalysisState) (l r : ℕ) → IsLower s (current_level s) w.flags r → IsLower s (current_level s) (used_up l w).flags r
+    same_flags : (s : PropagationState) (w : AnalysisState) (l r : ℕ) → IsLowerFlagged s (current_level s) w.flags r → IsLowerFlagged s (current_level s) (with_used l w).flags r
     same_flags s w l r h = h
 
-    has_other : (xs ys : List ℕ) (c : ℕ) (w w' : AnalysisState) (low v : ℕ) → low ≤ length w.used → HasVariable (xs ++ c ∷ ys) v → get_or w'.used (length w.used) 0 ≡ negated c → length w.used < length w'.used → HasVariable (xs ++ ys) v ⊎ IsNewUse w'.used low v
+    has_other : (xs ys : List ℕ) (c : ℕ) (w w' : AnalysisState) (low v : ℕ) → low ≤ length w.used → HasVariable (xs ++ c ∷ ys) v → get_or w'.used (length w.used) 0 ≡ negated c → length w.used < length w'.used → HasVariable (xs ++ ys) v ⊎ IsUsedFrom w'.used low v
     has_other xs ys c w w' low v following y c_at lt = elim (out_of_middle xs ys c (get_or (xs ++ c ∷ ys) y.0 0) (place_in (xs ++ c ∷ ys) y.0 y.1.0)) [
       | inl e ↦ inr (record { place = length w.used; following = following; within = lt; there = ap (λ z. variable z) c_at ∙ negated_variable c ∙ ap (λ z. variable z) e ∙ y.1.1 })
       | inr d ↦ inl (d.0, (d.1, ap (λ z. variable z) (at_place (xs ++ ys) (get_or (xs ++ c ∷ ys) y.0 0) d) ∙ y.1.1))
     ]
 
-    low_not_top : (s : PropagationState) (low : ℕ) (flags : List Bool) (k l first : ℕ) → IsUse s low flags k l → low ≤ k → negated l ≡ first → level s first ≡ current_level s → ⊥
+    low_not_top : (s : PropagationState) (low : ℕ) (flags : List Bool) (k l first : ℕ) → IsUsedLit s low flags k l → low ≤ k → negated l ≡ first → level s first ≡ current_level s → ⊥
     low_not_top s low flags k l first (use_top b t) le e top = omega arith
     low_not_top s low flags k l first (use_low b t g) le e top = omega (arith, ap (λ z. level s z) e, ap (λ v. (node_of s.nodes v).level) (negated_variable l))

@@ -11,7 +11,7 @@ use Rattle.std.specs.List.Sorted.{IsPermutation}
 use Rattle.sat_base.specs.values.Literals.{variable, negated}
 use Rattle.sat_store.specs.clause.Buffer.{swapped}
 use Rattle.sat_parts.specs.declared.prop.graph.Conflict.{Conflict}
-use Rattle.sat_parts.specs.clause.Glue.{AreClear}
+use Rattle.sat_parts.specs.clause.Glue.{FlagsAreClear}
 use Rattle.sat_parts.specs.clause.Orders.{AreDistinct, IsReordering}
 use Rattle.sat_parts.specs.prop.Values.{IsFalseLit}
 use Rattle.sat_parts.specs.prop.Ready.{AreAllFalse}
@@ -21,14 +21,14 @@ use Rattle.sat_parts.proofs.lemmas.clause.OrderLemmas.{other, swapped_at, shuffl
 use Rattle.sat_parts.proofs.lemmas.prop.StateLemmas.{negated_variable, negated_twice, false_from_true, true_from_false}
 use Rattle.sat_parts.proofs.lemmas.prop.RoomLemmas.{places_apart}
 use Rattle.sat_solver.specs.analyze_conflict.AnalysisState.{AnalysisState, with_seen_literals, unflagged, begun_analysis, with_first}
-use Rattle.sat_solver.specs.analyze_conflict.Marks.{causes_at, CanAnalyze, open_below, MarksWork, IsWaiting, IsCovered, covered_unit, covered_clause, covered_reason, covered_core, covered_open, IsReasoned, depth, ResolutionInvariant, HasCurrentLevelLit}
-use Rattle.sat_solver.specs.analyze_conflict.Derivation.{HasKnownCause, grounded_unit, grounded_clause, grounded_reason, HaveKnownCauses, IsUnorderedDerivation, IsAsserting, ResolutionResult}
+use Rattle.sat_solver.specs.analyze_conflict.Marks.{causes_at, CanAnalyze, open_below, AreFlagsOf, IsToBeResolved, IsExplained, covered_unit, covered_clause, covered_reason, covered_core, covered_open, IsReasoned, depth, ResolutionInvariant, HasCurrentLevelLit}
+use Rattle.sat_solver.specs.analyze_conflict.Derivation.{IsExplainedByUsed, explained_unit, explained_clause, explained_reason, AreExplainedByUsed, IsUnorderedDerivation, IsAsserting, ResolutionResult}
 use Rattle.sat_solver.proofs.lemmas.analyze_conflict.Meeting.{level_by_variable, open_same, open_some, open_no, Met, met_all}
 use Rattle.sat_solver.proofs.lemmas.analyze_conflict.Minimizing.{distinct_push}
 use Rattle.sat_solver.proofs.lemmas.analyze_conflict.Resolution.{IsLastFlagged, last_high, at_current, marks_passed, passed_waiting}
 
 -- without flags and with an empty clause, no literal is counted
-pub begun_marks : (s : PropagationState) (top : ℕ) (w : AnalysisState) (at : ℕ) → at ≤ length s.trail.lits → AreClear w.flags → length w.flags ≡ length s.values → w.clause ≡ [] → w.pending ≡ 0 → MarksWork s top w at
+pub begun_marks : (s : PropagationState) (top : ℕ) (w : AnalysisState) (at : ℕ) → at ≤ length s.trail.lits → FlagsAreClear w.flags → length w.flags ≡ length s.values → w.clause ≡ [] → w.pending ≡ 0 → AreFlagsOf s top w at
 begun_marks s top w at le clear size none zero = record {
   size = size;
   within = le;
@@ -39,8 +39,8 @@ begun_marks s top w at le clear size none zero = record {
 }
 
 -- before any literal was used, an explained literal of the current level is still to be resolved
-top_waits : (s : PropagationState) (w : AnalysisState) (at r : ℕ) → MarksWork s (current_level s) w at → w.used ≡ [] → w.core ≡ [] → 0 < current_level s → level s r ≡ current_level s → IsCovered s (current_level s) w at r →
-    IsWaiting s (current_level s) w.flags at r
+top_waits : (s : PropagationState) (w : AnalysisState) (at r : ℕ) → AreFlagsOf s (current_level s) w at → w.used ≡ [] → w.core ≡ [] → 0 < current_level s → level s r ≡ current_level s → IsExplained s (current_level s) w at r →
+    IsToBeResolved s (current_level s) w.flags at r
 top_waits s w at r m none bare above top (covered_unit z) = absurd (omega arith)
 top_waits s w at r m none bare above top (covered_clause c) = absurd (omega (arith, (m.lower c.0 c.1).below, ap (λ z. level s z) (at_place w.clause r c)))
 top_waits s w at r m none bare above top (covered_reason c) = absurd (omega (arith, c.1, ap (λ (xs : List ℕ). length xs) none))
@@ -48,7 +48,7 @@ top_waits s w at r m none bare above top (covered_core c) = absurd (omega (arith
 top_waits s w at r m none bare above top (covered_open x) = x
 
 -- if a literal is still to be resolved, some are counted
-pub waiting_counts : (s : PropagationState) (top : ℕ) (w : AnalysisState) (at r : ℕ) → MarksWork s top w at → IsWaiting s top w.flags at r → 0 < w.pending
+pub waiting_counts : (s : PropagationState) (top : ℕ) (w : AnalysisState) (at r : ℕ) → AreFlagsOf s top w at → IsToBeResolved s top w.flags at r → 0 < w.pending
 waiting_counts s top w at r m x = elim (cases_eq w.pending 0) [
   | inl e ↦
       let v_is : variable (lit_at s x.before.place) ≡ variable r = ap (λ z. variable z) x.before.there ∙ negated_variable r in
@@ -56,14 +56,14 @@ waiting_counts s top w at r m x = elim (cases_eq w.pending 0) [
   | inr n ↦ omega arith
 ]
 
-pub began : (words : List ℕ) (s : PropagationState) (conflict : List ℕ) (e : Conflict) (w : AnalysisState) → CanAnalyze words s → AreClear w.flags → length w.flags ≡ length s.values → AreAllFalse s.values conflict → HasCurrentLevelLit s conflict →
+pub began : (words : List ℕ) (s : PropagationState) (conflict : List ℕ) (e : Conflict) (w : AnalysisState) → CanAnalyze words s → FlagsAreClear w.flags → length w.flags ≡ length s.values → AreAllFalse s.values conflict → HasCurrentLevelLit s conflict →
     ResolutionInvariant words s conflict (with_seen_literals s.nodes (current_level s) conflict (begun_analysis e w)) (length s.trail.lits)
 began words s conflict e w can clear size fails top =
     let n : ℕ = length s.trail.lits in
     let w2 : AnalysisState = with_seen_literals s.nodes (current_level s) conflict (begun_analysis e w) in
     let m : Met s (current_level s) n conflict (begun_analysis e w) w2 =
     met_all s (current_level s) n conflict (begun_analysis e w) can.agrees (λ k lt. can.agrees.known (negated (get_or conflict k 0)) (true_from_false s.values (get_or conflict k 0) (fails k lt))) (begun_marks s (current_level s) (begun_analysis e w) (length s.trail.lits) (omega arith) clear size refl refl) in
-    let x : IsWaiting s (current_level s) w2.flags n (get_or conflict top.0 0) = top_waits s w2 n (get_or conflict top.0 0) m.marks m.used m.core can.above top.1.1 (m.covered top.0 top.1.0) in
+    let x : IsToBeResolved s (current_level s) w2.flags n (get_or conflict top.0 0) = top_waits s w2 n (get_or conflict top.0 0) m.marks m.used m.core can.above top.1.1 (m.covered top.0 top.1.0) in
     let none : length w2.used ≡ 0 = ap (λ (xs : List ℕ). length xs) m.used in
     record {
       marks = m.marks;
@@ -128,10 +128,10 @@ old_in xs r ys x h c = Contains-permutation (xs ++ r ∷ []) ys x h.lits.order (
 
 -- if no other flagged literal of the current level is left, every explained literal has a known cause
 last_grounded : (s : PropagationState) (w : AnalysisState) (p at r : ℕ) (ys : List ℕ) → StateIsConsistent s → at ≤ length s.trail.lits → IsLastFlagged s w.flags p at → open_below s (current_level s) (set w.flags (variable (lit_at s p)) false) p ≡ 0 →
-    w.core ≡ [] → Joined w.clause (negated (lit_at s p)) ys → IsCovered s (current_level s) w at r → HasKnownCause s ys w.used r
-last_grounded s w p at r ys a le h none bare j (covered_unit z) = grounded_unit z
-last_grounded s w p at r ys a le h none bare j (covered_clause c) = grounded_clause (old_in w.clause (negated (lit_at s p)) ys r j c)
-last_grounded s w p at r ys a le h none bare j (covered_reason c) = grounded_reason c
+    w.core ≡ [] → Joined w.clause (negated (lit_at s p)) ys → IsExplained s (current_level s) w at r → IsExplainedByUsed s ys w.used r
+last_grounded s w p at r ys a le h none bare j (covered_unit z) = explained_unit z
+last_grounded s w p at r ys a le h none bare j (covered_clause c) = explained_clause (old_in w.clause (negated (lit_at s p)) ys r j c)
+last_grounded s w p at r ys a le h none bare j (covered_reason c) = explained_reason c
 last_grounded s w p at r ys a le h none bare j (covered_core c) = absurd (omega (arith, c.1, ap (λ (xs : List ℕ). length xs) bare))
 last_grounded s w p at r ys a le h none bare j (covered_open x) = elim (passed_waiting s (current_level s) w p at r a le h x) [
   | inl y ↦
@@ -139,14 +139,14 @@ last_grounded s w p at r ys a le h none bare j (covered_open x) = elim (passed_w
       absurd (open_no s (current_level s) (set w.flags (variable (lit_at s p)) false) p y.before.place none y.before.before
       (ap (λ v. get_or (set w.flags (variable (lit_at s p)) false) v false) v_is ∙ y.flagged)
       (omega (arith, level_by_variable s (lit_at s y.before.place) r v_is, y.high)))
-  | inr e ↦ grounded_clause (subst (λ z. Contains ys z) (ap (λ z. negated z) e ∙ negated_twice r) (new_in w.clause (negated (lit_at s p)) ys j))
+  | inr e ↦ explained_clause (subst (λ z. Contains ys z) (ap (λ z. negated z) e ∙ negated_twice r) (new_in w.clause (negated (lit_at s p)) ys j))
 ]
 
 -- the literal of the current level isn't the negation of a literal of the clause
-not_lower : (s : PropagationState) (w : AnalysisState) (p k : ℕ) → level s (lit_at s p) ≡ current_level s → MarksWork s (current_level s) (unflagged (lit_at s p) w) p → k < length w.clause → get_or w.clause k 0 ≡ negated (lit_at s p) → ⊥
+not_lower : (s : PropagationState) (w : AnalysisState) (p k : ℕ) → level s (lit_at s p) ≡ current_level s → AreFlagsOf s (current_level s) (unflagged (lit_at s p) w) p → k < length w.clause → get_or w.clause k 0 ≡ negated (lit_at s p) → ⊥
 not_lower s w p k top m lt e = omega (arith, (m.lower k lt).below, ap (λ z. level s z) e, level_by_variable s (negated (lit_at s p)) (lit_at s p) (negated_variable (lit_at s p)))
 
-asserting_first : (s : PropagationState) (w : AnalysisState) (p : ℕ) (ys : List ℕ) → StateIsConsistent s → p < length s.trail.lits → level s (lit_at s p) ≡ current_level s → MarksWork s (current_level s) (unflagged (lit_at s p) w) p →
+asserting_first : (s : PropagationState) (w : AnalysisState) (p : ℕ) (ys : List ℕ) → StateIsConsistent s → p < length s.trail.lits → level s (lit_at s p) ≡ current_level s → AreFlagsOf s (current_level s) (unflagged (lit_at s p) w) p →
     Joined w.clause (negated (lit_at s p)) ys → AreDistinct ys → IsAsserting s ys
 asserting_first s w p ys a within top m j d =
     let n : length (w.clause ++ negated (lit_at s p) ∷ []) ≡ length w.clause + 1 = length_push w.clause (negated (lit_at s p)) in
@@ -183,10 +183,10 @@ finished words s conflict w p at can r one h b =
     let within : p < length s.trail.lits = omega (arith, h.before, r.marks.within) in
     let high : current_level s ≤ level s l = last_high s t w.flags p at a r.marks.within h (open_some s t w.flags at (omega (arith, r.marks.counted))) in
     let top : level s l ≡ current_level s = at_current s p a within high in
-    let m : MarksWork s (current_level s) (unflagged l w) p = marks_passed s t w p at a r.marks h high b in
+    let m : AreFlagsOf s (current_level s) (unflagged l w) p = marks_passed s t w p at a r.marks h high b in
     let none : open_below s (current_level s) (set w.flags (variable l) false) p ≡ 0 = omega (arith, m.counted) in
     let d : AreDistinct ys = joined_distinct w.clause (negated l) ys j m.distinct (λ k lt e. not_lower s w p k top m lt e) in
-    let ground : (q : ℕ) → IsCovered s (current_level s) w at q → HasKnownCause s ys w.used q = λ q c. last_grounded s w p at q ys a r.marks.within h none r.none j c in
+    let ground : (q : ℕ) → IsExplained s (current_level s) w at q → IsExplainedByUsed s ys w.used q = λ q c. last_grounded s w p at q ys a r.marks.within h none r.none j c in
     let tops : (k : ℕ) → k < length w.used → level s (get_or w.used k 0) ≡ current_level s = λ k lt.
     let x : IsReasoned s at (get_or w.used k 0) = (r.uses.reasons k lt).0 in
     let up : current_level s ≤ level s (lit_at s x.place) = omega (arith, (r.uses.reasons k lt).1, ap (λ z. level s z) x.there) in
@@ -198,7 +198,7 @@ finished words s conflict w p at can r one h b =
         reasons = λ q c.
             let x : IsReasoned s at q = subst (λ z. IsReasoned s at z) (at_place w.used q c) (r.uses.reasons c.0 c.1).0 in
             record { place = x.place; from = omega arith; within = x.within; there = x.there; above = x.above; caused = x.caused };
-        causes = λ q c. subst (λ z. HaveKnownCauses s ys w.used (causes_at words s z)) (at_place w.used q c)
+        causes = λ q c. subst (λ z. AreExplainedByUsed s ys w.used (causes_at words s z)) (at_place w.used q c)
             (λ i lt. ground (get_or (causes_at words s (get_or w.used c.0 0)) i 0) (r.uses.causes c.0 c.1 i lt));
         start = λ i lt. ground (get_or conflict i 0) (r.start i lt);
         apart = λ q c e.
@@ -237,7 +237,7 @@ finished words s conflict w p at can r one h b =
 pub grounds_permuted : (words : List ℕ) (s : PropagationState) (conflict learned used used' : List ℕ) → IsPermutation used used' → AreDistinct used' → IsUnorderedDerivation words s conflict learned used → IsUnorderedDerivation words s conflict learned used'
 grounds_permuted words s conflict learned used used' p d g =
     let back : (l : ℕ) → Contains used' l → Contains used l = λ l c. Contains-permutation used' used l (IsPermutation-sym used used' p) c in
-    let forth : (r : ℕ) → HasKnownCause s learned used r → HasKnownCause s learned used' r = λ r x. moved s learned used used' r p x in
+    let forth : (r : ℕ) → IsExplainedByUsed s learned used r → IsExplainedByUsed s learned used' r = λ r x. moved s learned used used' r p x in
     record {
       reasons = λ l c. g.reasons l (back l c);
       causes = λ l c i lt. forth (get_or (causes_at words s l) i 0) (g.causes l (back l c) i lt);
@@ -246,7 +246,7 @@ grounds_permuted words s conflict learned used used' p d g =
       distinct = d;
     }
   where
-    moved : (s : PropagationState) (learned used used' : List ℕ) (r : ℕ) → IsPermutation used used' → HasKnownCause s learned used r → HasKnownCause s learned used' r
-    moved s learned used used' r p (grounded_unit z) = grounded_unit z
-    moved s learned used used' r p (grounded_clause c) = grounded_clause c
-    moved s learned used used' r p (grounded_reason c) = grounded_reason (Contains-permutation used used' (negated r) p c)
+    moved : (s : PropagationState) (learned used used' : List ℕ) (r : ℕ) → IsPermutation used used' → IsExplainedByUsed s learned used r → IsExplainedByUsed s learned used' r
+    moved s learned used used' r p (explained_unit z) = explained_unit z
+    moved s learned used used' r p (explained_clause c) = explained_clause c
+    moved s learned used used' r p (explained_reason c) = explained_reason (Contains-permutation used used' (negated r) p c)

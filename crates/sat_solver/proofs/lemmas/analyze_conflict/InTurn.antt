@@ -13,7 +13,7 @@ use Rattle.sat_parts.specs.prop.Reasons.{IsFalseBefore}
 use Rattle.sat_parts.proofs.lemmas.clause.ListLemmas.{at_place, place_in, in_tail, in_head, there}
 use Rattle.sat_parts.proofs.lemmas.prop.StateLemmas.{negated_variable, negated_twice, false_from_true, true_from_false, not_both}
 use Rattle.sat_solver.specs.analyze_conflict.Marks.{causes_at, CanAnalyze, IsReasoned, depth}
-use Rattle.sat_solver.specs.analyze_conflict.Derivation.{clause_of, AreLevelZeroLits, HasKnownCause, IsDerivation, IsAcceptable, grounded_unit, grounded_clause, grounded_reason}
+use Rattle.sat_solver.specs.analyze_conflict.Derivation.{clause_of, AreLevelZeroLits, IsExplainedByUsed, IsDerivation, IsAcceptable, explained_unit, explained_clause, explained_reason}
 
 -- the literal is assumed, or implied by an entry of smaller depth
 abbrev pub Given : (s : PropagationState) (known es : List ℕ) (d m : ℕ) → Type 0
@@ -139,31 +139,31 @@ causes_before words s p l i can within there first b =
 
 -- an explained literal that was false before a position has a negation that is assumed or implied
 pub given_one : (words : List ℕ) (s : PropagationState) (learned used units : List ℕ) (p r : ℕ) → StateIsConsistent s → AreLevelZeroLits s units →
-    ((k : ℕ) → k < length used → IsReasoned s 0 (get_or used k 0)) → IsFalseBefore s p r → HasKnownCause s learned used r →
+    ((k : ℕ) → k < length used → IsReasoned s 0 (get_or used k 0)) → IsFalseBefore s p r → IsExplainedByUsed s learned used r →
     Given s (map negated learned ++ units) used (p + 1) (negated r)
-given_one words s learned used units p r a u reasons before (grounded_unit z) =
+given_one words s learned used units p r a u reasons before (explained_unit z) =
     let zero_level : level s (negated r) ≡ 0 = ap (λ v. (node_of s.nodes v).level) (negated_variable r) ∙ z in
     inl (among-append (map negated learned) units (negated r) ∙
     or_right (is_among (map negated learned) (negated r)) (is_among units (negated r)) (u.all (negated r) (negation_true s p r a before) zero_level))
-given_one words s learned used units p r a u reasons before (grounded_clause c) =
+given_one words s learned used units p r a u reasons before (explained_clause c) =
     inl (among-append (map negated learned) units (negated r) ∙
     or_left (is_among (map negated learned) (negated r)) (is_among units (negated r)) (negated_among learned r c))
-given_one words s learned used units p r a u reasons before (grounded_reason c) =
+given_one words s learned used units p r a u reasons before (explained_reason c) =
     let x : IsReasoned s 0 (get_or used c.0 0) = reasons c.0 c.1 in
     let e : get_or used c.0 0 ≡ negated r = at_place used (negated r) c in
     inr (c, negation_depth s p r a before (omega (arith, x.above, ap (λ z. level s z) e)))
 
 -- the same for a literal of the falsified clause
-given_start : (s : PropagationState) (learned used units : List ℕ) (r : ℕ) → AreLevelZeroLits s units → IsFalseLit s.values r → HasKnownCause s learned used r →
+given_start : (s : PropagationState) (learned used units : List ℕ) (r : ℕ) → AreLevelZeroLits s units → IsFalseLit s.values r → IsExplainedByUsed s learned used r →
     (is_among (map negated learned ++ units) (negated r) ≡ true) ⊎ Contains used (negated r)
-given_start s learned used units r u fails (grounded_unit z) =
+given_start s learned used units r u fails (explained_unit z) =
     let zero_level : level s (negated r) ≡ 0 = ap (λ v. (node_of s.nodes v).level) (negated_variable r) ∙ z in
     inl (among-append (map negated learned) units (negated r) ∙
     or_right (is_among (map negated learned) (negated r)) (is_among units (negated r)) (u.all (negated r) (true_from_false s.values r fails) zero_level))
-given_start s learned used units r u fails (grounded_clause c) =
+given_start s learned used units r u fails (explained_clause c) =
     inl (among-append (map negated learned) units (negated r) ∙
     or_left (is_among (map negated learned) (negated r)) (is_among units (negated r)) (negated_among learned r c))
-given_start s learned used units r u fails (grounded_reason c) = inr c
+given_start s learned used units r u fails (explained_reason c) = inr c
 
 assumed_true : (s : PropagationState) (learned units : List ℕ) (l : ℕ) → AreLevelZeroLits s units → ((k : ℕ) → k < length learned → IsFalseLit s.values (get_or learned k 0)) →
     is_among (map negated learned ++ units) l ≡ true → IsTrueLit s.values l

@@ -3,7 +3,7 @@ use Rattle.std.proofs.Common.{ℕ, ◌≡◌, ◌<◌, ◌≤◌, inl, inr, List
 use Rattle.std.proofs.lemmas.Bool.{cases_eq, cases_lt}
 use Rattle.std.proofs.lemmas.List.Sorted.{IsPermutation-sym, Contains-permutation}
 use Rattle.sat_base.specs.values.Literals.{negated}
-use Rattle.sat_parts.specs.clause.Glue.{AreClear}
+use Rattle.sat_parts.specs.clause.Glue.{FlagsAreClear}
 use Rattle.sat_parts.specs.clause.Orders.{IsReordering}
 use Rattle.sat_parts.specs.prop.Values.{IsFalseLit}
 use Rattle.sat_parts.specs.prop.Ready.{AreAllFalse}
@@ -11,13 +11,13 @@ use Rattle.sat_parts.specs.prop.State.{PropagationState, level, current_level}
 use Rattle.sat_parts.proofs.lemmas.clause.ListLemmas.{place_in}
 use Rattle.sat_solver.specs.analyze_conflict.AnalysisState.{AnalysisState}
 use Rattle.sat_solver.specs.analyze_conflict.Marks.{causes_at, CanAnalyze}
-use Rattle.sat_solver.specs.analyze_conflict.Derivation.{HasKnownCause, grounded_unit, grounded_clause, grounded_reason, IsUnorderedDerivation, IsDerivation, IsAsserting, PutsSecond, AnalysisResult}
+use Rattle.sat_solver.specs.analyze_conflict.Derivation.{IsExplainedByUsed, explained_unit, explained_clause, explained_reason, IsUnorderedDerivation, IsDerivation, IsAsserting, PutsHighestSecond, AnalysisResult}
 use Rattle.sat_solver.proofs.lemmas.analyze_conflict.InTurn.{acceptable}
 
 -- a derivation of a clause is one of the reordered clause
 grounds_shuffled : (words : List ℕ) (s : PropagationState) (conflict learned learned' used : List ℕ) → IsReordering learned learned' → IsUnorderedDerivation words s conflict learned used → IsUnorderedDerivation words s conflict learned' used
 grounds_shuffled words s conflict learned learned' used p g =
-    let forth : (r : ℕ) → HasKnownCause s learned used r → HasKnownCause s learned' used r = λ r x. moved s learned learned' used r p x in
+    let forth : (r : ℕ) → IsExplainedByUsed s learned used r → IsExplainedByUsed s learned' used r = λ r x. moved s learned learned' used r p x in
     record {
       reasons = g.reasons;
       causes = λ l c i lt. forth (get_or (causes_at words s l) i 0) (g.causes l c i lt);
@@ -26,10 +26,10 @@ grounds_shuffled words s conflict learned learned' used p g =
       distinct = g.distinct;
     }
   where
-    moved : (s : PropagationState) (learned learned' used : List ℕ) (r : ℕ) → IsReordering learned learned' → HasKnownCause s learned used r → HasKnownCause s learned' used r
-    moved s learned learned' used r p (grounded_unit z) = grounded_unit z
-    moved s learned learned' used r p (grounded_clause c) = grounded_clause (Contains-permutation learned learned' r p.order c)
-    moved s learned learned' used r p (grounded_reason c) = grounded_reason c
+    moved : (s : PropagationState) (learned learned' used : List ℕ) (r : ℕ) → IsReordering learned learned' → IsExplainedByUsed s learned used r → IsExplainedByUsed s learned' used r
+    moved s learned learned' used r p (explained_unit z) = explained_unit z
+    moved s learned learned' used r p (explained_clause c) = explained_clause (Contains-permutation learned learned' r p.order c)
+    moved s learned learned' used r p (explained_reason c) = explained_reason c
 
 -- every literal of a reordered list has a position in the first list
 at_other : (ls ms : List ℕ) (k : ℕ) → IsReordering ls ms → k < length ms → (j : ℕ) × ((j < length ls) × (get_or ls j 0 ≡ get_or ms k 0))
@@ -54,7 +54,7 @@ asserting_shuffled s ls ms p first h = record {
 }
 
 pub learned : (words : List ℕ) (s : PropagationState) (conflict : List ℕ) (w w' : AnalysisState) (back : ℕ) → CanAnalyze words s → AreAllFalse s.values conflict → IsAsserting s w.clause → IsDerivation words s conflict w.clause w'.used →
-    PutsSecond s.nodes w.clause w'.clause back → AreClear w'.flags → AnalysisResult words s conflict w' back
+    PutsHighestSecond s.nodes w.clause w'.clause back → FlagsAreClear w'.flags → AnalysisResult words s conflict w' back
 learned words s conflict w w' back can fails a d p clear =
     let b : IsAsserting s w'.clause = asserting_shuffled s w.clause w'.clause p.lits p.first a in
     let size : length w'.clause ≡ length w.clause = p.lits.size in

@@ -7,14 +7,14 @@ use Rattle.sat_parts.specs.prop.Values.{IsFalseLit}
 use Rattle.sat_parts.specs.prop.State.{PropagationState, level, current_level}
 use Rattle.sat_parts.proofs.lemmas.clause.ListLemmas.{place_in}
 use Rattle.sat_solver.specs.analyze_conflict.AnalysisState.{AnalysisState, analysis_state}
-use Rattle.sat_solver.specs.analyze_conflict.Marks.{causes_at, IsLower, HasVariable}
+use Rattle.sat_solver.specs.analyze_conflict.Marks.{causes_at, IsLowerFlagged, HasVariable}
 use Rattle.sat_solver.specs.analyze_conflict.Derivation.{IsAsserting, FlagsAmong}
-use Rattle.sat_solver.specs.analyze_conflict.Involved.{KeepsPrefix}
-use Rattle.sat_solver.specs.analyze_conflict.Minimal.{IsUse, use_top, use_low, IsMarked, marked_unit, marked_first, marked_flag, marked_reason, MinimizationInvariant, MarksMore, used_up, SameWork, Minimal}
+use Rattle.sat_solver.specs.analyze_conflict.Seen.{AppendsUsedLits}
+use Rattle.sat_solver.specs.analyze_conflict.Minimization.{IsUsedLit, use_top, use_low, IsExplainedByMarks, marked_unit, marked_first, marked_flag, marked_reason, MinimizationInvariant, AddsMarks, with_used, SameAnalysis, ClauseMinimizationInvariant}
 use Rattle.sat_solver.proofs.lemmas.analyze_conflict.Dropping.{dropped}
 
 -- works with the same fields are equal
-pub same_work : (w w' : AnalysisState) → SameWork w w' → w' ≡ w
+pub same_work : (w w' : AnalysisState) → SameAnalysis w w' → w' ≡ w
 same_work w w' s =
     ap (λ (xs : List ℕ). analysis_state xs w'.used w'.seen w'.antecedents w'.core w'.flags w'.pending) s.clause
     ∙ ap (λ (xs : List ℕ). analysis_state w.clause xs w'.seen w'.antecedents w'.core w'.flags w'.pending) s.used
@@ -24,17 +24,17 @@ same_work w w' s =
     ∙ ap (λ (xs : List Bool). analysis_state w.clause w.used w.seen w.antecedents w.core xs w'.pending) s.flags
     ∙ ap (λ (n : ℕ). analysis_state w.clause w.used w.seen w.antecedents w.core w.flags n) s.pending
 
-pub same_itself : (w : AnalysisState) → SameWork w w
+pub same_itself : (w : AnalysisState) → SameAnalysis w w
 same_itself w = record { clause = refl; seen = refl; antecedents = refl; core = refl; pending = refl; used = refl; flags = refl }
 
 -- how a literal is explained does not depend on the clause of the work
-marked_over : (s : PropagationState) (first r : ℕ) (xs : List ℕ) (w : AnalysisState) → IsMarked s first w r → IsMarked s first (record w { clause = xs }) r
+marked_over : (s : PropagationState) (first r : ℕ) (xs : List ℕ) (w : AnalysisState) → IsExplainedByMarks s first w r → IsExplainedByMarks s first (record w { clause = xs }) r
 marked_over s first r xs w (marked_unit z) = marked_unit z
 marked_over s first r xs w (marked_first e) = marked_first e
 marked_over s first r xs w (marked_flag f) = marked_flag f
 marked_over s first r xs w (marked_reason c) = marked_reason c
 
-minimal_over : (words : List ℕ) (s : PropagationState) (conflict : List ℕ) (first low : ℕ) (rest xs : List ℕ) (w : AnalysisState) → Minimal words s conflict first low rest w → Minimal words s conflict first low rest (record w { clause = xs })
+minimal_over : (words : List ℕ) (s : PropagationState) (conflict : List ℕ) (first low : ℕ) (rest xs : List ℕ) (w : AnalysisState) → ClauseMinimizationInvariant words s conflict first low rest w → ClauseMinimizationInvariant words s conflict first low rest (record w { clause = xs })
 minimal_over words s conflict first low rest xs w h = record {
   searching = record {
     size = h.searching.size;
@@ -57,7 +57,7 @@ minimal_over words s conflict first low rest xs w h = record {
 -- the loop before it visits position `at`: the first `kept` literals were kept, and those from `at` on are still to be
 -- visited
 pub record HasAccepted (words : List ℕ) (s : PropagationState) (conflict : List ℕ) (first low kept at : ℕ) (clause : List ℕ) (w : AnalysisState) : Type 0 where
-  pub minimal : Minimal words s conflict first low (take kept clause ++ drop at clause) w
+  pub minimal : ClauseMinimizationInvariant words s conflict first low (take kept clause ++ drop at clause) w
   pub some : 1 ≤ kept
   pub following : kept ≤ at
   pub within : at < length clause
@@ -67,8 +67,8 @@ pub split_rest : (kept at : ℕ) (clause : List ℕ) → at < length clause → 
 split_rest kept at clause lt = ap (λ (ys : List ℕ). take kept clause ++ ys) (drop_more clause at 0 lt)
 
 pub split : (words : List ℕ) (s : PropagationState) (conflict : List ℕ) (first low kept at : ℕ) (clause : List ℕ) (w : AnalysisState) → HasAccepted words s conflict first low kept at clause w →
-    Minimal words s conflict first low (take kept clause ++ get_or clause at 0 ∷ drop (at + 1) clause) w
-split words s conflict first low kept at clause w h = subst (λ (xs : List ℕ). Minimal words s conflict first low xs w) (split_rest kept at clause h.within) h.minimal
+    ClauseMinimizationInvariant words s conflict first low (take kept clause ++ get_or clause at 0 ∷ drop (at + 1) clause) w
+split words s conflict first low kept at clause w h = subst (λ (xs : List ℕ). ClauseMinimizationInvariant words s conflict first low xs w) (split_rest kept at clause h.within) h.minimal
 
 pub in_rest : (kept at : ℕ) (clause : List ℕ) → kept ≤ at → at < length clause → Contains (take kept clause ++ get_or clause at 0 ∷ drop (at + 1) clause) (get_or clause at 0)
 in_rest kept at clause le lt =
@@ -89,18 +89,18 @@ not_first words s conflict first low kept at clause w h e =
     let same : 0 ≡ kept = (split words s conflict first low kept at clause w h).distinct 0 kept (omega arith) (omega arith) (a ∙ sym e ∙ sym b) in
     omega (arith, h.some)
 
-pub lower_here : (words : List ℕ) (s : PropagationState) (conflict : List ℕ) (first low kept at : ℕ) (clause : List ℕ) (w : AnalysisState) → HasAccepted words s conflict first low kept at clause w → IsLower s (current_level s) w.flags (get_or clause at 0)
+pub lower_here : (words : List ℕ) (s : PropagationState) (conflict : List ℕ) (first low kept at : ℕ) (clause : List ℕ) (w : AnalysisState) → HasAccepted words s conflict first low kept at clause w → IsLowerFlagged s (current_level s) w.flags (get_or clause at 0)
 lower_here words s conflict first low kept at clause w h =
     elim ((split words s conflict first low kept at clause w h).lower (get_or clause at 0) (in_rest kept at clause h.following h.within)) [
       | inl e ↦ absurd (not_first words s conflict first low kept at clause w h e)
       | inr x ↦ x
     ]
 
--- `KeepsPrefix` is reflexive and transitive
-pub front_refl : (w : AnalysisState) → KeepsPrefix w w
+-- `AppendsUsedLits` is reflexive and transitive
+pub front_refl : (w : AnalysisState) → AppendsUsedLits w w
 front_refl w = record { seen = refl; antecedents = refl; longer = omega arith; front = take_all (length w.used) w.used (omega arith) }
 
-front_trans : (a b c : AnalysisState) → KeepsPrefix a b → KeepsPrefix b c → KeepsPrefix a c
+front_trans : (a b c : AnalysisState) → AppendsUsedLits a b → AppendsUsedLits b c → AppendsUsedLits a c
 front_trans a b c x y = record {
   seen = y.seen ∙ x.seen;
   antecedents = y.antecedents ∙ x.antecedents;
@@ -108,7 +108,7 @@ front_trans a b c x y = record {
   front = sym (take-take (length a.used) (length b.used) c.used x.longer) ∙ ap (λ (xs : List ℕ). take (length a.used) xs) y.front ∙ x.front;
 }
 
-front_more : (l : ℕ) (w w' : AnalysisState) → MarksMore (used_up l w) w' → KeepsPrefix w w'
+front_more : (l : ℕ) (w w' : AnalysisState) → AddsMarks (with_used l w) w' → AppendsUsedLits w w'
 front_more l w w' m =
     let n : length (w.used ++ l ∷ []) ≡ length w.used + 1 = length_push w.used l in
     record {
@@ -120,8 +120,8 @@ front_more l w w' m =
 
 -- the invariant of the loop
 pub record Goes (words : List ℕ) (s : PropagationState) (conflict : List ℕ) (first low kept at : ℕ) (size : ℕ) (old w : AnalysisState) : Type 0 where
-  pub front : KeepsPrefix old w
-  pub minimal : Minimal words s conflict first low (take kept w.clause ++ drop at w.clause) w
+  pub front : AppendsUsedLits old w
+  pub minimal : ClauseMinimizationInvariant words s conflict first low (take kept w.clause ++ drop at w.clause) w
   pub some : 1 ≤ kept
   pub following : kept ≤ at
   pub length_is : length w.clause ≡ size
@@ -133,7 +133,7 @@ kept_list kept at c clause le lt =
     ∙ ap (λ (ys : List ℕ). (take kept clause ++ c ∷ []) ++ ys) (drop-set-lt (at + 1) clause kept c (omega arith))
     ∙ append_assoc (take kept clause) (c ∷ []) (drop (at + 1) clause)
 
-pub goes_kept : (words : List ℕ) (s : PropagationState) (conflict : List ℕ) (first low kept at : ℕ) (old w w1 w2 : AnalysisState) → KeepsPrefix old w → HasAccepted words s conflict first low kept at w.clause w → SameWork w w1 →
+pub goes_kept : (words : List ℕ) (s : PropagationState) (conflict : List ℕ) (first low kept at : ℕ) (old w w1 w2 : AnalysisState) → AppendsUsedLits old w → HasAccepted words s conflict first low kept at w.clause w → SameAnalysis w w1 →
     w2 ≡ record w1 { clause = set w1.clause kept (get_or w.clause at 0) } → Goes words s conflict first low (kept + 1) (at + 1) (length w.clause) old w2
 goes_kept words s conflict first low kept at old w w1 w2 f h same e =
     let c : ℕ = get_or w.clause at 0 in
@@ -142,7 +142,7 @@ goes_kept words s conflict first low kept at old w w1 w2 f h same e =
     let other : 0 ≢ kept = λ q. omega (arith, h.some, q) in
     subst (λ (x : AnalysisState). Goes words s conflict first low (kept + 1) (at + 1) (length w.clause) old x) (sym is) (record {
       front = record { seen = f.seen; antecedents = f.antecedents; longer = f.longer; front = f.front };
-      minimal = subst (λ (xs : List ℕ). Minimal words s conflict first low xs new) (sym (kept_list kept at c w.clause h.following h.within))
+      minimal = subst (λ (xs : List ℕ). ClauseMinimizationInvariant words s conflict first low xs new) (sym (kept_list kept at c w.clause h.following h.within))
           (minimal_over words s conflict first low (take kept w.clause ++ c ∷ drop (at + 1) w.clause) (set w.clause kept c) w (split words s conflict first low kept at w.clause w h));
       some = omega arith;
       following = omega (arith, h.following);
@@ -150,13 +150,13 @@ goes_kept words s conflict first low kept at old w w1 w2 f h same e =
       head = get_or-set_other w.clause kept 0 c 0 other ∙ h.head;
     })
 
-pub goes_dropped : (words : List ℕ) (s : PropagationState) (conflict : List ℕ) (first low kept at : ℕ) (old w w' : AnalysisState) → KeepsPrefix old w → HasAccepted words s conflict first low kept at w.clause w →
-    MarksMore (used_up (negated (get_or w.clause at 0)) w) w' → MinimizationInvariant words s conflict first low w' (length w'.used) → Goes words s conflict first low kept (at + 1) (length w.clause) old w'
+pub goes_dropped : (words : List ℕ) (s : PropagationState) (conflict : List ℕ) (first low kept at : ℕ) (old w w' : AnalysisState) → AppendsUsedLits old w → HasAccepted words s conflict first low kept at w.clause w →
+    AddsMarks (with_used (negated (get_or w.clause at 0)) w) w' → MinimizationInvariant words s conflict first low w' (length w'.used) → Goes words s conflict first low kept (at + 1) (length w.clause) old w'
 goes_dropped words s conflict first low kept at old w w' f h m x =
     let c : ℕ = get_or w.clause at 0 in
     record {
       front = front_trans old w w' f (front_more (negated c) w w' m);
-      minimal = subst (λ (xs : List ℕ). Minimal words s conflict first low (take kept xs ++ drop (at + 1) xs) w') (sym m.clause)
+      minimal = subst (λ (xs : List ℕ). ClauseMinimizationInvariant words s conflict first low (take kept xs ++ drop (at + 1) xs) w') (sym m.clause)
           (dropped words s conflict first low c (take kept w.clause) (drop (at + 1) w.clause) w w' (split words s conflict first low kept at w.clause w h) (not_first words s conflict first low kept at w.clause w h) m x);
       some = h.some;
       following = omega (arith, h.following);
@@ -165,7 +165,7 @@ goes_dropped words s conflict first low kept at old w w' f h m x =
     }
 
 -- the minimized clause is asserting
-pub minimal_asserting : (words : List ℕ) (s : PropagationState) (conflict : List ℕ) (first low : ℕ) (rest : List ℕ) (w : AnalysisState) → Minimal words s conflict first low rest w → IsFalseLit s.values first → 0 < length rest → get_or rest 0 0 ≡ first → IsAsserting s rest
+pub minimal_asserting : (words : List ℕ) (s : PropagationState) (conflict : List ℕ) (first low : ℕ) (rest : List ℕ) (w : AnalysisState) → ClauseMinimizationInvariant words s conflict first low rest w → IsFalseLit s.values first → 0 < length rest → get_or rest 0 0 ≡ first → IsAsserting s rest
 minimal_asserting words s conflict first low rest w h ff some e = record {
   some = some;
   fails = λ k lt. elim (h.lower (get_or rest k 0) (place_in rest k lt)) [
@@ -180,20 +180,20 @@ minimal_asserting words s conflict first low rest w h ff some e = record {
   distinct = h.distinct;
 }
 
-pub minimal_among : (words : List ℕ) (s : PropagationState) (conflict : List ℕ) (first low : ℕ) (rest : List ℕ) (w w' : AnalysisState) → Minimal words s conflict first low rest w → w'.clause ≡ rest → w'.used ≡ w.used → w'.flags ≡ w.flags → FlagsAmong w'
+pub minimal_among : (words : List ℕ) (s : PropagationState) (conflict : List ℕ) (first low : ℕ) (rest : List ℕ) (w w' : AnalysisState) → ClauseMinimizationInvariant words s conflict first low rest w → w'.clause ≡ rest → w'.used ≡ w.used → w'.flags ≡ w.flags → FlagsAmong w'
 minimal_among words s conflict first low rest w w' h c u f v e = elim (h.only v (ap (λ (fs : List Bool). get_or fs v false) (sym f) ∙ e)) [
   | inl x ↦ inl (subst (λ (xs : List ℕ). HasVariable xs v) (sym c) x)
   | inr x ↦ inr (subst (λ (xs : List ℕ). HasVariable xs v) (sym u) (x.place, (x.within, x.there)))
 ]
 
-pub minimal_cut : (words : List ℕ) (s : PropagationState) (conflict : List ℕ) (first low kept at : ℕ) (clause : List ℕ) (w : AnalysisState) → length clause ≤ at → Minimal words s conflict first low (take kept clause ++ drop at clause) w → Minimal words s conflict first low (take kept clause) w
+pub minimal_cut : (words : List ℕ) (s : PropagationState) (conflict : List ℕ) (first low kept at : ℕ) (clause : List ℕ) (w : AnalysisState) → length clause ≤ at → ClauseMinimizationInvariant words s conflict first low (take kept clause ++ drop at clause) w → ClauseMinimizationInvariant words s conflict first low (take kept clause) w
 minimal_cut words s conflict first low kept at clause w le m =
-    subst (λ (xs : List ℕ). Minimal words s conflict first low xs w) (ap (λ (ys : List ℕ). take kept clause ++ ys) (drop_all at clause le) ∙ append-nil (take kept clause)) m
+    subst (λ (xs : List ℕ). ClauseMinimizationInvariant words s conflict first low xs w) (ap (λ (ys : List ℕ). take kept clause ++ ys) (drop_all at clause le) ∙ append-nil (take kept clause)) m
 
 -- literals that were used after resolution are of lower levels
-pub lower_rest : (words : List ℕ) (s : PropagationState) (conflict : List ℕ) (first low : ℕ) (rest : List ℕ) (w : AnalysisState) → Minimal words s conflict first low rest w → (k : ℕ) → low ≤ k → k < length w.used → level s (get_or w.used k 0) < current_level s
+pub lower_rest : (words : List ℕ) (s : PropagationState) (conflict : List ℕ) (first low : ℕ) (rest : List ℕ) (w : AnalysisState) → ClauseMinimizationInvariant words s conflict first low rest w → (k : ℕ) → low ≤ k → k < length w.used → level s (get_or w.used k 0) < current_level s
 lower_rest words s conflict first low rest w m k le lt = low_use s low w.flags k (get_or w.used k 0) (m.searching.uses k lt) le
   where
-    low_use : (s : PropagationState) (low : ℕ) (flags : List Bool) (k l : ℕ) → IsUse s low flags k l → low ≤ k → level s l < current_level s
+    low_use : (s : PropagationState) (low : ℕ) (flags : List Bool) (k l : ℕ) → IsUsedLit s low flags k l → low ≤ k → level s l < current_level s
     low_use s low flags k l (use_top b t) le = absurd (omega arith)
     low_use s low flags k l (use_low b t g) le = t

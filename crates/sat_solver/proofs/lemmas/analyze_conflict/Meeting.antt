@@ -6,12 +6,12 @@ use Rattle.std.proofs.lemmas.List.Elements.{Contains-append_left}
 use Rattle.sat_base.specs.values.Literals.{variable, negated, is_positive}
 use Rattle.sat_parts.specs.prop.Values.{IsTrueLit, IsFalseLit, value_of}
 use Rattle.sat_parts.specs.prop.Graphs.{node_of}
-use Rattle.sat_parts.specs.prop.State.{PropagationState, level, lit_at, IsBefore, StateIsConsistent}
+use Rattle.sat_parts.specs.prop.State.{PropagationState, level, lit_at, IsOnTrailBefore, StateIsConsistent}
 use Rattle.sat_parts.specs.prop.Reasons.{IsFalseBefore}
 use Rattle.sat_parts.proofs.lemmas.prop.StateLemmas.{negated_variable, negated_twice, false_from_true, true_from_false, lit_from_parts}
 use Rattle.sat_parts.proofs.lemmas.prop.RoomLemmas.{places_apart, below_from_value}
 use Rattle.sat_solver.specs.analyze_conflict.AnalysisState.{AnalysisState, with_seen_literal, with_seen_literals}
-use Rattle.sat_solver.specs.analyze_conflict.Marks.{is_open_flagged, open_below, HasVariable, IsOpenAt, IsLower, AreFlagsAt, MarksWork, IsCovered, covered_unit, covered_clause, covered_reason, covered_core, covered_open, AreCovered}
+use Rattle.sat_solver.specs.analyze_conflict.Marks.{is_open_flagged, open_below, HasVariable, IsOpenAt, IsLowerFlagged, AreFlagsAt, AreFlagsOf, IsExplained, covered_unit, covered_clause, covered_reason, covered_core, covered_open, AreExplained}
 use Rattle.sat_solver.proofs.lemmas.analyze_conflict.InTurn.{negation_true}
 
 pub level_by_variable : (s : PropagationState) (l m : ℕ) → variable l ≡ variable m → level s l ≡ level s m
@@ -174,7 +174,7 @@ meets s top r w =
     ]
 
 -- if a literal above level 0 was false before a position, its negation is before that position
-pub stands_before : (s : PropagationState) (at r : ℕ) → IsFalseBefore s at r → 0 < level s r → IsBefore s at (negated r)
+pub stands_before : (s : PropagationState) (at r : ℕ) → IsFalseBefore s at r → 0 < level s r → IsOnTrailBefore s at (negated r)
 stands_before s at r h above = elim h [
   | inl b ↦ b
   | inr x ↦ absurd (omega (arith, x.bottom, level_by_variable s (negated r) r (negated_variable r)))
@@ -201,13 +201,13 @@ flag_kept flags v u lt e = elim (cases_eq u v) [
   | inr n ↦ get_or-set_other flags v u true false n ∙ e
 ]
 
-lower_kept : (s : PropagationState) (top : ℕ) (flags : List Bool) (v r : ℕ) → v < length flags → IsLower s top flags r → IsLower s top (set flags v true) r
+lower_kept : (s : PropagationState) (top : ℕ) (flags : List Bool) (v r : ℕ) → v < length flags → IsLowerFlagged s top flags r → IsLowerFlagged s top (set flags v true) r
 lower_kept s top flags v r lt h = record { fails = h.fails; above = h.above; below = h.below; flagged = flag_kept flags v (variable r) lt h.flagged }
 
-marks_high : (s : PropagationState) (top : ℕ) (w : AnalysisState) (at r : ℕ) → StateIsConsistent s → IsFalseBefore s at r → 0 < level s r → get_or w.flags (variable r) false ≡ false → top ≤ level s r → MarksWork s top w at →
+marks_high : (s : PropagationState) (top : ℕ) (w : AnalysisState) (at r : ℕ) → StateIsConsistent s → IsFalseBefore s at r → 0 < level s r → get_or w.flags (variable r) false ≡ false → top ≤ level s r → AreFlagsOf s top w at →
     AreFlagsAt s top w.clause (set w.flags (variable r) true) (min (w.pending + 1) (2 ^ 64 - 1)) at
 marks_high s top w at r a h above f t m =
-    let b : IsBefore s at (negated r) = stands_before s at r h above in
+    let b : IsOnTrailBefore s at (negated r) = stands_before s at r h above in
     let lt : variable r < length w.flags = omega (arith, variable_below s at r a h, m.size) in
     let v_is : variable (lit_at s b.place) ≡ variable r = ap (λ z. variable z) b.there ∙ negated_variable r in
     let high : top ≤ level s (lit_at s b.place) = omega (arith, level_by_variable s (lit_at s b.place) r v_is) in
@@ -227,7 +227,7 @@ marks_high s top w at r a h above f t m =
           omega (arith, m.counted, open_at_most s top (set w.flags (variable r) true) at, m.within, a.trail.fits, a.trail.small);
     }
 
-marks_lower : (s : PropagationState) (top : ℕ) (w : AnalysisState) (at r : ℕ) → StateIsConsistent s → IsFalseBefore s at r → 0 < level s r → get_or w.flags (variable r) false ≡ false → level s r < top → MarksWork s top w at →
+marks_lower : (s : PropagationState) (top : ℕ) (w : AnalysisState) (at r : ℕ) → StateIsConsistent s → IsFalseBefore s at r → 0 < level s r → get_or w.flags (variable r) false ≡ false → level s r < top → AreFlagsOf s top w at →
     AreFlagsAt s top (w.clause ++ r ∷ []) (set w.flags (variable r) true) w.pending at
 marks_lower s top w at r a h above f t m =
     let n : length (w.clause ++ r ∷ []) ≡ length w.clause + 1 = length_push w.clause r in
@@ -243,11 +243,11 @@ marks_lower s top w at r a h above f t m =
             (λ u x. (x.0, (omega (arith, x.1.0), ap (λ z. variable z) (get_or_append_left w.clause (r ∷ []) 0 x.0 x.1.0) ∙ x.1.1))) (m.flagged v g)
       ];
       lower = λ k l. elim (cases_eq k (length w.clause)) [
-        | inl e ↦ subst (λ z. IsLower s top (set w.flags (variable r) true) z) (sym (get_or_push w.clause r 0 k (sym e)))
+        | inl e ↦ subst (λ z. IsLowerFlagged s top (set w.flags (variable r) true) z) (sym (get_or_push w.clause r 0 k (sym e)))
             (record { fails = fails; above = above; below = t; flagged = get_or-set_same w.flags (variable r) true false lt })
         | inr d ↦
             let q : k < length w.clause = omega arith in
-            subst (λ z. IsLower s top (set w.flags (variable r) true) z) (sym (get_or_append_left w.clause (r ∷ []) 0 k q))
+            subst (λ z. IsLowerFlagged s top (set w.flags (variable r) true) z) (sym (get_or_append_left w.clause (r ∷ []) 0 k q))
             (lower_kept s top w.flags (variable r) (get_or w.clause k 0) lt (m.lower k q))
       ];
       distinct = λ j k p q e. elim (cases_eq j (length w.clause)) [
@@ -274,15 +274,15 @@ marks_lower s top w at r a h above f t m =
 
 -- what meeting these literals preserves, and what it adds
 pub record Met (s : PropagationState) (top at : ℕ) (rs : List ℕ) (w w' : AnalysisState) : Type 0 where
-  pub marks : MarksWork s top w' at
+  pub marks : AreFlagsOf s top w' at
   pub used : w'.used ≡ w.used
   pub core : w'.core ≡ w.core
   pub antecedents : w'.antecedents ≡ w.antecedents
   pub pending : w.pending ≤ w'.pending
-  pub kept : (q : ℕ) → IsCovered s top w at q → IsCovered s top w' at q
-  pub covered : AreCovered s top w' at rs
+  pub kept : (q : ℕ) → IsExplained s top w at q → IsExplained s top w' at q
+  pub covered : AreExplained s top w' at rs
 
-covered_flagged : (s : PropagationState) (top : ℕ) (w : AnalysisState) (at r : ℕ) → StateIsConsistent s → IsFalseBefore s at r → MarksWork s top w at → get_or w.flags (variable r) false ≡ true → IsCovered s top w at r
+covered_flagged : (s : PropagationState) (top : ℕ) (w : AnalysisState) (at r : ℕ) → StateIsConsistent s → IsFalseBefore s at r → AreFlagsOf s top w at → get_or w.flags (variable r) false ≡ true → IsExplained s top w at r
 covered_flagged s top w at r a h m f = elim (m.flagged (variable r) f) [
   | inl x ↦ covered_clause (x.0, x.1.0, at_any w.clause x.0 r x.1.0 (same_false s (get_or w.clause x.0 0) r (m.lower x.0 x.1.0).fails (false_before s at r a h) x.1.1))
   | inr x ↦
@@ -298,33 +298,33 @@ covered_flagged s top w at r a h m f = elim (m.flagged (variable r) f) [
     at_any : (xs : List ℕ) (k x : ℕ) → k < length xs → get_or xs k 0 ≡ x → get_or xs k x ≡ x
     at_any xs k x lt e = get_or_default xs k x 0 lt ∙ e
 
-one_covered : (s : PropagationState) (top : ℕ) (w : AnalysisState) (at r : ℕ) → IsCovered s top w at r → AreCovered s top w at (r ∷ [])
+one_covered : (s : PropagationState) (top : ℕ) (w : AnalysisState) (at r : ℕ) → IsExplained s top w at r → AreExplained s top w at (r ∷ [])
 one_covered s top w at r h zero lt = h
 one_covered s top w at r h (suc k) lt = absurd (omega arith)
 
-kept_high : (s : PropagationState) (top : ℕ) (w : AnalysisState) (at r q : ℕ) → variable r < length w.flags → IsCovered s top w at q → IsCovered s top (counted r w) at q
+kept_high : (s : PropagationState) (top : ℕ) (w : AnalysisState) (at r q : ℕ) → variable r < length w.flags → IsExplained s top w at q → IsExplained s top (counted r w) at q
 kept_high s top w at r q lt (covered_unit z) = covered_unit z
 kept_high s top w at r q lt (covered_clause c) = covered_clause c
 kept_high s top w at r q lt (covered_reason c) = covered_reason c
 kept_high s top w at r q lt (covered_core c) = covered_core c
 kept_high s top w at r q lt (covered_open x) = covered_open (record { flagged = flag_kept w.flags (variable r) (variable q) lt x.flagged; high = x.high; before = x.before })
 
-kept_lower : (s : PropagationState) (top : ℕ) (w : AnalysisState) (at r q : ℕ) → variable r < length w.flags → IsCovered s top w at q → IsCovered s top (listed r w) at q
+kept_lower : (s : PropagationState) (top : ℕ) (w : AnalysisState) (at r q : ℕ) → variable r < length w.flags → IsExplained s top w at q → IsExplained s top (listed r w) at q
 kept_lower s top w at r q lt (covered_unit z) = covered_unit z
 kept_lower s top w at r q lt (covered_clause c) = covered_clause (Contains-append_left w.clause (r ∷ []) q c)
 kept_lower s top w at r q lt (covered_reason c) = covered_reason c
 kept_lower s top w at r q lt (covered_core c) = covered_core c
 kept_lower s top w at r q lt (covered_open x) = covered_open (record { flagged = flag_kept w.flags (variable r) (variable q) lt x.flagged; high = x.high; before = x.before })
 
-met_same : (s : PropagationState) (top at r : ℕ) (w : AnalysisState) → MarksWork s top w at → IsCovered s top w at r → Met s top at (r ∷ []) w w
+met_same : (s : PropagationState) (top at r : ℕ) (w : AnalysisState) → AreFlagsOf s top w at → IsExplained s top w at r → Met s top at (r ∷ []) w w
 met_same s top at r w m c = record { marks = m; used = refl; core = refl; antecedents = refl; pending = omega arith; kept = λ q x. x; covered = one_covered s top w at r c }
 
-met_by : (s : PropagationState) (top at r : ℕ) (w w' : AnalysisState) → StateIsConsistent s → IsFalseBefore s at r → MarksWork s top w at → Meets s top r w w' → Met s top at (r ∷ []) w w'
+met_by : (s : PropagationState) (top at r : ℕ) (w w' : AnalysisState) → StateIsConsistent s → IsFalseBefore s at r → AreFlagsOf s top w at → Meets s top r w w' → Met s top at (r ∷ []) w w'
 met_by s top at r w w' a h m (at_bottom z e) = subst (λ x. Met s top at (r ∷ []) w x) (sym e) (met_same s top at r w m (covered_unit z))
 met_by s top at r w w' a h m (is_flagged f e) = subst (λ x. Met s top at (r ∷ []) w x) (sym e) (met_same s top at r w m (covered_flagged s top w at r a h m f))
 met_by s top at r w w' a h m (is_high above f t e) =
     let lt : variable r < length w.flags = omega (arith, variable_below s at r a h, m.size) in
-    let marks : MarksWork s top (counted r w) at = marks_high s top w at r a h above f t m in
+    let marks : AreFlagsOf s top (counted r w) at = marks_high s top w at r a h above f t m in
     subst (λ x. Met s top at (r ∷ []) w x) (sym e) (record {
       marks = marks;
       used = refl;
@@ -336,7 +336,7 @@ met_by s top at r w w' a h m (is_high above f t e) =
     })
 met_by s top at r w w' a h m (is_lower above f t e) =
     let lt : variable r < length w.flags = omega (arith, variable_below s at r a h, m.size) in
-    let marks : MarksWork s top (listed r w) at = marks_lower s top w at r a h above f t m in
+    let marks : AreFlagsOf s top (listed r w) at = marks_lower s top w at r a h above f t m in
     subst (λ x. Met s top at (r ∷ []) w x) (sym e) (record {
       marks = marks;
       used = refl;
@@ -347,12 +347,12 @@ met_by s top at r w w' a h m (is_lower above f t e) =
       covered = one_covered s top (listed r w) at r (covered_flagged s top (listed r w) at r a h marks (get_or-set_same w.flags (variable r) true false lt));
     })
 
-covered_cons : (s : PropagationState) (top : ℕ) (w : AnalysisState) (at r : ℕ) (rs : List ℕ) → IsCovered s top w at r → AreCovered s top w at rs → AreCovered s top w at (r ∷ rs)
+covered_cons : (s : PropagationState) (top : ℕ) (w : AnalysisState) (at r : ℕ) (rs : List ℕ) → IsExplained s top w at r → AreExplained s top w at rs → AreExplained s top w at (r ∷ rs)
 covered_cons s top w at r rs h t zero lt = h
 covered_cons s top w at r rs h t (suc k) lt = t k (omega arith)
 
 -- all these literals were met, one after another
-pub met_all : (s : PropagationState) (top at : ℕ) (rs : List ℕ) (w : AnalysisState) → StateIsConsistent s → ((k : ℕ) → k < length rs → IsFalseBefore s at (get_or rs k 0)) → MarksWork s top w at →
+pub met_all : (s : PropagationState) (top at : ℕ) (rs : List ℕ) (w : AnalysisState) → StateIsConsistent s → ((k : ℕ) → k < length rs → IsFalseBefore s at (get_or rs k 0)) → AreFlagsOf s top w at →
     Met s top at rs w (with_seen_literals s.nodes top rs w)
 met_all s top at [] w a h m = record { marks = m; used = refl; core = refl; antecedents = refl; pending = omega arith; kept = λ q x. x; covered = λ k lt. absurd (omega arith) }
 met_all s top at (r ∷ rs) w a h m =

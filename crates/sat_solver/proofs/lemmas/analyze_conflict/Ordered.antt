@@ -11,7 +11,7 @@ use Rattle.sat_parts.proofs.lemmas.clause.ListLemmas.{place_in}
 use Rattle.sat_parts.proofs.lemmas.clause.OrderLemmas.{shuffled_swapped}
 use Rattle.sat_solver.specs.analyze_conflict.Marks.{IsReasoned, depth}
 use Rattle.sat_solver.specs.analyze_conflict.Derivation.{IsUnorderedDerivation, IsDerivation}
-use Rattle.sat_solver.specs.analyze_conflict.Minimal.{depth_in}
+use Rattle.sat_solver.specs.analyze_conflict.Minimization.{depth_in}
 use Rattle.sat_solver.proofs.lemmas.analyze_conflict.Ends.{grounds_permuted}
 
 swap_distinct : (xs : List ℕ) (i j : ℕ) → i < length xs → j < length xs → AreDistinct xs → AreDistinct (swap xs i j)

@@ -17,7 +17,7 @@ use Rattle.sat_parts.proofs.lemmas.prop.StateLemmas.{negated_twice, false_from_t
 use Rattle.sat_solver.specs.analyze_conflict.AnalysisState.{AnalysisState}
 use Rattle.sat_solver.specs.analyze_conflict.Marks.{causes_at, CanAnalyze, IsReasoned, depth}
 use Rattle.sat_solver.specs.analyze_conflict.Derivation.{clause_of, AreLevelZeroLits, IsDerivation}
-use Rattle.sat_solver.specs.assumptions.Failing.{IsChosen, IsDistinctCore, IsRefutation, TraceResult}
+use Rattle.sat_solver.specs.assumptions.FailedAssumptions.{IsDecisionAt, IsDistinctCore, IsRefutation, TraceResult}
 use Rattle.sat_solver.proofs.lemmas.analyze_conflict.InTurn.{Given, turns, above_first, causes_before, given_one, negation_of, negated_among, not_assumed}
 use Rattle.sat_solver.proofs.lemmas.analyze_conflict.Ends.{grounds_permuted}
 use Rattle.sat_solver.proofs.lemmas.analyze_conflict.Ordered.{distinct_permuted}
@@ -83,7 +83,7 @@ not_denied words s failed core used units last k can u h lt holds =
                 let same : get_or used k 0 ≡ get_or used last 0 = sym (negated_twice e) ∙ ap (λ z. negated z) (sym is) ∙ sym h.end in
                 omega (arith, h.derivation.grounds.distinct k last (omega (arith, h.size)) (omega (arith, h.size)) same)
             | inr d ↦
-                let x : IsChosen s 0 (get_or core c.0 0) = h.lits.lits.chosen c.0 (omega arith) c.1 in
+                let x : IsDecisionAt s 0 (get_or core c.0 0) = h.lits.lits.chosen c.0 (omega arith) c.1 in
                 other (subst (λ z. IsTrueLit s.values z) (x.there ∙ at_place core (negated e) c) (can.agrees.holds x.place x.within))
           ]
       | inr k ↦ other (u.only (negated e) k).0

@@ -11,7 +11,7 @@ use Rattle.sat_parts.specs.prop.State.{PropagationState, node, level, current_le
 use Rattle.sat_parts.proofs.lemmas.prop.StateLemmas.{negated_variable, level_low}
 use Rattle.sat_parts.proofs.lemmas.prop.RoomLemmas.{places_apart}
 use Rattle.sat_solver.specs.analyze_conflict.AnalysisState.{AnalysisState, with_seen_literals, unflagged, with_reason_used}
-use Rattle.sat_solver.specs.analyze_conflict.Marks.{causes_at, CanAnalyze, open_below, IsLower, MarksWork, IsWaiting, IsCovered, covered_unit, covered_clause, covered_reason, covered_core, covered_open, AreCovered, IsReasoned, depth, AreUsed, ResolutionInvariant}
+use Rattle.sat_solver.specs.analyze_conflict.Marks.{causes_at, CanAnalyze, open_below, IsLowerFlagged, AreFlagsOf, IsToBeResolved, IsExplained, covered_unit, covered_clause, covered_reason, covered_core, covered_open, AreExplained, IsReasoned, depth, AreUsed, ResolutionInvariant}
 use Rattle.sat_solver.proofs.lemmas.analyze_conflict.InTurn.{above_first}
 use Rattle.sat_solver.proofs.lemmas.analyze_conflict.Meeting.{level_by_variable, levels_rise, OpenPlace, open_same, open_last, open_some, open_kept, Met, met_all}
 
@@ -42,8 +42,8 @@ unset_cases flags v u lt e = elim (cases_eq u v) [
 ]
 
 -- the flags are as required once the last flagged literal was passed
-pub marks_passed : (s : PropagationState) (top : ℕ) (w : AnalysisState) (p at : ℕ) → StateIsConsistent s → MarksWork s top w at → IsLastFlagged s w.flags p at → top ≤ level s (lit_at s p) → variable (lit_at s p) < length w.flags →
-    MarksWork s top (unflagged (lit_at s p) w) p
+pub marks_passed : (s : PropagationState) (top : ℕ) (w : AnalysisState) (p at : ℕ) → StateIsConsistent s → AreFlagsOf s top w at → IsLastFlagged s w.flags p at → top ≤ level s (lit_at s p) → variable (lit_at s p) < length w.flags →
+    AreFlagsOf s top (unflagged (lit_at s p) w) p
 marks_passed s top w p at a m h high b =
     let v : ℕ = variable (lit_at s p) in
     let in_trail : p < length s.trail.lits = omega (arith, h.before, m.within) in
@@ -68,7 +68,7 @@ marks_passed s top w p at a m h high b =
             })
           ];
       lower = λ k l.
-          let x : IsLower s top w.flags (get_or w.clause k 0) = m.lower k l in
+          let x : IsLowerFlagged s top w.flags (get_or w.clause k 0) = m.lower k l in
           let n : variable (get_or w.clause k 0) ≢ v = λ e. omega (arith, x.below, level_by_variable s (get_or w.clause k 0) (lit_at s p) e) in
           record { fails = x.fails; above = x.above; below = x.below; flagged = get_or-set_other w.flags v (variable (get_or w.clause k 0)) false false n ∙ x.flagged };
       distinct = m.distinct;
@@ -80,8 +80,8 @@ marks_passed s top w p at a m h high b =
     }
 
 -- after a literal was passed, a literal that was to be resolved still is, unless it is the negation of the passed one
-pub passed_waiting : (s : PropagationState) (top : ℕ) (w : AnalysisState) (p at r : ℕ) → StateIsConsistent s → at ≤ length s.trail.lits → IsLastFlagged s w.flags p at → IsWaiting s top w.flags at r →
-    IsWaiting s top (set w.flags (variable (lit_at s p)) false) p r ⊎ (lit_at s p ≡ negated r)
+pub passed_waiting : (s : PropagationState) (top : ℕ) (w : AnalysisState) (p at r : ℕ) → StateIsConsistent s → at ≤ length s.trail.lits → IsLastFlagged s w.flags p at → IsToBeResolved s top w.flags at r →
+    IsToBeResolved s top (set w.flags (variable (lit_at s p)) false) p r ⊎ (lit_at s p ≡ negated r)
 passed_waiting s top w p at r a le h x =
     let v_is : variable (lit_at s x.before.place) ≡ variable r = ap (λ z. variable z) x.before.there ∙ negated_variable r in
     elim (cases_lt x.before.place p) [
@@ -99,7 +99,7 @@ passed_waiting s top w p at r a le h x =
     ]
 
 -- explained literals stay explained when a literal is used
-pub taken_covered : (s : PropagationState) (top : ℕ) (w : AnalysisState) (n : Reason) (p at r : ℕ) → StateIsConsistent s → at ≤ length s.trail.lits → IsLastFlagged s w.flags p at → IsCovered s top w at r → IsCovered s top (with_reason_used n (lit_at s p) w) p r
+pub taken_covered : (s : PropagationState) (top : ℕ) (w : AnalysisState) (n : Reason) (p at r : ℕ) → StateIsConsistent s → at ≤ length s.trail.lits → IsLastFlagged s w.flags p at → IsExplained s top w at r → IsExplained s top (with_reason_used n (lit_at s p) w) p r
 taken_covered s top w n p at r a le h (covered_unit z) = covered_unit z
 taken_covered s top w n p at r a le h (covered_clause c) = covered_clause c
 taken_covered s top w n p at r a le h (covered_reason c) = covered_reason (Contains-append_left w.used (lit_at s p ∷ []) (negated r) c)
@@ -119,7 +119,7 @@ not_decided words s q p can lt within top =
 -- resolution of one literal preserves the invariant of used literals
 pub uses_next : (words : List ℕ) (s : PropagationState) (top : ℕ) (w w1 w2 : AnalysisState) (p at : ℕ) → CanAnalyze words s → AreUsed words s top w at → p < at → p < length s.trail.lits →
     w1.used ≡ w.used ++ lit_at s p ∷ [] → Met s top p (causes_at words s (lit_at s p)) w1 w2 →
-    ((r : ℕ) → IsCovered s top w at r → IsCovered s top w1 p r) →
+    ((r : ℕ) → IsExplained s top w at r → IsExplained s top w1 p r) →
     0 < top → top ≤ level s (lit_at s p) → has_no_clause (node s (lit_at s p)).reason ≡ false → AreUsed words s top w2 p
 uses_next words s top w w1 w2 p at can u before within used_is m forth some high caused =
     let l : ℕ = lit_at s p in
@@ -157,10 +157,10 @@ uses_next words s top w w1 w2 p at can u before within used_is m forth some high
             omega (arith, u.falling j k a b, ap (λ z. depth s z) (old j (omega arith)), ap (λ z. depth s z) (old k b))
       ];
       causes = λ k lt. elim (cases_eq k (length w.used)) [
-        | inl e ↦ subst (λ z. AreCovered s top w2 p (causes_at words s z)) (sym (ap (λ z. get_or w2.used z 0) e ∙ new)) m.covered
+        | inl e ↦ subst (λ z. AreExplained s top w2 p (causes_at words s z)) (sym (ap (λ z. get_or w2.used z 0) e ∙ new)) m.covered
         | inr d ↦
             let b : k < length w.used = omega arith in
-            subst (λ z. AreCovered s top w2 p (causes_at words s z)) (sym (old k b))
+            subst (λ z. AreExplained s top w2 p (causes_at words s z)) (sym (old k b))
             (λ i c. m.kept (get_or (causes_at words s (get_or w.used k 0)) i 0) (forth (get_or (causes_at words s (get_or w.used k 0)) i 0) (u.causes k b i c)))
       ];
     }
@@ -171,15 +171,15 @@ pub record Taken (words : List ℕ) (s : PropagationState) (w : AnalysisState) (
   pub top : level s (lit_at s p) ≡ current_level s
   pub caused : has_no_clause (node s (lit_at s p)).reason ≡ false
   pub first : get_or s.trail.starts 0 0 ≤ p
-  pub marks : MarksWork s (current_level s) (with_reason_used (node s (lit_at s p)).reason (lit_at s p) w) p
+  pub marks : AreFlagsOf s (current_level s) (with_reason_used (node s (lit_at s p)).reason (lit_at s p) w) p
   pub other : OpenPlace s (current_level s) (set w.flags (variable (lit_at s p)) false) p
 
-pub taken : (words : List ℕ) (s : PropagationState) (w : AnalysisState) (p at : ℕ) → CanAnalyze words s → MarksWork s (current_level s) w at → 1 < w.pending → IsLastFlagged s w.flags p at → variable (lit_at s p) < length w.flags → Taken words s w p at
+pub taken : (words : List ℕ) (s : PropagationState) (w : AnalysisState) (p at : ℕ) → CanAnalyze words s → AreFlagsOf s (current_level s) w at → 1 < w.pending → IsLastFlagged s w.flags p at → variable (lit_at s p) < length w.flags → Taken words s w p at
 taken words s w p at can m two h b =
     let t : ℕ = current_level s in
     let within : p < length s.trail.lits = omega (arith, h.before, m.within) in
     let high : current_level s ≤ level s (lit_at s p) = last_high s t w.flags p at can.agrees m.within h (open_some s t w.flags at (omega (arith, m.counted))) in
-    let marks : MarksWork s t (unflagged (lit_at s p) w) p = marks_passed s t w p at can.agrees m h high b in
+    let marks : AreFlagsOf s t (unflagged (lit_at s p) w) p = marks_passed s t w p at can.agrees m h high b in
     let other : OpenPlace s t (set w.flags (variable (lit_at s p)) false) p = open_some s t (set w.flags (variable (lit_at s p)) false) p (omega (arith, marks.counted)) in
     record {
       within = within;
@@ -200,7 +200,7 @@ resolved words s start w p at can r two h b =
     let rs : List ℕ = causes_at words s l in
     let m : Met s (current_level s) p rs w1 (with_seen_literals s.nodes (current_level s) rs w1) =
     met_all s (current_level s) p rs w1 can.agrees (λ k lt. can.before p k t.first t.within lt) t.marks in
-    let forth : (q : ℕ) → IsCovered s (current_level s) w at q → IsCovered s (current_level s) w1 p q = λ q c. taken_covered s (current_level s) w (node s l).reason p at q can.agrees r.marks.within h c in
+    let forth : (q : ℕ) → IsExplained s (current_level s) w at q → IsExplained s (current_level s) w1 p q = λ q c. taken_covered s (current_level s) w (node s l).reason p at q can.agrees r.marks.within h c in
     record {
       marks = m.marks;
       some = omega (arith, m.pending);

@@ -9,20 +9,20 @@ use Rattle.sat_parts.specs.declared.prop.graph.Conflict.{Conflict}
 use Rattle.sat_parts.specs.declared.prop.graph.Conflict.TheVariants as conflicts
 use Rattle.sat_parts.specs.declared.prop.graph.Reason.{Reason}
 use Rattle.sat_parts.specs.declared.prop.graph.Reason.TheVariants.{Unit as NoCause, Binary, Long}
-use Rattle.sat_parts.specs.clause.Glue.{AreClear}
+use Rattle.sat_parts.specs.clause.Glue.{FlagsAreClear}
 use Rattle.sat_parts.specs.clause.Orders.{AreDistinct}
-use Rattle.sat_parts.specs.prop.Causes.{falsified}
+use Rattle.sat_parts.specs.prop.ReasonLits.{conflict_lits}
 use Rattle.sat_parts.specs.prop.Ready.{IsConflict}
-use Rattle.sat_parts.specs.prop.Reasons.{Implies, AreUnitInTurn}
+use Rattle.sat_parts.specs.prop.Reasons.{ReasonImplies, ReasonsAreUnit}
 use Rattle.sat_parts.specs.prop.State.{PropagationState, node, level, current_level, StateIsConsistent}
 use Rattle.sat_parts.proofs.lemmas.clause.ListLemmas.{at_place, place_in, in_head, in_tail}
 use Rattle.sat_solver.specs.analyze_conflict.AnalysisState.{AnalysisState, long_of, long_falsified}
 use Rattle.sat_solver.specs.analyze_conflict.Marks.{IsReasoned}
 use Rattle.sat_solver.specs.analyze_conflict.Derivation.{ResolutionResult, AnalysisResult}
-use Rattle.sat_solver.specs.analyze_conflict.Involved.{longs_of, AreSeen, IsResolution, CollectionResult, KeepsResolved}
+use Rattle.sat_solver.specs.analyze_conflict.Seen.{longs_of, AreSeen, IsResolution, CollectionResult, AppendsLowerUsedLits}
 use Rattle.sat_solver.proofs.lemmas.analyze_conflict.InTurn.{above_first}
 
-pub is_resolution : (words : List ℕ) (s : PropagationState) (e : Conflict) (w0 w w' : AnalysisState) → ResolutionResult words s (falsified words e) w0 → CollectionResult words s e w0 → KeepsResolved s w0 w → IsPermutation w.used w'.used → w'.seen ≡ w.seen → w'.antecedents ≡ w.antecedents →
+pub is_resolution : (words : List ℕ) (s : PropagationState) (e : Conflict) (w0 w w' : AnalysisState) → ResolutionResult words s (conflict_lits words e) w0 → CollectionResult words s e w0 → AppendsLowerUsedLits s w0 w → IsPermutation w.used w'.used → w'.seen ≡ w.seen → w'.antecedents ≡ w.antecedents →
     IsResolution words s e w'
 is_resolution words s e w0 w w' r c k order seen antecedents =
     let at : (i : ℕ) → i < length w0.used → get_or w.used i 0 ≡ get_or w0.used i 0 = λ i lt. sym (get_or-take (length w0.used) w.used i 0 lt) ∙ ap (λ (xs : List ℕ). get_or xs i 0) k.front.front in
@@ -41,23 +41,23 @@ is_resolution words s e w0 w w' r c k order seen antecedents =
       back = λ l x top. back l (Contains-permutation w'.used w.used l (IsPermutation-sym w.used w'.used order) x) top;
       distinct = subst (λ (xs : List ℕ). AreDistinct xs) (sym m) c.distinct;
       within = λ v x. c.within v (subst (λ (xs : List ℕ). Contains xs v) m x);
-      seen = subst (λ (xs : List ℕ). AreSeen words s (falsified words e) w0.used xs) (sym m) c.seen;
+      seen = subst (λ (xs : List ℕ). AreSeen words s (conflict_lits words e) w0.used xs) (sym m) c.seen;
       antecedents = antecedents ∙ k.front.antecedents ∙ c.antecedents;
     }
 
 -- the long clause of a reason on the trail is live
-reason_live : (words live : List ℕ) (implied : List (List ℕ)) (s : PropagationState) (p o : ℕ) (r : Reason) → Implies words live implied s p r → Contains (long_of r) o → Contains live o
+reason_live : (words live : List ℕ) (implied : List (List ℕ)) (s : PropagationState) (p o : ℕ) (r : Reason) → ReasonImplies words live implied s p r → Contains (long_of r) o → Contains live o
 reason_live words live implied s p o NoCause h c = absurd (omega (arith, c.1))
 reason_live words live implied s p o (Binary ls) h c = absurd (omega (arith, c.1))
 reason_live words live implied s p o (Long q) h c =
     let e : 0 ≡ c.0 = omega (arith, c.1) in
     subst (λ z. Contains live z) (ap (λ k. get_or (q ∷ []) k 0) e ∙ at_place (q ∷ []) o c) h.0
 
-longs_live : (words live : List ℕ) (implied : List (List ℕ)) (s : PropagationState) (o : ℕ) (ls : List ℕ) → ((l : ℕ) → Contains ls l → (p : ℕ) × Implies words live implied s p (node s l).reason) → Contains (longs_of s ls) o → Contains live o
+longs_live : (words live : List ℕ) (implied : List (List ℕ)) (s : PropagationState) (o : ℕ) (ls : List ℕ) → ((l : ℕ) → Contains ls l → (p : ℕ) × ReasonImplies words live implied s p (node s l).reason) → Contains (longs_of s ls) o → Contains live o
 longs_live words live implied s o [] h c = absurd (omega (arith, c.1))
 longs_live words live implied s o (l ∷ ls) h c = elim (Contains-append_cases (long_of (node s l).reason) (longs_of s ls) o c) [
   | inl x ↦
-      let i : (p : ℕ) × Implies words live implied s p (node s l).reason = h l (in_head l ls) in
+      let i : (p : ℕ) × ReasonImplies words live implied s p (node s l).reason = h l (in_head l ls) in
       reason_live words live implied s i.0 o (node s l).reason i.1 x
   | inr y ↦ longs_live words live implied s o ls (λ m d. h m (in_tail l ls m d)) y
 ]
@@ -69,24 +69,24 @@ conflict_live words live implied s o (conflicts.Long q) h c =
     subst (λ z. Contains live z) (ap (λ k. get_or (q ∷ []) k 0) e ∙ at_place (q ∷ []) o c) h.0
 
 -- every antecedent is live
-pub involved_live : (words live : List ℕ) (implied : List (List ℕ)) (s : PropagationState) (e : Conflict) (w : AnalysisState) → StateIsConsistent s → 0 < current_level s → AreUnitInTurn words live implied s (get_or s.trail.starts 0 0) → IsConflict words live implied s.values e →
+pub involved_live : (words live : List ℕ) (implied : List (List ℕ)) (s : PropagationState) (e : Conflict) (w : AnalysisState) → StateIsConsistent s → 0 < current_level s → ReasonsAreUnit words live implied s (get_or s.trail.starts 0 0) → IsConflict words live implied s.values e →
     ((l : ℕ) → Contains w.used l → IsReasoned s 0 l) → IsResolution words s e w → (o : ℕ) → Contains w.antecedents o → Contains live o
 involved_live words live implied s e w a above turns conflict reasons r o c =
     elim (Contains-append_cases (long_falsified e) (longs_of s r.resolved) o (subst (λ (xs : List ℕ). Contains xs o) r.antecedents c)) [
       | inl x ↦ conflict_live words live implied s o e conflict x
       | inr y ↦ longs_live words live implied s o r.resolved (λ l d.
           let x : IsReasoned s 0 l = reasons l (r.forth l d).0 in
-          (x.place, subst (λ z. Implies words live implied s x.place (node s z).reason) x.there (turns x.place (above_first s x.place l a x.within x.there x.above above) x.within))) y
+          (x.place, subst (λ z. ReasonImplies words live implied s x.place (node s z).reason) x.there (turns x.place (above_first s x.place l a x.within x.there x.above above) x.within))) y
     ]
 
 -- every antecedent is live if the analysis succeeds
-pub live_ok : {E : Type 0} (words live : List ℕ) (implied : List (List ℕ)) (s : PropagationState) (e : Conflict) (w : AnalysisState) (r : Result ℕ E) → StateIsConsistent s → 0 < current_level s → AreUnitInTurn words live implied s (get_or s.trail.starts 0 0) →
-    IsConflict words live implied s.values e → IfOk r (λ back. AnalysisResult words s (falsified words e) w back) → OnOk r (IsResolution words s e w) → OnOk r ((o : ℕ) → Contains w.antecedents o → Contains live o)
+pub live_ok : {E : Type 0} (words live : List ℕ) (implied : List (List ℕ)) (s : PropagationState) (e : Conflict) (w : AnalysisState) (r : Result ℕ E) → StateIsConsistent s → 0 < current_level s → ReasonsAreUnit words live implied s (get_or s.trail.starts 0 0) →
+    IsConflict words live implied s.values e → IfOk r (λ back. AnalysisResult words s (conflict_lits words e) w back) → OnOk r (IsResolution words s e w) → OnOk r ((o : ℕ) → Contains w.antecedents o → Contains live o)
 live_ok words live implied s e w (Ok back) a above turns conflict l i = λ o c.
     involved_live words live implied s e w a above turns conflict (λ m d. subst (λ z. IsReasoned s 0 z) (at_place w.used m d) (l.reasons d.0 d.1)) i o c
 live_ok words live implied s e w (Err x) a above turns conflict l i = tt
 
 -- the flags are clear if the analysis succeeds
-pub clear_ok : {E : Type 0} (words : List ℕ) (s : PropagationState) (e : Conflict) (w : AnalysisState) (r : Result ℕ E) → IfOk r (λ back. AnalysisResult words s (falsified words e) w back) → OnOk r (AreClear w.flags)
+pub clear_ok : {E : Type 0} (words : List ℕ) (s : PropagationState) (e : Conflict) (w : AnalysisState) (r : Result ℕ E) → IfOk r (λ back. AnalysisResult words s (conflict_lits words e) w back) → OnOk r (FlagsAreClear w.flags)
 clear_ok words s e w (Ok back) l = l.clear
 clear_ok words s e w (Err x) l = tt

@@ -4,7 +4,7 @@ use Rattle.std.proofs.lemmas.Bool.{cases_eq, cases_lt, cases_Bool, both_ways}
 use Rattle.std.proofs.lemmas.List.{length_push, take_at, take-take, ext_get_or}
 use Rattle.sat_base.specs.values.Literals.{variable}
 use Rattle.sat_solver.specs.analyze_conflict.AnalysisState.{AnalysisState}
-use Rattle.sat_solver.specs.analyze_conflict.Minimal.{MarksMore, used_up, Undoes, SameWork}
+use Rattle.sat_solver.specs.analyze_conflict.Minimization.{AddsMarks, with_used, UndoesMarks, SameAnalysis}
 
 abbrev IsNewUseBelow : (used : List ℕ) (from n v : ℕ) → Type 0
 IsNewUseBelow used from n v = (k : ℕ) × ((from ≤ k) × (k < n) × (variable (get_or used k 0) ≡ v))
@@ -26,7 +26,7 @@ new_use used from (suc n) v le = elim (new_use used from n v (omega arith)) [
   ]
 ]
 
-restored_at : (l : ℕ) (w w' w2 : AnalysisState) (v : ℕ) → MarksMore (used_up l w) w' → Undoes (length w.used) w' w2 → get_or w2.flags v false ≡ get_or w.flags v false
+restored_at : (l : ℕ) (w w' w2 : AnalysisState) (v : ℕ) → AddsMarks (with_used l w) w' → UndoesMarks (length w.used) w' w2 → get_or w2.flags v false ≡ get_or w.flags v false
 restored_at l w w' w2 v m u =
     let n : length (w.used ++ l ∷ []) ≡ length w.used + 1 = length_push w.used l in
     elim (new_use w'.used (length w.used + 1) (length w'.used) v (omega arith)) [
@@ -45,7 +45,7 @@ restored_at l w w' w2 v m u =
           ]
     ]
 
-pub undone : (l : ℕ) (w w' w2 : AnalysisState) → MarksMore (used_up l w) w' → Undoes (length w.used) w' w2 → SameWork w w2
+pub undone : (l : ℕ) (w w' w2 : AnalysisState) → AddsMarks (with_used l w) w' → UndoesMarks (length w.used) w' w2 → SameAnalysis w w2
 undone l w w' w2 m u =
     let n : length (w.used ++ l ∷ []) ≡ length w.used + 1 = length_push w.used l in
     record {

@@ -1,24 +1,24 @@
 -- A search without variables agrees with the empty session.
 use Rattle.std.proofs.Common.{◌≡◌, [], refl, ap, arith}
-use Rattle.sat_parts.specs.clause.Glue.{AreClear}
-use Rattle.sat_parts.specs.prop.Trails.{Trailed, no_trail}
+use Rattle.sat_parts.specs.clause.Glue.{FlagsAreClear}
+use Rattle.sat_parts.specs.prop.Trails.{TrailState, no_trail}
 use Rattle.sat_parts.specs.prop.State.{PropagationState}
 use Rattle.sat_solver.specs.session.Session.{empty_session}
-use Rattle.sat_parts.specs.parts.Assumed.{ArePlaced}
+use Rattle.sat_parts.specs.parts.Assumed.{PlacesAreCorrect}
 use Rattle.sat_parts.specs.parts.Whole.{state, SearchStateInvariant}
 use Rattle.sat_solver.proofs.lemmas.fits.LawLemmas.{nothing_fits}
 use Rattle.sat_solver.specs.declared.context.Search.{Search}
 use Rattle.sat_solver.specs.cdcl.Joint.{global_in, SearchInvariant}
 
-none_clear : AreClear []
+none_clear : FlagsAreClear []
 none_clear k = refl
 
 pub search_begins : (c : Search) → SearchStateInvariant c.parts → c.parts.db.refs ≡ [] → c.parts.binary.implied ≡ [] → c.parts.trail ≡ no_trail → c.parts.assignment.current ≡ [] → c.globals.items ≡ [] → c.analysis.flags ≡ [] → c.flags.flags.items ≡ [] → c.assumptions.lits.items ≡ [] →
-    ((s : PropagationState) → ArePlaced c.assumptions s) → SearchInvariant empty_session c
+    ((s : PropagationState) → PlacesAreCorrect c.assumptions s) → SearchInvariant empty_session c
 search_begins c holds refs implied trail values globals flags marks lits placed = record {
   valid = record {
     holds = holds;
-    fits = rw (refs, implied) (nothing_fits c.parts.clauses (state c.parts) (global_in c) values (ap (λ (t : Trailed). t.lits) trail));
+    fits = rw (refs, implied) (nothing_fits c.parts.clauses (state c.parts) (global_in c) values (ap (λ (t : TrailState). t.lits) trail));
   };
   ready = record {
     free = record {

@@ -11,10 +11,10 @@ use Rattle.sat_parts.specs.clause.Db.{live_refs, is_live_in_tier}
 use Rattle.sat_parts.proofs.lemmas.clause.ListLemmas.{at_place, in_without}
 use Rattle.sat_parts.proofs.lemmas.prop.BuildLemmas.{live_in}
 use Rattle.sat_parts.specs.declared.parts.SearchState.{SearchState}
-use Rattle.sat_parts.specs.parts.Frame.{SameExceptLongClauses, DropsLongClause}
+use Rattle.sat_parts.specs.parts.Frame.{SameExceptLongClauses, DeletesLongClause}
 use Rattle.sat_parts.specs.parts.Reducing.{clause_rank}
 use Rattle.sat_parts.proofs.lemmas.parts.FewerLemmas.{without_there}
-use Rattle.sat_solver.specs.clause.Reduced.{IsReason, DeletesUnlessReason, AreFirstFree, DeletesJustThese, HalvesLocals}
+use Rattle.sat_solver.specs.clause.Reduced.{IsReason, DeletesUnlessReason, AreFirstNonReasons, DeletesJustThese, HalvesLocals}
 
 abbrev live : SearchState → List ℕ
 live p = live_refs p.clauses p.db.refs
@@ -32,7 +32,7 @@ deletes_none p keeps = record {
 }
 
 -- one more clause is deleted
-module _ (p q r : SearchState) (gone : List ℕ) (o : ℕ) (x : DeletesJustThese p q gone) (here : Contains (live q) o) (d : DropsLongClause q r o) where
+module _ (p q r : SearchState) (gone : List ℕ) (o : ℕ) (x : DeletesJustThese p q gone) (here : Contains (live q) o) (d : DeletesLongClause q r o) where
   left_alone : (u : ℕ) → Contains (live r) u → Contains (live q) u × (u ≢ o)
   left_alone u c = in_without o u (live q) (subst (λ os. Contains os u) d.deletes.live c)
 
@@ -77,7 +77,7 @@ module _ (p q : SearchState) (gone : List ℕ) (o : ℕ) (x : DeletesJustThese p
 -- later.
 pub record Halving (p q : SearchState) (list rest : List ℕ) (left : ℕ) : Type 0 where
   pub gone : List ℕ
-  pub first : (free : List ℕ) → AreFirstFree p rest left free → AreFirstFree p list (length list / 2) (gone ++ free)
+  pub first : (free : List ℕ) → AreFirstNonReasons p rest left free → AreFirstNonReasons p list (length list / 2) (gone ++ free)
   pub deletes : DeletesJustThese p q gone
 
 pub halving_none : (p : SearchState) (list : List ℕ) (left : ℕ) → left ≡ length list / 2 → ((o : ℕ) → Contains (live p) o → SameClauseAt p.clauses p.clauses o) → Halving p p list list left
@@ -86,7 +86,7 @@ halving_none p list left e keeps = record { gone = []; first = λ free h. rw e a
 pub halving_next : (p q r : SearchState) (list rest : List ℕ) (o n left : ℕ) (b : Bool) → Halving p q list (o ∷ rest) (suc n) → Contains (live q) o → DeletesUnlessReason b o q r → left ≡ cond b n (suc n) → Halving p r list rest left
 halving_next p q r list rest o n left true h here t e = record {
   gone = h.gone ++ o ∷ [];
-  first = λ free k. subst (λ us. AreFirstFree p list (length list / 2) us) (sym (append_assoc h.gone (o ∷ []) free)) (h.first (o ∷ free) (inr (free_before p q h.gone o h.deletes here t.0, free, refl, rw e at k)));
+  first = λ free k. subst (λ us. AreFirstNonReasons p list (length list / 2) us) (sym (append_assoc h.gone (o ∷ []) free)) (h.first (o ∷ free) (inr (free_before p q h.gone o h.deletes here t.0, free, refl, rw e at k)));
   deletes = deletes_more p q r h.gone o h.deletes here t.1;
 }
 halving_next p q r list rest o n left false h here t e = record {
@@ -95,18 +95,18 @@ halving_next p q r list rest o n left false h here t e = record {
   deletes = rw t.1 h.deletes;
 }
 
-none_free : (p : SearchState) (rest : List ℕ) → AreFirstFree p rest 0 []
+none_free : (p : SearchState) (rest : List ℕ) → AreFirstNonReasons p rest 0 []
 none_free p [] = refl
 none_free p (o ∷ rest) = refl
 
 module _ (p q : SearchState) (list : List ℕ) (all : IsPermutation (filter (is_live_in_tier p.clauses Local) p.db.refs) list) (rising : IsNonDecreasingBy (clause_rank p.clauses) list) where
-  done : (rest : List ℕ) (left : ℕ) → AreFirstFree p rest left [] → Halving p q list rest left → HalvesLocals p q
+  done : (rest : List ℕ) (left : ℕ) → AreFirstNonReasons p rest left [] → Halving p q list rest left → HalvesLocals p q
   done rest left f h = record {
     locals = list;
     all = all;
     rising = rising;
     gone = h.gone;
-    first = subst (λ us. AreFirstFree p list (length list / 2) us) (append-nil h.gone) (h.first [] f);
+    first = subst (λ us. AreFirstNonReasons p list (length list / 2) us) (append-nil h.gone) (h.first [] f);
     deletes = h.deletes;
   }
 

@@ -4,7 +4,7 @@ use Rattle.std.specs.Prelude.{MatchResult, IfErr}
 use Rattle.sat_base.specs.device.Device.{Writer}
 use Rattle.sat_base.specs.steps.Steps.{Step}
 use Rattle.sat_checker.specs.declared.processing.ProofProcessor.{Ghosts}
-use Rattle.sat_solver.specs.proof.ProofView.{EmitsExactly, CheckerFailed, FailsCheck, EmitsChecked, EmitsAsAnswered, HasAllowedSteps, has_missed_step, steps_of, session_of}
+use Rattle.sat_solver.specs.proof.ProofView.{EmitsExactly, CheckerFailed, FailsCheck, EmitsChecked, EmitResult, HasAllowedSteps, has_missed_step, steps_of, session_of}
 use Rattle.sat_solver.specs.session.Session.{session_after}
 use Rattle.sat_solver.specs.declared.proof.emitted.CheckFault.{CheckFault}
 use Rattle.sat_solver.specs.declared.proof.emitted.CheckFault.TheVariants as checks
@@ -14,24 +14,24 @@ use Rattle.sat_solver.specs.declared.proof.ProofError.TheVariants.{Write, OutOfM
 use Rattle.sat_solver.proofs.lemmas.session.ProofLemmas.{adds_none, adds_more, gains_none, gains_adds, gains_more, fails_later, check_later}
 use Rattle.sat_store.specs.declared.clause.alloc.StoreError.{StoreError}
 use Rattle.sat_store.specs.declared.clause.alloc.StoreError.TheVariants as stores
-use Rattle.sat_solver.specs.Recovery.{buffer_failure}
+use Rattle.sat_solver.specs.Recovery.{error_of_buffer}
 use Rattle.sat_solver.specs.proof.ListenerErrors.{IsListenerError}
-use Rattle.sat_solver.specs.cdcl.Faults.{IsKept, NamesLoss}
+use Rattle.sat_solver.specs.cdcl.Faults.{StoresError, MissesOnlyByFault}
 use Rattle.sat_solver.specs.declared.error.SolverError.{SolverError}
 use Rattle.sat_solver.specs.declared.error.SolverError.TheVariants as errors
 use Rattle.sat_solver.specs.session.Quiet.{is_quiet, AreQuiet}
 use Rattle.sat_solver.proofs.lemmas.fits.QuietLemmas.{quiet_both}
-use Rattle.sat_solver.specs.cdcl.StepEffects.{AreSearched, IsSearched, AreQuietUnless, check_fault_of, proof_fault, IsFault, IsFaultOr, EmitsUpToFault, EmitsSteps, EmitsStepsOr, EmitsStepsWith}
+use Rattle.sat_solver.specs.cdcl.StepEffects.{AreSearchSteps, IsSearchStep, AreQuietUnless, error_of_check, error_of_proof, IsFault, IsFaultOr, EmitsUpToFault, EmitsSteps, EmitsStepsOr, EmitsStepsWith}
 use Rattle.sat_solver.proofs.lemmas.cdcl.AskedLemmas.{names_following}
 
-both : (names : ℕ → Option ℕ) (ys xs : List Step) → AreSearched names ys → AreSearched names xs → AreSearched names (ys ++ xs)
+both : (names : ℕ → Option ℕ) (ys xs : List Step) → AreSearchSteps names ys → AreSearchSteps names xs → AreSearchSteps names (ys ++ xs)
 both names [] xs h k = k
 both names (y ∷ ys) xs h k = (h.0, both names ys xs h.1 k)
 
 -- steps of a search followed by more of them are steps of a search, since solver names stay the same
-pub searched_both : (ys xs later earlier : List Step) → later ≡ xs ++ earlier → AreSearched (session_after later).solver_names ys → AreSearched (session_after earlier).solver_names xs → AreSearched (session_after earlier).solver_names (ys ++ xs)
+pub searched_both : (ys xs later earlier : List Step) → later ≡ xs ++ earlier → AreSearchSteps (session_after later).solver_names ys → AreSearchSteps (session_after earlier).solver_names xs → AreSearchSteps (session_after earlier).solver_names (ys ++ xs)
 searched_both ys xs later earlier written h k =
-    both (session_after earlier).solver_names ys xs (subst (λ names. AreSearched names ys) (names_following xs later earlier (session_after earlier).solver_names written k) h) k
+    both (session_after earlier).solver_names ys xs (subst (λ names. AreSearchSteps names ys) (names_following xs later earlier (session_after earlier).solver_names written k) h) k
 
 -- an error of a search that stores no clause is an error of any search
 pub fault_or : (full : Type 0) (e : SolverError) → IsFault e → IsFaultOr full e
@@ -41,7 +41,7 @@ fault_or full (errors.ProofProcessorError cause) h = h
 fault_or full errors.CounterEnd h = h
 fault_or full e h = absurd h
 
-pub fault_checked : (full : Type 0) (fault : CheckFault) → IsFaultOr full (check_fault_of fault)
+pub fault_checked : (full : Type 0) (fault : CheckFault) → IsFaultOr full (error_of_check fault)
 fault_checked full checks.OutOfMemory = tt
 fault_checked full checks.CounterEnd = tt
 fault_checked full (checks.Processor cause) = tt
@@ -55,26 +55,26 @@ ends_or full (Ok x) P h = h
 ends_or full (Err e) P h = fault_or full e h
 
 -- the proof stores the error of the checker's processor
-pub complaint_kept : {W L : Type 0} {G : Ghosts L} (fault : CheckFault) (p : Proof W L G) → IsListenerError fault p.made.complaint → IsKept (check_fault_of fault) p
+pub complaint_kept : {W L : Type 0} {G : Ghosts L} (fault : CheckFault) (p : Proof W L G) → IsListenerError fault p.made.complaint → StoresError (error_of_check fault) p
 complaint_kept checks.OutOfMemory p h = tt
 complaint_kept checks.CounterEnd p h = tt
 complaint_kept (checks.Processor cause) p h = h
 
 -- the error for a fault of the checker explains a lost step
-pub check_loss : {W L : Type 0} {G : Ghosts L} (fault : CheckFault) (p q : Proof W L G) → CheckerFailed fault q → NamesLoss (check_fault_of fault) p q
+pub check_loss : {W L : Type 0} {G : Ghosts L} (fault : CheckFault) (p q : Proof W L G) → CheckerFailed fault q → MissesOnlyByFault (error_of_check fault) p q
 check_loss checks.OutOfMemory p q h = inr h
 check_loss checks.CounterEnd p q h = tt
 check_loss (checks.Processor cause) p q h = tt
 
 -- the same after a call that lost no step
-pub loss_later : {W L : Type 0} {G : Ghosts L} (e : SolverError) (a b c : Proof W L G) → has_missed_step b ≡ has_missed_step a → NamesLoss e b c → NamesLoss e a c
+pub loss_later : {W L : Type 0} {G : Ghosts L} (e : SolverError) (a b c : Proof W L G) → has_missed_step b ≡ has_missed_step a → MissesOnlyByFault e b c → MissesOnlyByFault e a c
 loss_later (errors.ProofProcessorError cause) a b c same h = tt
 loss_later (errors.ProofIoError cause) a b c same h = tt
 loss_later errors.OutOfMemory a b c same h = elim h [ inl k ↦ inl (k ∙ same) | inr w ↦ inr w ]
 loss_later errors.CounterEnd a b c same h = tt
 loss_later e a b c same h = h ∙ same
 
-loss_after : {A W L : Type 0} {G : Ghosts L} (r : Result A SolverError) (a b c : Proof W L G) → has_missed_step b ≡ has_missed_step a → IfErr r (λ e. NamesLoss e b c) → IfErr r (λ e. NamesLoss e a c)
+loss_after : {A W L : Type 0} {G : Ghosts L} (r : Result A SolverError) (a b c : Proof W L G) → has_missed_step b ≡ has_missed_step a → IfErr r (λ e. MissesOnlyByFault e b c) → IfErr r (λ e. MissesOnlyByFault e a c)
 loss_after (Ok x) a b c same h = tt
 loss_after (Err e) a b c same h = loss_later e a b c same h
 
@@ -103,27 +103,27 @@ module _ {W L : Type 0} {G : Ghosts L} (seen : W → Writer) where
   goes_starved p P keeps = record { steps = []; went = adds_none seen p; searched = tt; quiet = tt; keeps = keeps; kept = tt; loss = inl refl; ends = tt }
 
   -- the checker failed
-  pub went_checked : (A : Type 0) (fault : CheckFault) (steps : List Step) (p q : Proof W L G) → FailsCheck seen fault steps p q → EmitsUpToFault {A = A} seen (Err (check_fault_of fault)) steps p q
+  pub went_checked : (A : Type 0) (fault : CheckFault) (steps : List Step) (p q : Proof W L G) → FailsCheck seen fault steps p q → EmitsUpToFault {A = A} seen (Err (error_of_check fault)) steps p q
   went_checked A checks.OutOfMemory steps p q h = h.adds
   went_checked A checks.CounterEnd steps p q h = h
   went_checked A (checks.Processor cause) steps p q h = h
 
   -- one step was written, which learns nothing
-  pub goes_step : {A full : Type 0} (x : A) (p q : Proof W L G) (step : Step) (P : A → List Step → Type 0) → IsSearched (session_of p).solver_names step → is_quiet step ≡ true → HasAllowedSteps q → EmitsChecked seen (step ∷ []) p q → P x (step ∷ []) → EmitsStepsWith full false seen (Ok x) p q P
+  pub goes_step : {A full : Type 0} (x : A) (p q : Proof W L G) (step : Step) (P : A → List Step → Type 0) → IsSearchStep (session_of p).solver_names step → is_quiet step ≡ true → HasAllowedSteps q → EmitsChecked seen (step ∷ []) p q → P x (step ∷ []) → EmitsStepsWith full false seen (Ok x) p q P
   goes_step x p q step P s quiet keeps gains h = record { steps = step ∷ []; went = gains; searched = (s, tt); quiet = (quiet, tt); keeps = keeps; kept = tt; loss = tt; ends = h }
 
   -- one step was written, which may learn a clause
-  pub goes_learned : {A full : Type 0} (x : A) (p q : Proof W L G) (step : Step) (P : A → List Step → Type 0) → IsSearched (session_of p).solver_names step → HasAllowedSteps q → EmitsChecked seen (step ∷ []) p q → P x (step ∷ []) → EmitsStepsOr full seen (Ok x) p q P
+  pub goes_learned : {A full : Type 0} (x : A) (p q : Proof W L G) (step : Step) (P : A → List Step → Type 0) → IsSearchStep (session_of p).solver_names step → HasAllowedSteps q → EmitsChecked seen (step ∷ []) p q → P x (step ∷ []) → EmitsStepsOr full seen (Ok x) p q P
   goes_learned x p q step P s keeps gains h = record { steps = step ∷ []; went = gains; searched = (s, tt); quiet = tt; keeps = keeps; kept = tt; loss = tt; ends = h }
 
   -- writing or checking a step failed
-  pub goes_broken : {A full : Type 0} {learns : Bool} (e : ProofError) (p q : Proof W L G) (step : Step) (P : A → List Step → Type 0) → IsSearched (session_of p).solver_names step → HasAllowedSteps q → EmitsAsAnswered {T = Unit {0}} seen (Err e) (step ∷ []) p q → EmitsStepsWith full learns seen (Err (proof_fault e)) p q P
+  pub goes_broken : {A full : Type 0} {learns : Bool} (e : ProofError) (p q : Proof W L G) (step : Step) (P : A → List Step → Type 0) → IsSearchStep (session_of p).solver_names step → HasAllowedSteps q → EmitResult {T = Unit {0}} seen (Err e) (step ∷ []) p q → EmitsStepsWith full learns seen (Err (error_of_proof e)) p q P
   goes_broken (Write cause) p q step P s keeps fails = record { steps = step ∷ []; went = fails.0; searched = (s, tt); quiet = tt; keeps = keeps; kept = fails.1; loss = tt; ends = tt }
   goes_broken OutOfMemory p q step P s keeps gains = record { steps = []; went = gains_adds seen [] p q gains; searched = tt; quiet = tt; keeps = keeps; kept = tt; loss = inl gains.taking; ends = tt }
   goes_broken {A = A} {full} (Check fault) p q step P s keeps fails = record { steps = step ∷ []; went = went_checked A fault (step ∷ []) p q fails.0; searched = (s, tt); quiet = tt; keeps = keeps; kept = complaint_kept fault q fails.1; loss = check_loss fault p q fails.0.why; ends = fault_checked full fault }
 
   -- a step was made, and then the clause buffer returned an error
-  pub goes_refused : {A full : Type 0} {learns : Bool} (s : StoreError) (p q : Proof W L G) (step : Step) (P : A → List Step → Type 0) → IsSearched (session_of p).solver_names step → HasAllowedSteps q → EmitsChecked seen (step ∷ []) p q → (s ≡ stores.StoreFull → full) → EmitsStepsWith full learns seen (Err (buffer_failure s)) p q P
+  pub goes_refused : {A full : Type 0} {learns : Bool} (s : StoreError) (p q : Proof W L G) (step : Step) (P : A → List Step → Type 0) → IsSearchStep (session_of p).solver_names step → HasAllowedSteps q → EmitsChecked seen (step ∷ []) p q → (s ≡ stores.StoreFull → full) → EmitsStepsWith full learns seen (Err (error_of_buffer s)) p q P
   goes_refused stores.StoreFull p q step P s keeps gains f = record { steps = step ∷ []; went = gains_adds seen (step ∷ []) p q gains; searched = (s, tt); quiet = tt; keeps = keeps; kept = tt; loss = gains.taking; ends = f refl }
   goes_refused stores.OutOfMemory p q step P s keeps gains f = record { steps = step ∷ []; went = gains_adds seen (step ∷ []) p q gains; searched = (s, tt); quiet = tt; keeps = keeps; kept = tt; loss = inl gains.taking; ends = tt }
 

@@ -5,26 +5,26 @@ use Rattle.sat_parts.specs.clause.Db.{live_refs}
 use Rattle.sat_parts.specs.declared.parts.SearchState.{SearchState}
 use Rattle.sat_parts.specs.parts.Round.{UnitsHaveNoReason, LevelZeroInvariant}
 use Rattle.sat_parts.specs.prop.State.{PropagationState}
-use Rattle.sat_parts.specs.parts.Assumed.{IsPlaced}
+use Rattle.sat_parts.specs.parts.Assumed.{AreConsideredUpTo}
 use Rattle.sat_parts.specs.parts.Whole.{state, SearchStateInvariant, SearchStateInvariantBelow, IsFullyPropagated}
-use Rattle.sat_parts.specs.parts.Frame.{SameClauses, TakesOffUnits}
+use Rattle.sat_parts.specs.parts.Frame.{SameClauses, ClearsUnits}
 use Rattle.sat_parts.specs.parts.Words.{TrailWordExtends}
 use Rattle.sat_parts.proofs.lemmas.parts.WordSteps.{extends_refl}
 use Rattle.sat_solver.specs.session.Session.{Session, after}
 use Rattle.sat_solver.specs.session.TrailUnits.{written_units}
-use Rattle.sat_solver.specs.session.Fits.{SessionMatchesParts, TrueLitsHaveNames}
-use Rattle.sat_solver.specs.session.Units.{FitsAll}
-use Rattle.sat_solver.specs.session.WritingUnits.{IsOrderly}
+use Rattle.sat_solver.specs.session.Matching.{SessionMatchesParts, TrueLitsHaveIndices}
+use Rattle.sat_solver.specs.session.Units.{MatchesWithUnits}
+use Rattle.sat_solver.specs.session.WritingUnits.{IsReadyForUnits}
 use Rattle.sat_solver.proofs.lemmas.fits.StepLemmas.{starts_none}
 use Rattle.sat_solver.proofs.lemmas.fits.UnitLemmas.{units_written, fits_cleared}
-use Rattle.sat_solver.specs.unit_simplify.Left.{AllUnits, TakesUnitsOff}
+use Rattle.sat_solver.specs.unit_simplify.AfterUnits.{LevelZeroLitsAreUnits, TakesUnitsOff}
 
 pub none_left : {A : Type 0} (xs : List A) → length xs ≡ 0 → xs ≡ []
 none_left [] e = refl
 none_left (x ∷ xs) e = absurd (omega arith)
 
 -- if no unit has to be written, the session already has all units
-fits_quiet : (words live : List ℕ) (implied : List (List ℕ)) (p : SearchState) (s : Session) (global : ℕ → ℕ) → FitsAll words live implied (state p) (after (UnitClauses []) s) global → FitsAll words live implied (state p) s global
+fits_quiet : (words live : List ℕ) (implied : List (List ℕ)) (p : SearchState) (s : Session) (global : ℕ → ℕ) → MatchesWithUnits words live implied (state p) (after (UnitClauses []) s) global → MatchesWithUnits words live implied (state p) s global
 fits_quiet words live implied p s global h = record {
   fits = record {
     clauses = record { named = h.fits.clauses.named; once = h.fits.clauses.once; counts = h.fits.clauses.counts };
@@ -37,16 +37,16 @@ fits_quiet words live implied p s global h = record {
   all = h.all;
 }
 
-module _ (p : SearchState) (s : Session) (global : ℕ → ℕ) (orderly : IsOrderly p) (bottom : length p.trail.starts ≡ 0) (fits : SessionMatchesParts p s global) (names : TrueLitsHaveNames p.assignment.current s global) where
-  pub units_step : AllUnits p (after (UnitClauses (written_units p.clauses (state p) 64 global p.trail.lits)) s) global
+module _ (p : SearchState) (s : Session) (global : ℕ → ℕ) (orderly : IsReadyForUnits p) (bottom : length p.trail.starts ≡ 0) (fits : SessionMatchesParts p s global) (names : TrueLitsHaveIndices p.assignment.current s global) where
+  pub units_step : LevelZeroLitsAreUnits p (after (UnitClauses (written_units p.clauses (state p) 64 global p.trail.lits)) s) global
   units_step = units_written p.clauses (live_refs p.clauses p.db.refs) p.binary.implied (state p) s global fits names orderly.agrees orderly.clauses orderly.turns bottom
 
-  pub units_none : written_units p.clauses (state p) 64 global p.trail.lits ≡ [] → AllUnits p s global
+  pub units_none : written_units p.clauses (state p) 64 global p.trail.lits ≡ [] → LevelZeroLitsAreUnits p s global
   units_none none =
-      fits_quiet p.clauses (live_refs p.clauses p.db.refs) p.binary.implied p s global (subst (λ us. AllUnits p (after (UnitClauses us) s) global) none units_step)
+      fits_quiet p.clauses (live_refs p.clauses p.db.refs) p.binary.implied p s global (subst (λ us. LevelZeroLitsAreUnits p (after (UnitClauses us) s) global) none units_step)
 
 -- assumptions visited at level 0 stay visited when units are taken off the trail
-placed_cleared : (ls below : List ℕ) (place : ℕ) (s s' : PropagationState) → length s.trail.starts ≡ 0 → s'.trail.starts ≡ [] → TakesOffUnits s s' → IsPlaced ls below place s → IsPlaced ls below place s'
+placed_cleared : (ls below : List ℕ) (place : ℕ) (s s' : PropagationState) → length s.trail.starts ≡ 0 → s'.trail.starts ≡ [] → ClearsUnits s s' → AreConsideredUpTo ls below place s → AreConsideredUpTo ls below place s'
 placed_cleared ls below place s s' bottom none clears x =
     let flat : length s'.trail.starts ≡ 0 = ap (λ (xs : List ℕ). length xs) none in
     record {
@@ -72,7 +72,7 @@ settled_above p s global above h done units fits = record {
 }
 
 -- at level 0 units were taken off the trail
-pub settled_bottom : (p q : SearchState) (s : Session) (global : ℕ → ℕ) → AllUnits p s global → length p.trail.starts ≡ 0 → SearchStateInvariant q → IsFullyPropagated q → q.trail.starts ≡ [] → q.trail.lits ≡ [] → SameClauses p q → TakesOffUnits (state p) (state q) → TrailWordExtends p q → TakesUnitsOff p q s global
+pub settled_bottom : (p q : SearchState) (s : Session) (global : ℕ → ℕ) → LevelZeroLitsAreUnits p s global → length p.trail.starts ≡ 0 → SearchStateInvariant q → IsFullyPropagated q → q.trail.starts ≡ [] → q.trail.lits ≡ [] → SameClauses p q → ClearsUnits (state p) (state q) → TrailWordExtends p q → TakesUnitsOff p q s global
 settled_bottom p q s global all bottom holds done none empty same clears word = record {
   valid = record { holds = holds; fits = rw (same.0, same.1, same.2) (fits_cleared p.clauses (live_refs p.clauses p.db.refs) p.binary.implied (state p) (state q) s global clears all) };
   done = done;

@@ -4,7 +4,7 @@ use Rattle.sat_base.specs.steps.Steps.{Step}
 use Rattle.sat_parts.specs.parts.Words.{TrailWordExtendsFor}
 use Rattle.sat_parts.proofs.lemmas.parts.WordSteps.{rises_after}
 use Rattle.sat_solver.specs.session.Session.{Session, session_after}
-use Rattle.sat_solver.specs.session.Advancing.{IsEmpowering}
+use Rattle.sat_solver.specs.session.Empowering.{IsEmpowering}
 use Rattle.sat_solver.specs.session.Quiet.{AreQuiet}
 use Rattle.sat_solver.proofs.lemmas.fits.QuietLemmas.{quiet_both}
 use Rattle.sat_solver.specs.declared.schedule.RoundOutcome.{RoundOutcome}

@@ -6,18 +6,18 @@ use Rattle.sat_parts.specs.declared.prop.graph.Conflict.{Conflict}
 use Rattle.sat_parts.specs.clause.Db.{live_refs}
 use Rattle.sat_parts.specs.prop.Ready.{IsConflict}
 use Rattle.sat_parts.specs.declared.parts.SearchState.{SearchState}
-use Rattle.sat_parts.specs.parts.Assumed.{ArePlaced}
-use Rattle.sat_parts.specs.parts.Frame.{ReordersLits, AddsNoUnit, KeepsTo}
+use Rattle.sat_parts.specs.parts.Assumed.{PlacesAreCorrect}
+use Rattle.sat_parts.specs.parts.Frame.{ReordersLits, AddsNoUnit, KeepsLevelsTo}
 use Rattle.sat_parts.specs.parts.Round.{UnitsHaveNoReason, LevelZeroInvariant}
 use Rattle.sat_parts.specs.parts.Whole.{state, SearchStateInvariantBelow, IsFullyPropagated}
-use Rattle.sat_parts.specs.parts.Words.{TrailWordExtends, TrailWordExtendsFor, GoneAndIdleStay}
+use Rattle.sat_parts.specs.parts.Words.{TrailWordExtends, TrailWordExtendsFor, KeepsRemovedAndIdle}
 use Rattle.sat_parts.proofs.lemmas.parts.AssumeLemmas.{placed_kept}
 use Rattle.sat_parts.proofs.lemmas.parts.WordSteps.{extends_after}
 use Rattle.sat_solver.specs.proof.ProofView.{steps_of, session_of}
 use Rattle.sat_solver.specs.declared.proof.Proof.{Proof}
 use Rattle.sat_solver.specs.session.Session.{Session, session_after}
 use Rattle.sat_solver.specs.session.Naming.{global_of_index}
-use Rattle.sat_solver.specs.session.Fits.{SessionMatchesParts, TrueLitsHaveNames}
+use Rattle.sat_solver.specs.session.Matching.{SessionMatchesParts, TrueLitsHaveIndices}
 use Rattle.sat_solver.proofs.lemmas.fits.LearnedLemmas.{fits_undone}
 use Rattle.sat_solver.proofs.lemmas.fits.StepLemmas.{fits_propagated}
 use Rattle.sat_solver.specs.declared.cdcl.find_conflict.FoundConflict.{FoundConflict}
@@ -25,9 +25,9 @@ use Rattle.sat_solver.specs.declared.cdcl.find_conflict.FoundConflict.TheVariant
 use Rattle.sat_solver.specs.declared.context.Search.{Search}
 use Rattle.sat_solver.specs.cdcl.StepEffects.{EmitsSteps}
 use Rattle.sat_solver.proofs.lemmas.cdcl.AskedLemmas.{leaves_after, kinds_of}
-use Rattle.sat_solver.specs.cdcl.Joint.{global_in, assumed_indices, IsFree, IsReadySearch, SearchInvariant, SameVarsAndAssumptions, SameAssumedAndNames}
-use Rattle.sat_solver.specs.unit_simplify.Left.{TakesUnitsOff}
-use Rattle.sat_solver.specs.cdcl.Iterations.{GoesDeeper, IsPropagated, OpensLevelOrStops, IterationResult, IterationEffect, StopsSearch}
+use Rattle.sat_solver.specs.cdcl.Joint.{global_in, assumed_indices, HasClearFlags, IsReadySearch, SearchInvariant, SameVarsAndAssumptions, SameAssumedAndNames}
+use Rattle.sat_solver.specs.unit_simplify.AfterUnits.{TakesUnitsOff}
+use Rattle.sat_solver.specs.cdcl.Iterations.{DecisionEffect, IsPropagated, OpensLevelOrStops, IterationResult, IterationEffect, StopsSearch}
 use Rattle.sat_base.specs.values.Literals.{variable}
 use Rattle.sat_parts.proofs.lemmas.prop.RoomLemmas.{below_from_value}
 
@@ -41,7 +41,7 @@ moved_trans a b c x y = record { globals = y.globals ∙ x.globals; lits = y.lit
 none_some : {A : Type 0} (x : A) → None ≡ Some x → ⊥
 none_some x e = cc
 
-pub ready_names : (s : Session) (c : Search) → IsReadySearch s c → TrueLitsHaveNames c.parts.assignment.current s (global_in c)
+pub ready_names : (s : Session) (c : Search) → IsReadySearch s c → TrueLitsHaveIndices c.parts.assignment.current s (global_in c)
 ready_names s c r l t = elim (r.used (variable l) (below_from_value c.parts.assignment.current (variable l) _ t)) [
   | inl own ↦ own
   | inr idle ↦ absurd (none_some _ (sym idle.0 ∙ t))
@@ -51,7 +51,7 @@ pub leaves_refl : (s : Session) → SameAssumedAndNames s s
 leaves_refl s = record { assumed = refl; names = λ v. refl }
 
 -- `IsReadySearch` is preserved if variables, assumptions and names stay the same, and idle variables stay idle
-pub ready_moved : (s s' : Session) (c c' : Search) → IsReadySearch s c → SameAssumedAndNames s s' → SameVarsAndAssumptions c c' → GoneAndIdleStay (assumed_indices c) (state c.parts) c.parts.vsids (state c'.parts) c'.parts.vsids → ArePlaced c'.assumptions (state c'.parts) → IsFree c' → IsReadySearch s' c'
+pub ready_moved : (s s' : Session) (c c' : Search) → IsReadySearch s c → SameAssumedAndNames s s' → SameVarsAndAssumptions c c' → KeepsRemovedAndIdle (assumed_indices c) (state c.parts) c.parts.vsids (state c'.parts) c'.parts.vsids → PlacesAreCorrect c'.assumptions (state c'.parts) → HasClearFlags c' → IsReadySearch s' c'
 ready_moved s s' c c' r leaves moved goes placed free = record {
   free = free;
   placed = placed;
@@ -63,8 +63,8 @@ ready_moved s s' c c' r leaves moved goes placed free = record {
   ];
 }
 
--- `IsFree` is preserved if the working lists of analysis and the number of variables are unchanged
-pub free_moved : (c c' : Search) → IsFree c → SameVarsAndAssumptions c c' → c'.analysis ≡ c.analysis → c'.flags ≡ c.flags → IsFree c'
+-- `HasClearFlags` is preserved if the working lists of analysis and the number of variables are unchanged
+pub free_moved : (c c' : Search) → HasClearFlags c → SameVarsAndAssumptions c c' → c'.analysis ≡ c.analysis → c'.flags ≡ c.flags → HasClearFlags c'
 free_moved c c' f moved analysis flags = record {
   names = rw (moved.globals, moved.size) f.names;
   size = rw (analysis, moved.size) f.size;
@@ -83,7 +83,7 @@ pub record Propagation (s : Session) (c d : Search) : Type 0 where
   pub starts : d.parts.trail.starts ≡ c.parts.trail.starts
 
 module _ (s : Session) (c c' : Search) (search : SearchInvariant s c) (globals : c'.globals ≡ c.globals) (assumptions : c'.assumptions ≡ c.assumptions) (analysis : c'.analysis ≡ c.analysis) (flags : c'.flags ≡ c.flags)
-    (starts : c'.parts.trail.starts ≡ c.parts.trail.starts) (moved : ReordersLits c.parts c'.parts) (carries : AddsNoUnit (state c.parts) (state c'.parts)) (word : TrailWordExtends c.parts c'.parts) (keeps : (top : ℕ) → KeepsTo top (state c.parts) (state c'.parts)) where
+    (starts : c'.parts.trail.starts ≡ c.parts.trail.starts) (moved : ReordersLits c.parts c'.parts) (carries : AddsNoUnit (state c.parts) (state c'.parts)) (word : TrailWordExtends c.parts c'.parts) (keeps : (top : ℕ) → KeepsLevelsTo top (state c.parts) (state c'.parts)) where
   pub propagated_moved : SameVarsAndAssumptions c c'
   propagated_moved = record { globals = globals; lits = ap (λ a. a.lits) assumptions; size = carries.size }
 
@@ -96,10 +96,10 @@ module _ (s : Session) (c c' : Search) (search : SearchInvariant s c) (globals :
       (free_moved c c' search.ready.free propagated_moved analysis flags)
 
   propagated_fits : SearchStateInvariantBelow (length c'.parts.trail.starts) c'.parts → SessionMatchesParts c'.parts s (global_in c')
-  propagated_fits holds = rw globals (fits_propagated c.parts c'.parts s (global_in c) moved carries holds.asks.clauses search.valid.fits)
+  propagated_fits holds = rw globals (fits_propagated c.parts c'.parts s (global_in c) moved carries holds.propagation.clauses search.valid.fits)
 
   propagated_fits_all : SearchStateInvariantBelow (length c'.parts.trail.starts + 1) c'.parts → SessionMatchesParts c'.parts s (global_in c')
-  propagated_fits_all holds = rw globals (fits_propagated c.parts c'.parts s (global_in c) moved carries holds.asks.clauses search.valid.fits)
+  propagated_fits_all holds = rw globals (fits_propagated c.parts c'.parts s (global_in c) moved carries holds.propagation.clauses search.valid.fits)
 
   pub propagation : SearchStateInvariantBelow (length c'.parts.trail.starts + 1) c'.parts → IsFullyPropagated c'.parts → (0 < length c.parts.trail.starts → UnitsHaveNoReason (state c.parts) → UnitsHaveNoReason (state c'.parts)) →
       (0 < length c.parts.trail.starts → LevelZeroInvariant c.parts.trail → LevelZeroInvariant c'.parts.trail) → Propagation s c c'
@@ -151,7 +151,7 @@ stopped_from stop s a b c moved word t = record {
 
 module _ (s s' : Session) (c c' : Search) (mid : SearchState) (propagated : IsPropagated s c) (leaves : SameAssumedAndNames s s') (settled : TakesUnitsOff c.parts mid s' (global_in c))
     (globals : c'.globals ≡ c.globals) (analysis : c'.analysis ≡ c.analysis) (flags : c'.flags ≡ c.flags) where
-  pub gone_on : (found : Option FoundConflict) → GoesDeeper found c.assumptions c'.assumptions mid c'.parts → IterationEffect found s' c c'
+  pub gone_on : (found : Option FoundConflict) → DecisionEffect found c.assumptions c'.assumptions mid c'.parts → IterationEffect found s' c c'
   gone_on found d = record {
     says = says found d.stops;
     moved = moved;
@@ -181,7 +181,7 @@ module _ (s s' : Session) (c c' : Search) (mid : SearchState) (propagated : IsPr
 -- an iteration: propagation, then units are written, then a level begins or the search stops
 module _ {W L : Type 0} {G : Ghosts L} (seen : W → Writer) (p q : Proof W L G) (c d e : Search) (mid : SearchState) (went : Propagation (session_of p) c d) (gs : List ℕ) (same : gs ≡ d.globals.items)
     (settles : EmitsSteps {A = Unit {0}} seen (Ok tt) p q (λ _ _. TakesUnitsOff d.parts mid (session_of q) (global_of_index gs))) (globals : e.globals ≡ d.globals) (analysis : e.analysis ≡ d.analysis) (flags : e.flags ≡ d.flags) where
-  pub turned : (found : Option FoundConflict) → GoesDeeper found d.assumptions e.assumptions mid e.parts → IterationEffect found (session_of q) c e
+  pub turned : (found : Option FoundConflict) → DecisionEffect found d.assumptions e.assumptions mid e.parts → IterationEffect found (session_of q) c e
   turned found deeper =
       let leaves : SameAssumedAndNames (session_of p) (session_of q) = subst (λ ss. SameAssumedAndNames (session_of p) (session_after ss)) (sym settles.went.history) (leaves_after settles.steps (steps_of p) (kinds_of (session_of p).solver_names settles.steps settles.searched)) in
       let settled : TakesUnitsOff d.parts mid (session_of q) (global_in d) = subst (λ hs. TakesUnitsOff d.parts mid (session_of q) (global_of_index hs)) same settles.ends in

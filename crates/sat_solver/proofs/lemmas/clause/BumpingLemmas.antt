@@ -8,14 +8,14 @@ use Rattle.sat_solver.specs.session.Session.{Session}
 use Rattle.sat_parts.specs.declared.parts.SearchState.{SearchState}
 use Rattle.sat_parts.specs.parts.Frame.{SameClauses, SameState}
 use Rattle.sat_parts.specs.parts.Whole.{state, SearchStateInvariant}
-use Rattle.sat_parts.specs.parts.Words.{TrailWordExtends, TrailWordRises}
+use Rattle.sat_parts.specs.parts.Words.{TrailWordExtends, TrailWordIncreases}
 use Rattle.sat_parts.proofs.lemmas.parts.LoadFrames.{carries_same}
 use Rattle.sat_solver.proofs.lemmas.fits.LearnedLemmas.{fits_undone}
 use Rattle.sat_solver.specs.declared.context.Search.{Search}
 use Rattle.sat_solver.specs.clause.Activity.{all_bumped, BumpEffect}
 use Rattle.sat_solver.specs.cdcl.Joint.{global_in, SearchInvariant}
-use Rattle.sat_solver.specs.cdcl.Learning.{LearnsAndRises}
-use Rattle.sat_solver.specs.unit_simplify.Left.{SameSize}
+use Rattle.sat_solver.specs.cdcl.Learning.{LearnEffect}
+use Rattle.sat_solver.specs.unit_simplify.AfterUnits.{SameSize}
 use Rattle.sat_solver.proofs.lemmas.clause.ReducingLemmas.{still, still_moved}
 use Rattle.sat_solver.proofs.lemmas.cdcl.TurnLemmas.{moved_trans, leaves_refl}
 use Rattle.sat_parts.proofs.lemmas.parts.WordSteps.{goes_trans}
@@ -43,14 +43,14 @@ below_more (P ∷ u) (D ∷ v) z h = absurd h
 below_more (D ∷ u) (D ∷ v) z h = below_more u v z h
 below_more (P ∷ u) (P ∷ v) z h = below_more u v z h
 
-rises_on : (p q r : SearchState) → TrailWordRises p q → TrailWordExtends q r → TrailWordRises p r
+rises_on : (p q r : SearchState) → TrailWordIncreases p q → TrailWordExtends q r → TrailWordIncreases p r
 rises_on p q r x y = λ am. (
   goes_trans am (state p) p.vsids (state q) q.vsids (state r) r.vsids (x am).0 (y am).0,
   λ w h. let v = (x am).1 w h in let u = (y am).1 v.0 v.1.0 in (u.0, (u.1.0, subst (λ z. IsLowerWord w z) (sym u.1.1.1) (below_more w v.0 u.1.1.0 v.1.1))),
 )
 
 -- what holds after learning a clause still holds after activities were raised
-pub learned_on : (earlier steps : List Step) (s : Session) (a b c : Search) → LearnsAndRises earlier steps s a b → BumpEffect s b c → LearnsAndRises earlier steps s a c
+pub learned_on : (earlier steps : List Step) (s : Session) (a b c : Search) → LearnEffect earlier steps s a b → BumpEffect s b c → LearnEffect earlier steps s a c
 learned_on earlier steps s a b c x y = record {
   search = y.search;
   moved = moved_trans a b c x.moved y.moved;

@@ -6,9 +6,9 @@ use Rattle.std.specs.Prelude.{◌&&◌, min}
 use Rattle.std.proofs.lemmas.Bool.{cases_lt, ltb-true, false_from_ne_true}
 use Rattle.sat_store.specs.clause.Buffer.{lits_at}
 use Rattle.sat_store.specs.clause.Header.{Header, is_learned}
-use Rattle.sat_parts.specs.clause.Activity.{Scale}
+use Rattle.sat_parts.specs.clause.Activity.{ActivityScale}
 use Rattle.sat_parts.specs.clause.Db.{live_refs, PutsHeader}
-use Rattle.sat_parts.specs.clause.Glue.{HaveNodes, HaveFlags}
+use Rattle.sat_parts.specs.clause.Glue.{LitsHaveNodes, LevelsHaveFlags}
 use Rattle.sat_parts.specs.clause.Stored.{lit_of}
 use Rattle.sat_parts.specs.declared.parts.SearchState.{SearchState}
 use Rattle.sat_parts.specs.parts.Frame.{ChangesHeaders}
@@ -53,14 +53,14 @@ rates_trans p q r x y = record {
 -- LEVELS
 
 -- every literal of a live clause has a node
-pub clause_nodes : (p : SearchState) (o : ℕ) → SearchStateInvariant p → Contains (live_refs p.clauses p.db.refs) o → HaveNodes p.graph (lits_at p.clauses o)
-clause_nodes p o h live k lt = (let b : lit_of p.clauses o k < 2 * length p.assignment.current = h.below.asks.clauses.below o k live lt in omega (arith, b, h.below.asks.agrees.nodes))
+pub clause_nodes : (p : SearchState) (o : ℕ) → SearchStateInvariant p → Contains (live_refs p.clauses p.db.refs) o → LitsHaveNodes p.graph (lits_at p.clauses o)
+clause_nodes p o h live k lt = (let b : lit_of p.clauses o k < 2 * length p.assignment.current = h.below.propagation.clauses.below o k live lt in omega (arith, b, h.below.propagation.agrees.nodes))
 
 module _ (p q : SearchState) (h : ChangesHeaders p q) (o : ℕ) (live : Contains (live_refs p.clauses p.db.refs) o) where
   pub live_kept : Contains (live_refs q.clauses q.db.refs) o
   live_kept = subst (λ os. Contains os o) (sym h.live) live
 
-  pub flags_kept : (flags : List Bool) → HaveFlags p.graph flags (lits_at p.clauses o) → HaveFlags q.graph flags (lits_at q.clauses o)
+  pub flags_kept : (flags : List Bool) → LevelsHaveFlags p.graph flags (lits_at p.clauses o) → LevelsHaveFlags q.graph flags (lits_at q.clauses o)
   flags_kept flags x = rw (h.same.0.1, h.lits o live) x
 
   pub levels_kept : clause_level_count q o ≡ clause_level_count p o
@@ -77,7 +77,7 @@ involved_kept p q flags os h x = record {
 -- CLAUSES, ONE AFTER ANOTHER
 
 -- one more antecedent was bumped, then the rest of the list
-pub takes_next : (levels : ℕ → ℕ) (refs os : List ℕ) (i o : ℕ) (words mid words' : List ℕ) (s t s' : Scale) → i < length os → o ≡ get_or os i 0 → BumpsClause (levels o) words mid refs o s t → BumpsClauses levels refs (drop (i + 1) os) mid t words' s' →
+pub takes_next : (levels : ℕ → ℕ) (refs os : List ℕ) (i o : ℕ) (words mid words' : List ℕ) (s t s' : ActivityScale) → i < length os → o ≡ get_or os i 0 → BumpsClause (levels o) words mid refs o s t → BumpsClauses levels refs (drop (i + 1) os) mid t words' s' →
     BumpsClauses levels refs (drop i os) words s words' s'
 takes_next levels refs os i o words mid words' s t s' lt at one rest =
     subst (λ ps. BumpsClauses levels refs ps words s words' s') (sym (drop_more os i 0 lt ∙ ap (λ z. z ∷ drop (i + 1) os) (sym at))) (mid, t, one, rest)
@@ -94,7 +94,7 @@ drop_all (o ∷ os) zero le = absurd (omega arith)
 drop_all (o ∷ os) (suc n) le = drop_all os n (omega arith)
 
 -- when no antecedent is left, activities decay
-pub takes_last : (levels : ℕ → ℕ) (refs os : List ℕ) (n : ℕ) (words words' : List ℕ) (s s' : Scale) → length os ≤ n → DecaysActivities words words' refs s s' → BumpsClauses levels refs (drop n os) words s words' s'
+pub takes_last : (levels : ℕ → ℕ) (refs os : List ℕ) (n : ℕ) (words words' : List ℕ) (s s' : ActivityScale) → length os ≤ n → DecaysActivities words words' refs s s' → BumpsClauses levels refs (drop n os) words s words' s'
 takes_last levels refs os n words words' s s' le h = subst (λ ps. BumpsClauses levels refs ps words s words' s') (sym (drop_all os n le)) h
 
 -- IMPROVED GLUE

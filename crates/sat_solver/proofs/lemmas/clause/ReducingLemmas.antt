@@ -6,7 +6,7 @@ use Rattle.std.specs.List.{Contains, filter}
 use Rattle.std.specs.List.Sorted.{IsPermutation}
 use Rattle.sat_base.specs.steps.Steps.{Step, DeleteClause, Redundant}
 use Rattle.sat_store.specs.clause.Buffer.{IsClause, lits_at, header_at}
-use Rattle.sat_store.specs.clause.Header.{is_learned, index_of}
+use Rattle.sat_store.specs.clause.Header.{is_learned, tier_index}
 use Rattle.sat_store.specs.declared.clause.tier.Tier.{Tier}
 use Rattle.sat_store.specs.declared.clause.tier.Tier.TheVariants.{Irred, Local}
 use Rattle.sat_parts.specs.clause.Db.{live_refs, is_live, is_live_in_tier}
@@ -15,19 +15,19 @@ use Rattle.sat_parts.proofs.lemmas.clause.OrderLemmas.{shuffled_eq}
 use Rattle.sat_solver.specs.session.LiveClauses.{with_var}
 use Rattle.sat_solver.specs.session.Session.{Session, IsAllowedStep, after}
 use Rattle.sat_parts.specs.declared.parts.SearchState.{SearchState}
-use Rattle.sat_parts.specs.parts.Assumed.{ArePlaced}
-use Rattle.sat_parts.specs.parts.Frame.{SameState, ChangesHeaders, DropsLongClause, MovesLongClauses}
+use Rattle.sat_parts.specs.parts.Assumed.{PlacesAreCorrect}
+use Rattle.sat_parts.specs.parts.Frame.{SameState, ChangesHeaders, DeletesLongClause, MovesLongClauses}
 use Rattle.sat_parts.specs.parts.Whole.{state, SearchStateInvariant}
 use Rattle.sat_parts.specs.parts.Words.{TrailWordExtends}
 use Rattle.sat_parts.proofs.lemmas.parts.AssumeLemmas.{placed_kept}
 use Rattle.sat_parts.proofs.lemmas.parts.ReduceLemmas.{filter_in}
 use Rattle.sat_parts.proofs.lemmas.parts.WordSteps.{extends_after, extends_refl}
-use Rattle.sat_solver.specs.session.Fits.{SessionMatchesParts}
+use Rattle.sat_solver.specs.session.Matching.{SessionMatchesParts}
 use Rattle.sat_solver.proofs.lemmas.fits.FramedParts.{fits_headed, fits_copied, fits_dropped_redundant}
 use Rattle.sat_solver.specs.declared.context.Search.{Search}
 use Rattle.sat_solver.specs.cdcl.Joint.{global_in, assumed_indices, SearchInvariant, SameVarsAndAssumptions, SameAssumedAndNames}
-use Rattle.sat_solver.specs.unit_simplify.Left.{SameSize}
-use Rattle.sat_solver.specs.clause.Reduced.{IsLearnedLong, IsReason, DeletesIf, ReductionEffect}
+use Rattle.sat_solver.specs.unit_simplify.AfterUnits.{SameSize}
+use Rattle.sat_solver.specs.clause.Reduced.{IsLearnedLong, IsReason, TriesToDelete, ReductionEffect}
 use Rattle.sat_solver.proofs.lemmas.cdcl.TurnLemmas.{moved_refl, moved_trans, ready_moved, free_moved, leaves_refl}
 
 same_state : (p p' : SearchState) → SameState p p' → state p' ≡ state p
@@ -36,9 +36,9 @@ same_state p p' x = rw (x.0, x.1, x.2) refl
 -- LISTS
 
 pub clause_stands : (p : SearchState) (o : ℕ) → SearchStateInvariant p → Contains (live_refs p.clauses p.db.refs) o → IsClause p.clauses o
-clause_stands p o h live = h.below.asks.clauses.holds_clauses.clauses o live
+clause_stands p o h live = h.below.propagation.clauses.holds_clauses.clauses o live
 
-local_learned : (tier : Tier) → index_of tier ≡ 3 → is_learned tier ≡ true
+local_learned : (tier : Tier) → tier_index tier ≡ 3 → is_learned tier ≡ true
 local_learned Irred e = absurd (omega (arith, e))
 local_learned x e = refl
 
@@ -55,7 +55,7 @@ locals_learned p list perm live k lt =
     let both : is_live_in_tier p.clauses Local (get_or list k 0) ≡ true = (filter_in (is_live_in_tier p.clauses Local) p.db.refs (get_or list k 0) there).1 in
     record {
       live = live k lt;
-      learned = local_learned (header_at p.clauses (get_or list k 0)).tier (eqb-true (index_of (header_at p.clauses (get_or list k 0)).tier) (index_of Local) (second_true (is_live p.clauses (get_or list k 0)) (index_of (header_at p.clauses (get_or list k 0)).tier == index_of Local) both));
+      learned = local_learned (header_at p.clauses (get_or list k 0)).tier (eqb-true (tier_index (header_at p.clauses (get_or list k 0)).tier) (tier_index Local) (second_true (is_live p.clauses (get_or list k 0)) (tier_index (header_at p.clauses (get_or list k 0)).tier == tier_index Local) both));
     }
 
 -- THE REST OF THE SEARCH
@@ -70,14 +70,14 @@ reduced_trans s s' a b c x y = record {
   word = extends_after (assumed_indices a) a.parts b.parts c.parts x.word (rw x.moved.lits at y.word);
 }
 
-pub reduced_deleted : (b : Bool) (o : ℕ) (s : Session) (c c' : Search) → DeletesIf b o s c c' → ReductionEffect s c c'
+pub reduced_deleted : (b : Bool) (o : ℕ) (s : Session) (c c' : Search) → TriesToDelete b o s c c' → ReductionEffect s c c'
 reduced_deleted b o s c c' d = record { search = d.search; moved = d.moved; word = d.word (assumed_indices c) }
 
 module _ (s s' : Session) (c c' : Search) (search : SearchInvariant s c) (globals : c'.globals ≡ c.globals) (assumptions : c'.assumptions ≡ c.assumptions) (analysis : c'.analysis ≡ c.analysis) (flags : c'.flags ≡ c.flags) where
   pub still_moved : SameSize c.parts c'.parts → SameVarsAndAssumptions c c'
   still_moved size = record { globals = globals; lits = ap (λ a. a.lits) assumptions; size = size }
 
-  pub still : SameAssumedAndNames s s' → SearchStateInvariant c'.parts → SessionMatchesParts c'.parts s' (global_in c) → SameSize c.parts c'.parts → TrailWordExtends c.parts c'.parts → ArePlaced c.assumptions (state c'.parts) → SearchInvariant s' c'
+  pub still : SameAssumedAndNames s s' → SearchStateInvariant c'.parts → SessionMatchesParts c'.parts s' (global_in c) → SameSize c.parts c'.parts → TrailWordExtends c.parts c'.parts → PlacesAreCorrect c.assumptions (state c'.parts) → SearchInvariant s' c'
   still leaves holds fits size word placed = record {
     valid = record { holds = holds; fits = rw globals fits };
     ready = ready_moved s s' c c' search.ready leaves (still_moved size) (word (assumed_indices c)).0 (rw assumptions placed) (free_moved c c' search.ready.free (still_moved size) analysis flags);
@@ -107,7 +107,7 @@ module _ (s : Session) (c c' : Search) (search : SearchInvariant s c) (globals :
       }
 
   -- the clause is a reason, so nothing was deleted
-  pub deleted_none : (o : ℕ) → IsReason c.parts o → c'.parts ≡ c.parts → DeletesIf false o s c c'
+  pub deleted_none : (o : ℕ) → IsReason c.parts o → c'.parts ≡ c.parts → TriesToDelete false o s c c'
   deleted_none o reason parts =
       let size : SameSize c.parts c'.parts = ap (λ p. length p.assignment.current) parts in
       record {
@@ -118,7 +118,7 @@ module _ (s : Session) (c c' : Search) (search : SearchInvariant s c) (globals :
         tried = (reason, parts);
       }
 
-  module _ (o : ℕ) (learnt : IsLearnedLong c.parts o) (dropped : DropsLongClause c.parts c'.parts o) where
+  module _ (o : ℕ) (learnt : IsLearnedLong c.parts o) (dropped : DeletesLongClause c.parts c'.parts o) where
     abbrev step : Step
     step = DeleteClause (map (with_var (global_in c)) (lits_at c.parts.clauses o)) Redundant
 
@@ -132,7 +132,7 @@ module _ (s : Session) (c c' : Search) (search : SearchInvariant s c) (globals :
 
     -- deleting the clause leaves the rest of the search unchanged
     pub deleted_one : (s' : Session) (clause : List ℕ) → clause ≡ map (with_var (global_in c)) (lits_at c.parts.clauses o) → s' ≡ after (DeleteClause clause Redundant) s → SearchStateInvariant c'.parts → TrailWordExtends c.parts c'.parts →
-        ((p : ℕ) → p ≢ o → Contains (live_refs c.parts.clauses c.parts.db.refs) p → Contains (live_refs c'.parts.clauses c'.parts.db.refs) p) → (IsReason c.parts o → ⊥) → DeletesIf true o s' c c'
+        ((p : ℕ) → p ≢ o → Contains (live_refs c.parts.clauses c.parts.db.refs) p → Contains (live_refs c'.parts.clauses c'.parts.db.refs) p) → (IsReason c.parts o → ⊥) → TriesToDelete true o s' c c'
     deleted_one s' clause e its holds word others free =
         let size : SameSize c.parts c'.parts = ap (λ a. length a.current) dropped.same.0.0 in
         record {

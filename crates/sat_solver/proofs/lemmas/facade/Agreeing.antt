@@ -27,7 +27,7 @@ use Rattle.sat_solver.specs.facade.Inner.{MatchesEngine, view_of}
 use Rattle.sat_base.specs.declared.dimacs.error.DimacsError.{DimacsError}
 use Rattle.sat_solver.specs.solver.Formulas.{is_solver_out_of_memory, with_failed}
 use Rattle.sat_solver.specs.facade.Formulas.{with_fault}
-use Rattle.sat_solver.specs.facade.View.{IsEmpty}
+use Rattle.sat_solver.specs.facade.View.{IsInitial}
 use Rattle.sat_solver.specs.facade.Judged.{CanBeObserved, IsObserved, state_after_name, steps_before}
 
 -- the script state after a call whose result is `r`
@@ -94,13 +94,13 @@ module _ {W L : Type 0} {G : Ghosts L} (seen : W → Writer) (i k : ScriptState)
   mode_matches (Err errors.HasFailed) user judge due IsAllowedStep h e = stays h.same e
   mode_matches (Err x) user judge due IsAllowedStep h e = fails h.2.failed
 
-  pub new_matches : (r : Result ℕ SolverError) → naming.EngineNamesNew seen r a b → k ≡ state_after_name (result_ok r) i → MatchesEngine b k
+  pub new_matches : (r : Result ℕ SolverError) → naming.EngineNewNameResult seen r a b → k ≡ state_after_name (result_ok r) i → MatchesEngine b k
   new_matches (Ok user) h e = goes _ _ h.1.did e
   new_matches (Err errors.VariableLimit) h e = stays h.same e
   new_matches (Err errors.HasFailed) h e = stays h.same e
   new_matches (Err x) h e = fails h.1.failed
 
-  pub unnamed_matches : (x : SolverError) → naming.EngineNamesFail seen x a b → k ≡ i → MatchesEngine b k
+  pub unnamed_matches : (x : SolverError) → naming.EngineObserveFails seen x a b → k ≡ i → MatchesEngine b k
   unnamed_matches errors.VariableLimit h e = absurd h
   unnamed_matches errors.HasFailed h e = stays h.same e
   unnamed_matches x h e = fails h.failed
@@ -172,8 +172,8 @@ module _ {W L : Type 0} {G : Ghosts L} (seen : W → Writer) (i k : ScriptState)
   observed_matches users h q = (h.live, h.agree)
 
 -- a solver in its initial state
-pub starts : {W L : Type 0} {G : Ghosts L} (seen : W → Writer) (j : ScriptState) (s : Engine W L G) → j ≡ initial_state → IsEmpty (view_of seen initial_state s) → IsEmpty (view_of seen j s)
-starts seen j s e h = subst (λ (i : ScriptState). IsEmpty (view_of seen i s)) (sym e) h
+pub starts : {W L : Type 0} {G : Ghosts L} (seen : W → Writer) (j : ScriptState) (s : Engine W L G) → j ≡ initial_state → IsInitial (view_of seen initial_state s) → IsInitial (view_of seen j s)
+starts seen j s e h = subst (λ (i : ScriptState). IsInitial (view_of seen i s)) (sym e) h
 
 -- a solver after an error of a text
 pub faulty_seen : {W L : Type 0} {G : Ghosts L} (seen : W → Writer) (j : ScriptState) (a b : Engine W L G) (fault : DimacsError) → b ≡ with_failed (is_solver_out_of_memory fault) a → view_of seen j b ≡ with_fault fault (view_of seen j a)

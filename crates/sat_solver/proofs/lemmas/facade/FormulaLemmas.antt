@@ -5,13 +5,13 @@ use Rattle.std.proofs.lemmas.List.{append-nil}
 use Rattle.anyhow.specs.declared.error.Error.{Error}
 use Rattle.sat_base.specs.device.Device.{Reader, GaveEnough, GavePrefix, ReadFails}
 use Rattle.sat_base.specs.dimacs.Dimacs.{dimacs, up_to_last_blank}
-use Rattle.sat_base.specs.dimacs.Parsing.{Progress, with_fed, clauses_read, all_taken, FeedsPiece, Finishes, IsSoundSoFar, IsSoundText}
+use Rattle.sat_base.specs.dimacs.Parsing.{Progress, with_fed, clauses_read, with_all_taken, FeedsPiece, FinishEffect, HasNoFaultSoFar, TextHasNoFault}
 use Rattle.sat_base.specs.declared.dimacs.error.DimacsError.{DimacsError}
 use Rattle.sat_base.specs.declared.dimacs.error.DimacsError.TheVariants as texts
 use Rattle.sat_base.proofs.lemmas.device.Given.{enough_front}
 use Rattle.sat_base.proofs.lemmas.dimacs.Parsed.{HasAccepted as HasFed}
 use Rattle.sat_base.proofs.lemmas.dimacs.ReadToEnd.{ReadToEnd}
-use Rattle.sat_checker.specs.DimacsView.{AreRead, FailsAfter}
+use Rattle.sat_checker.specs.DimacsView.{AreClausesRead, ReadingFailsAfter}
 use Rattle.sat_checker.specs.ProofView.{NoReadFailed}
 use Rattle.sat_checker.proofs.lemmas.checker.Texts.{fed_more, open_read, read_by_piece, fails_by_piece, fails_by_end}
 use Rattle.sat_solver.proofs.lemmas.solver.StoppingLemmas.{read_at_end, clean_at_end}
@@ -34,7 +34,7 @@ taken_by_piece (Err texts.OutOfMemory) text piece p q is f = ap (λ (z : Progres
 taken_by_piece (Err texts.Read) text piece p q is f = absurd f
 taken_by_piece (Err texts.HasFailed) text piece p q is f = ap (λ (z : Progress). z.taken) f.1
 
-taken_by_end : (answer : Result Unit DimacsError) (p q : Progress) → Finishes answer p q → q.taken ≡ p.taken
+taken_by_end : (answer : Result Unit DimacsError) (p q : Progress) → FinishEffect answer p q → q.taken ≡ p.taken
 taken_by_end (Err texts.Read) p q f = absurd f
 taken_by_end e p q f = ap (λ (z : Progress). z.taken) f.1
 
@@ -122,8 +122,8 @@ module _ {L : Type 0} (takes : L → Notice → Result Unit Error → L → Type
       stops = s.stops;
     }
 
-    answers_text : (e : SolverError) (answer : Result Unit DimacsError) (new : SolverView L) (from to : Reader) → NoReadFailed from to → ((d : DimacsError) → answer ≡ Err d → FailsAfter d from to (clauses_read q)) → (answer ≡ Err texts.HasFailed → ⊥) →
-        GaveEnough from to (λ text. AreRead text (clauses_read q)) → AddsFormulaRead takes (Err e) answer q cur new → AddsText takes (Err e) old new from to
+    answers_text : (e : SolverError) (answer : Result Unit DimacsError) (new : SolverView L) (from to : Reader) → NoReadFailed from to → ((d : DimacsError) → answer ≡ Err d → ReadingFailsAfter d from to (clauses_read q)) → (answer ≡ Err texts.HasFailed → ⊥) →
+        GaveEnough from to (λ text. AreClausesRead text (clauses_read q)) → AddsFormulaRead takes (Err e) answer q cur new → AddsText takes (Err e) old new from to
     answers_text e answer new from to quiet fails apart read a = elim a.2 [
       | inl r ↦ text_by e old new from to (λ is. apart (r.answered ∙ ap (λ (d : DimacsError). Err d) (fault_apart r.fault (sym r.is ∙ is))))
           (inl (record { going = going; fault = r.fault; is = r.is; clauses = clauses_read q; fails = fails r.fault r.answered; mid = r.mid; added = first_then r.mid a.0 a.1 r.added; new_is = r.new_is }))
@@ -131,7 +131,7 @@ module _ {L : Type 0} (takes : L → Notice → Result Unit Error → L → Type
     ]
 
   -- a chunk was read without a fault, and its clauses were added
-  pub piece_added : (old cur new : SolverView L) (text piece : List ℕ) (p q r : Progress) (answer : Result Unit DimacsError) → HasFed text p → FeedsPiece answer piece p q → r ≡ all_taken q → AddsFormulaRead takes (Ok tt) answer q cur new → AddsAll takes old p.taken cur
+  pub piece_added : (old cur new : SolverView L) (text piece : List ℕ) (p q r : Progress) (answer : Result Unit DimacsError) → HasFed text p → FeedsPiece answer piece p q → r ≡ with_all_taken q → AddsFormulaRead takes (Ok tt) answer q cur new → AddsAll takes old p.taken cur
       → HasFed (text ++ piece) r × (r.taken ≡ (dimacs (up_to_last_blank (text ++ piece))).clauses) × AddsAll takes old r.taken new
   piece_added old cur new text piece p q r answer is f t a added =
       let fed : q ≡ with_fed piece p = (subst (λ (z : Result Unit DimacsError). FeedsPiece z piece p q) a.2.0 f).1 in
@@ -152,7 +152,7 @@ module _ {L : Type 0} (takes : L → Notice → Result Unit Error → L → Type
       a
 
   -- the text has ended
-  pub end_answers : (result : Result Unit SolverError) (answer : Result Unit DimacsError) (old cur new : SolverView L) (from to : Reader) (text : List ℕ) (p q : Progress) → old.failed ≡ false → HasFed text p → Finishes answer p q → NoReadFailed from to
+  pub end_answers : (result : Result Unit SolverError) (answer : Result Unit DimacsError) (old cur new : SolverView L) (from to : Reader) (text : List ℕ) (p q : Progress) → old.failed ≡ false → HasFed text p → FinishEffect answer p q → NoReadFailed from to
       → ReadToEnd from to text text → AddsAll takes old p.taken cur → AddsFormulaRead takes result answer q cur new → AddsText takes result old new from to
   end_answers (Ok x) answer old cur new from to text p q going is f n g added a =
       let first : AddsAll takes old q.taken cur = subst (λ cs. AddsAll takes old cs cur) (sym (taken_by_end answer p q f)) added in
@@ -160,25 +160,25 @@ module _ {L : Type 0} (takes : L → Notice → Result Unit Error → L → Type
         going = going;
         quiet = n;
         clauses = clauses_read q;
-        read = clean_at_end from to text p q is (subst (λ (z : Result Unit DimacsError). Finishes z p q) a.2.0 f) g;
+        read = clean_at_end from to text p q is (subst (λ (z : Result Unit DimacsError). FinishEffect z p q) a.2.0 f) g;
         added = subst (λ cs. AddsAll takes old cs new) (sym a.1) (adds_joined old cur new q.taken a.0 first a.2.1);
       }
   end_answers (Err e) answer old cur new from to text p q going is f n g added a =
       answers_text old cur going q (subst (λ cs. AddsAll takes old cs cur) (sym (taken_by_end answer p q f)) added) e answer new from to n
-      (λ d s. fails_by_end d from to text p q is (subst (λ (z : Result Unit DimacsError). Finishes z p q) s f) n g)
-      (λ s. true≢false (sym (subst (λ (z : Result Unit DimacsError). Finishes z p q) s f).0 ∙ ap (λ (z : Progress). z.stopped) is))
+      (λ d s. fails_by_end d from to text p q is (subst (λ (z : Result Unit DimacsError). FinishEffect z p q) s f) n g)
+      (λ s. true≢false (sym (subst (λ (z : Result Unit DimacsError). FinishEffect z p q) s f).0 ∙ ap (λ (z : Progress). z.stopped) is))
       (read_at_end answer from to text p q is f g)
       a
 
   -- a read failed
-  pub read_answers : (old cur : SolverView L) (from to : Reader) (text : List ℕ) (p : Progress) → old.failed ≡ false → HasFed text p → ReadFails from to → GavePrefix from to text → IsSoundSoFar p → p.taken ≡ (dimacs (up_to_last_blank text)).clauses → AddsAll takes old p.taken cur →
+  pub read_answers : (old cur : SolverView L) (from to : Reader) (text : List ℕ) (p : Progress) → old.failed ≡ false → HasFed text p → ReadFails from to → GavePrefix from to text → HasNoFaultSoFar p → p.taken ≡ (dimacs (up_to_last_blank text)).clauses → AddsAll takes old p.taken cur →
       AddsText takes (Err errors.Read) old cur from to
   read_answers old cur from to text p going is r g s t added = inl (record {
     going = going;
     fault = texts.Read;
     is = refl;
     clauses = p.taken;
-    fails = (r, text, g, subst IsSoundText (ap (λ (z : Progress). z.fed) is) s, t);
+    fails = (r, text, g, subst TextHasNoFault (ap (λ (z : Progress). z.fed) is) s, t);
     mid = cur;
     added = added;
     new_is = same cur (adds_going old cur p.taken going added);

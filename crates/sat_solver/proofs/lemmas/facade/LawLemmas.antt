@@ -11,18 +11,18 @@ use Rattle.sat_solver.specs.declared.error.SolverError.{SolverError}
 use Rattle.sat_solver.specs.declared.error.SolverError.TheVariants as errors
 use Rattle.sat_solver.specs.declared.proof.format.ProofFormat.{ProofFormat}
 use Rattle.sat_solver.specs.proof.OutputView.{text_in, AreSpeltInFormat}
-use Rattle.sat_solver.specs.proof.Prefixes.{TargetTakesPrefix}
-use Rattle.sat_solver.specs.proof.ProofView.{Target, GivesWriter}
+use Rattle.sat_solver.specs.proof.Prefixes.{TargetReceivesPrefix}
+use Rattle.sat_solver.specs.proof.ProofView.{Target, ReturnsWriter}
 use Rattle.sat_solver.specs.solver.Calls.{IsFlushed}
 use Rattle.sat_solver.specs.facade.View.{SolverView}
-use Rattle.sat_solver.specs.facade.Calls.{BreaksOff, ReachesBySteps, TargetAfter}
+use Rattle.sat_solver.specs.facade.Calls.{FailsAfterSteps, ReachesBySteps, TargetAfter}
 use Rattle.sat_solver.specs.facade.Configuring.{Configures}
 use Rattle.sat_solver.specs.facade.Extending.{CallsAddClause, CallsNewVar}
-use Rattle.sat_solver.specs.facade.Laws.{CallsGoOn, FlushedIsText}
-use Rattle.sat_solver.specs.facade.Proving.{AddsProcessor, Enables}
+use Rattle.sat_solver.specs.facade.Laws.{CallsReachBySteps, FlushedIsText}
+use Rattle.sat_solver.specs.facade.Proving.{AddsProcessor, EnablesChecking}
 use Rattle.sat_solver.proofs.lemmas.session.ProofLemmas.{carries_none, text_spells}
 
-after : (e : SolverError) (old : Target) (steps : List Step) (new : Target) → TargetAfter e old steps new → TargetTakesPrefix old steps new
+after : (e : SolverError) (old : Target) (steps : List Step) (new : Target) → TargetAfter e old steps new → TargetReceivesPrefix old steps new
 after (errors.ProofIoError cause) old steps new h = inr ([], steps, refl, h)
 after e old steps new h = inl h
 
@@ -33,14 +33,14 @@ module _ {L : Type 0} (old : SolverView L) where
   stays : (new : SolverView L) → new ≡ old → ReachesBySteps old new
   stays new h = subst (λ (w : SolverView L). ReachesBySteps old w) (sym h) still
 
-  breaks : (e : SolverError) (new : SolverView L) → BreaksOff e old new → ReachesBySteps old new
+  breaks : (e : SolverError) (new : SolverView L) → FailsAfterSteps e old new → ReachesBySteps old new
   breaks e new h = record { steps = h.steps; history = h.history; target = after e old.target h.steps new.target h.target }
 
   alike : (new w : SolverView L) → w.steps ≡ old.steps → w.target ≡ old.target → new ≡ w → ReachesBySteps old new
   alike new w steps target h = subst (λ (u : SolverView L). ReachesBySteps old u) (sym h) (record {
     steps = [];
     history = steps;
-    target = subst (λ (t : Target). TargetTakesPrefix old.target [] t) (sym target) (inl (carries_none old.target));
+    target = subst (λ (t : Target). TargetReceivesPrefix old.target [] t) (sym target) (inl (carries_none old.target));
   })
 
   configures : (r : Result (Unit {0}) SolverError) (u : SolverConfigUpdate) (new : SolverView L) → Configures r u old new → ReachesBySteps old new
@@ -49,7 +49,7 @@ module _ {L : Type 0} (old : SolverView L) where
   configures (Err errors.OutOfRange) u new h = stays new h.same
   configures (Err e) u new h = absurd h
 
-  enables : (r : Result (Unit {0}) SolverError) (new : SolverView L) → Enables r old new → ReachesBySteps old new
+  enables : (r : Result (Unit {0}) SolverError) (new : SolverView L) → EnablesChecking r old new → ReachesBySteps old new
   enables (Ok x) new h = alike new _ refl refl h.same
   enables (Err errors.HasFailed) new h = stays new h.same
   enables (Err errors.TooLate) new h = stays new h.same
@@ -62,11 +62,11 @@ module _ {L : Type 0} (old : SolverView L) where
   listens (Err errors.OutOfMemory) processor new h = record {
     steps = [];
     history = h.steps;
-    target = subst (λ (t : Target). TargetTakesPrefix old.target [] t) (sym h.target) (inl (carries_none old.target));
+    target = subst (λ (t : Target). TargetReceivesPrefix old.target [] t) (sym h.target) (inl (carries_none old.target));
   }
   listens (Err e) processor new h = absurd h
 
-  pub calls_go_on : (new : SolverView L) → CallsGoOn old new
+  pub calls_go_on : (new : SolverView L) → CallsReachBySteps old new
   calls_go_on new = record {
     makes = λ h. record { steps = h.steps; history = h.history; target = inl h.target };
     breaks = λ e. breaks e new;
@@ -90,7 +90,7 @@ name_extended (Err e) old new h = h
 pub flushed_is_text : FlushedIsText
 flushed_is_text f from given steps now h flushed g =
     let k = subst (λ (z : Target). IsFlushed z) h.2 flushed in
-    let q : Some given ≡ Some h.1.writer = subst (λ (z : Target). GivesWriter z (Some given)) h.2 g in
+    let q : Some given ≡ Some h.1.writer = subst (λ (z : Target). ReturnsWriter z (Some given)) h.2 g in
     let same : h.1.writer ≡ given = cc in
     let sent = h.3.wrote.sent in
     let all : sent.fresh ≡ text_in f h.3.written = sym (append-nil sent.fresh) ∙ ap (λ (z : List ℕ). sent.fresh ++ z) (sym k.0) ∙ sym sent.flows in

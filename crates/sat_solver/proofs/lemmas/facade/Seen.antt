@@ -13,8 +13,8 @@ use Rattle.sat_checker.specs.matching.Bridge.{IsBridge}
 use Rattle.sat_checker.specs.matching.Expected.{Expected}
 use Rattle.sat_checker.specs.matching.ProofChecking.{checker_rules}
 use Rattle.sat_solver.specs.cdcl.StepEffects.{EmitsUpToFault}
-use Rattle.sat_solver.specs.session.Making.{ComesBySteps}
-use Rattle.sat_solver.specs.proof.ProofView.{TargetTakes, FailsCheck, target_of, steps_of, proof_listeners, has_missed_step, has_asked}
+use Rattle.sat_solver.specs.session.Emitting.{EmitsSomeSteps}
+use Rattle.sat_solver.specs.proof.ProofView.{TargetReceives, FailsCheck, target_of, steps_of, proof_listeners, has_missed_step, has_asked}
 use Rattle.sat_solver.specs.declared.error.SolverError.{SolverError}
 use Rattle.sat_solver.specs.declared.error.SolverError.TheVariants as errors
 use Rattle.sat_solver.specs.declared.proof.Proof.{Proof}
@@ -38,10 +38,10 @@ use Rattle.sat_solver.proofs.lemmas.facade.Agreeing.{before_them}
 use Rattle.sat_solver.specs.solver.Prefixes as prefixes
 use Rattle.sat_solver.proofs.lemmas.session.ProofLemmas.{carries_none}
 use Rattle.sat_checker.specs.matching.Expected.{Unknown}
-use Rattle.sat_solver.specs.facade.Calls.{BreaksOff, Effect, Fails, FailsAtNames, HasFullStore, MakesOrdered, MakesSteps, ReachesBySteps, Refuses, TargetAfter, Writes}
-use Rattle.sat_solver.specs.facade.Adding.{Added, AddsClause, AreSampled, AssumesOrRefuses, HasWitness, LacksRoomForNames, StepsOfAssumptions, StepsOfClause}
-use Rattle.sat_solver.specs.facade.Answers.{Answered, CountsRounds, HasNoCore, HasNone, IsCore, IsModel, ModelFails, Solves, StepsOfAsk, core_for}
-use Rattle.sat_solver.specs.facade.Naming.{ChangesMode, NamesFail, NamesNew, Observed, ObservesBetween, OnlyMakes, NameCallEffect, due_for_name, name_value, variable_value}
+use Rattle.sat_solver.specs.facade.Calls.{FailsAfterSteps, Effect, Fails, NameCallFails, HasFullStore, MakesOrdered, MakesSteps, ReachesBySteps, Refuses, TargetAfter, WritesSteps}
+use Rattle.sat_solver.specs.facade.Adding.{Added, AddsClause, HasNoWitness, AssumesOrRefuses, HasWitness, LacksRoomForNames, StepsOfAssumptions, StepsOfClause}
+use Rattle.sat_solver.specs.facade.Answers.{Answered, CountsRounds, HasNoCore, HasNoModel, IsCore, IsModel, ModelFails, Solves, StepsOfAsk, core_for}
+use Rattle.sat_solver.specs.facade.Naming.{ChangesMode, ObserveFails, NewNameResult, Observed, ObservesBetween, OnlyMakes, NameCallEffect, due_for_name, name_value, variable_value}
 use Rattle.sat_solver.specs.solver.Naming.{IsKeptOrFalse}
 use Rattle.sat_solver.specs.variables.Variables.{global_of}
 
@@ -67,12 +67,12 @@ module _ {W L : Type 0} {G : Ghosts L} (seen : W → Writer) (i k : ScriptState)
   witness : (a : Engine W L G) (user : List ℕ) → MatchesEngine a i → a.failed ≡ false → adding.EngineHasWitness a user → HasWitness (v a) user
   witness a user m going h = let x = m going in h i x.0 x.1
 
-  sampled : (a : Engine W L G) (user : List ℕ) → MatchesEngine a i → a.failed ≡ false → adding.EngineAreSampled a user → AreSampled (v a) user
+  sampled : (a : Engine W L G) (user : List ℕ) → MatchesEngine a i → a.failed ≡ false → adding.EngineHasNoWitness a user → HasNoWitness (v a) user
   sampled a user m going h = let x = m going in h i x.0 x.1
 
   -- STEPS
 
-  pub made : (a b : Engine W L G) → ComesBySteps seen a.context.proof b.context.proof → MakesSteps (v a) (w b)
+  pub made : (a b : Engine W L G) → EmitsSomeSteps seen a.context.proof b.context.proof → MakesSteps (v a) (w b)
   made a b t = record { steps = t.0; history = t.1.history; listening = t.1.listening; target = t.1.target }
 
   pub did : (a b : Engine W L G) (judge : ScriptState → ScriptState) (due : ScriptState → List Expected) → calls.CallEffect seen a b judge due → k ≡ judge i → Effect (v a) (w b) judge
@@ -95,7 +95,7 @@ module _ {W L : Type 0} {G : Ghosts L} (seen : W → Writer) (i k : ScriptState)
   abbrev pub Broke : SolverError → List Step → Proof W L G → Proof W L G → Type 0
   Broke e steps p q = (steps_of q ≡ steps ++ steps_of p) × (proof_listeners q ≡ proof_listeners p) × TargetAfter e (target_of seen p) steps (target_of seen q)
 
-  checked : {fault : CheckFault} (steps : List Step) (p q : Proof W L G) → FailsCheck seen fault steps p q → (steps_of q ≡ steps ++ steps_of p) × (proof_listeners q ≡ proof_listeners p) × TargetTakes (target_of seen p) steps (target_of seen q)
+  checked : {fault : CheckFault} (steps : List Step) (p q : Proof W L G) → FailsCheck seen fault steps p q → (steps_of q ≡ steps ++ steps_of p) × (proof_listeners q ≡ proof_listeners p) × TargetReceives (target_of seen p) steps (target_of seen q)
   checked steps p q h = (h.adds.history, h.adds.listening, h.adds.target)
 
   pub broke : (e : SolverError) (steps : List Step) (p q : Proof W L G) → EmitsUpToFault {A = Unit {0}} seen (Err e) steps p q → Broke e steps p q
@@ -104,10 +104,10 @@ module _ {W L : Type 0} {G : Ghosts L} (seen : W → Writer) (i k : ScriptState)
   broke errors.CounterEnd steps p q h = checked steps p q h
   broke e steps p q h = (h.history, h.listening, h.target)
 
-  off : (e : SolverError) (steps : List Step) (a b : Engine W L G) → Broke e steps a.context.proof b.context.proof → BreaksOff e (v a) (w b)
+  off : (e : SolverError) (steps : List Step) (a b : Engine W L G) → Broke e steps a.context.proof b.context.proof → FailsAfterSteps e (v a) (w b)
   off e steps a b h = record { steps = steps; history = h.0; listening = h.1; target = h.2 }
 
-  pub names_failed : (full : Type 0) (e : SolverError) (a b : Engine W L G) → adding.EndsNamesOr full seen e a b → FailsAtNames full e (v a) (w b)
+  pub names_failed : (full : Type 0) (e : SolverError) (a b : Engine W L G) → adding.EngineNameCallFailsOr full seen e a b → NameCallFails full e (v a) (w b)
   names_failed full e a b h = record {
     fails = record {
       going = h.going;
@@ -126,17 +126,17 @@ module _ {W L : Type 0} {G : Ghosts L} (seen : W → Writer) (i k : ScriptState)
 
   -- WHAT WAS WRITTEN
 
-  calm : (e : SolverError) (a b : Engine W L G) → IsOther e → MakesSteps (v a) (w b) → BreaksOff e (v a) (w b)
+  calm : (e : SolverError) (a b : Engine W L G) → IsOther e → MakesSteps (v a) (w b) → FailsAfterSteps e (v a) (w b)
   calm (errors.ProofIoError cause) a b n m = absurd n
   calm e a b n m = record { steps = m.steps; history = m.history; listening = m.listening; target = m.target }
 
   stood : (a b : Engine W L G) → b ≡ a → MakesSteps (v a) (w b)
   stood a b h = subst (λ (s : Engine W L G). MakesSteps (v a) (w s)) (sym h) (record { steps = []; history = refl; listening = refl; target = carries_none (target_of seen a.context.proof) })
 
-  stopped_so : (e : SolverError) (a b : Engine W L G) (steps : List Step) → EmitsUpToFault {A = Unit {0}} seen (Err e) steps a.context.proof b.context.proof → BreaksOff e (v a) (w b)
+  stopped_so : (e : SolverError) (a b : Engine W L G) (steps : List Step) → EmitsUpToFault {A = Unit {0}} seen (Err e) steps a.context.proof b.context.proof → FailsAfterSteps e (v a) (w b)
   stopped_so e a b steps h = off e steps a b (broke e steps a.context.proof b.context.proof h)
 
-  pub clause_wrote : (r : Result (Unit {0}) SolverError) (a b : Engine W L G) (user : List ℕ) → adding.EngineAddsClause seen r a b user → Writes r (v a) (w b)
+  pub clause_wrote : (r : Result (Unit {0}) SolverError) (a b : Engine W L G) (user : List ℕ) → adding.EngineAddsClause seen r a b user → WritesSteps r (v a) (w b)
   clause_wrote (Ok x) a b user h = made a b h.did.took
   clause_wrote (Err errors.WitnessVariable) a b user h = calm errors.WitnessVariable a b tt (stood a b h.same)
   clause_wrote (Err errors.NotInDrat) a b user h = calm errors.NotInDrat a b tt (stood a b h.same)
@@ -144,7 +144,7 @@ module _ {W L : Type 0} {G : Ghosts L} (seen : W → Writer) (i k : ScriptState)
   clause_wrote (Err errors.HasFailed) a b user h = calm errors.HasFailed a b tt (stood a b h.same)
   clause_wrote (Err e) a b user h = stopped_so e a b h.2.breaks.steps h.2.breaks.went
 
-  pub assumptions_wrote : (r : Result (Unit {0}) SolverError) (a b : Engine W L G) (user : List ℕ) → adding.EngineAssumesOrRefuses seen r a b user → Writes r (v a) (w b)
+  pub assumptions_wrote : (r : Result (Unit {0}) SolverError) (a b : Engine W L G) (user : List ℕ) → adding.EngineAssumesOrRefuses seen r a b user → WritesSteps r (v a) (w b)
   assumptions_wrote (Ok x) a b user h = made a b (h.did Unknown).took
   assumptions_wrote (Err errors.WitnessVariable) a b user h = calm errors.WitnessVariable a b tt (stood a b h.same)
   assumptions_wrote (Err errors.NotInDrat) a b user h = calm errors.NotInDrat a b tt (stood a b h.same)
@@ -152,25 +152,25 @@ module _ {W L : Type 0} {G : Ghosts L} (seen : W → Writer) (i k : ScriptState)
   assumptions_wrote (Err errors.HasFailed) a b user h = calm errors.HasFailed a b tt (stood a b h.same)
   assumptions_wrote (Err e) a b user h = stopped_so e a b h.2.breaks.steps h.2.breaks.went
 
-  pub mode_wrote : (r : Result (Unit {0}) SolverError) (a b : Engine W L G) (user : ℕ) (judge : ScriptState → ScriptState) (due : ScriptState → List Expected) (IsAllowedStep : List Step → Step → Type 0) → naming.EngineChangesMode seen r a b user judge due IsAllowedStep → Writes r (v a) (w b)
+  pub mode_wrote : (r : Result (Unit {0}) SolverError) (a b : Engine W L G) (user : ℕ) (judge : ScriptState → ScriptState) (due : ScriptState → List Expected) (IsAllowedStep : List Step → Step → Type 0) → naming.EngineChangesMode seen r a b user judge due IsAllowedStep → WritesSteps r (v a) (w b)
   mode_wrote (Ok x) a b user judge due IsAllowedStep h = made a b h.1.did.took
   mode_wrote (Err errors.AssumedVariable) a b user judge due IsAllowedStep h = calm errors.AssumedVariable a b tt (stood a b h.same)
   mode_wrote (Err errors.VariableLimit) a b user judge due IsAllowedStep h = calm errors.VariableLimit a b tt (stood a b h.same)
   mode_wrote (Err errors.HasFailed) a b user judge due IsAllowedStep h = calm errors.HasFailed a b tt (stood a b h.same)
   mode_wrote (Err e) a b user judge due IsAllowedStep h = stopped_so e a b h.2.breaks.steps h.2.breaks.went
 
-  pub new_wrote : (r : Result ℕ SolverError) (a b : Engine W L G) → naming.EngineNamesNew seen r a b → Writes r (v a) (w b)
+  pub new_wrote : (r : Result ℕ SolverError) (a b : Engine W L G) → naming.EngineNewNameResult seen r a b → WritesSteps r (v a) (w b)
   new_wrote (Ok user) a b h = made a b h.1.did.took
   new_wrote (Err errors.VariableLimit) a b h = calm errors.VariableLimit a b tt (stood a b h.same)
   new_wrote (Err errors.HasFailed) a b h = calm errors.HasFailed a b tt (stood a b h.same)
   new_wrote (Err e) a b h = stopped_so e a b h.1.breaks.steps h.1.breaks.went
 
-  pub observing_wrote : (e : SolverError) (a b : Engine W L G) → naming.EngineNamesFail seen e a b → BreaksOff e (v a) (w b)
+  pub observing_wrote : (e : SolverError) (a b : Engine W L G) → naming.EngineObserveFails seen e a b → FailsAfterSteps e (v a) (w b)
   observing_wrote errors.VariableLimit a b h = absurd h
   observing_wrote errors.HasFailed a b h = calm errors.HasFailed a b tt (stood a b h.same)
   observing_wrote e a b h = stopped_so e a b h.breaks.steps h.breaks.went
 
-  pub solve_wrote : (r : Result Bool SolverError) (a b : Engine W L G) → calls.EngineSolves seen r a b → Writes r (v a) (w b)
+  pub solve_wrote : (r : Result Bool SolverError) (a b : Engine W L G) → calls.EngineSolves seen r a b → WritesSteps r (v a) (w b)
   solve_wrote (Ok sat) a b h = made a b h.0.did.took
   solve_wrote (Err errors.Interrupted) a b h = calm errors.Interrupted a b tt (made a b h.0.did.took)
   solve_wrote (Err errors.HasFailed) a b h = calm errors.HasFailed a b tt (stood a b h.same)
@@ -252,13 +252,13 @@ module _ {W L : Type 0} {G : Ghosts L} (seen : W → Writer) (i k : ScriptState)
   mode_changed (Err errors.HasFailed) a b user judge due IsAllowedStep e h = refused a b _ e h
   mode_changed (Err x) a b user judge due IsAllowedStep e h = (h.0, h.1, names_failed _ x a b h.2)
 
-  pub named : (r : Result ℕ SolverError) (a b : Engine W L G) → MatchesEngine a i → k ≡ state_after_name (result_ok r) i → naming.EngineNamesNew seen r a b → NamesNew r (v a) (w b)
+  pub named : (r : Result ℕ SolverError) (a b : Engine W L G) → MatchesEngine a i → k ≡ state_after_name (result_ok r) i → naming.EngineNewNameResult seen r a b → NewNameResult r (v a) (w b)
   named (Ok user) a b m e h = let x = m h.1.did.going in (h.0 i x.0 x.1, renamed a b _ _ _ e h.1)
   named (Err errors.VariableLimit) a b m e h = refused a b _ e h
   named (Err errors.HasFailed) a b m e h = refused a b _ e h
   named (Err x) a b m e h = (h.0, names_failed _ x a b h.1)
 
-  pub unnamed : (x : SolverError) (a b : Engine W L G) → k ≡ i → naming.EngineNamesFail seen x a b → NamesFail x (v a) (w b)
+  pub unnamed : (x : SolverError) (a b : Engine W L G) → k ≡ i → naming.EngineObserveFails seen x a b → ObserveFails x (v a) (w b)
   unnamed errors.VariableLimit a b e h = absurd h
   unnamed errors.HasFailed a b e h = refused a b _ e h
   unnamed x a b e h = names_failed _ x a b h
@@ -284,7 +284,7 @@ module _ {W L : Type 0} {G : Ghosts L} (seen : W → Writer) (i k : ScriptState)
   mode_steps (Ok x) a b user judge due IsAllowedStep m h = record { ordered = traced a b judge due m h.1.did; comes = h.1.comes }
   mode_steps (Err e) a b user judge due IsAllowedStep m h = tt
 
-  pub new_steps : (r : Result ℕ SolverError) (a b : Engine W L G) → MatchesEngine a i → naming.EngineNamesNew seen r a b → IfOk r (λ user. OnlyMakes IsDue (due_for_name user) (v a) (w b))
+  pub new_steps : (r : Result ℕ SolverError) (a b : Engine W L G) → MatchesEngine a i → naming.EngineNewNameResult seen r a b → IfOk r (λ user. OnlyMakes IsDue (due_for_name user) (v a) (w b))
   new_steps (Ok user) a b m h = record { ordered = traced a b _ (due_for_name user) m h.1.did; comes = h.1.comes }
   new_steps (Err e) a b m h = tt
 
@@ -293,7 +293,7 @@ module _ {W L : Type 0} {G : Ghosts L} (seen : W → Writer) (i k : ScriptState)
   clauses_steps (Err e) a b user m h = tt
 
   pub assumed_steps : (r : Result (Unit {0}) SolverError) (a b : Engine W L G) (user : List ℕ) → MatchesEngine a i → adding.EngineAssumesOrRefuses seen r a b user → OnOk r (StepsOfAssumptions (v a) (w b) user)
-  assumed_steps (Ok x) a b user m h = record { ordered = λ o. traced a b _ (adding.due_for_asked o user) m (h.did o); comes = h.comes; asked = h.asked }
+  assumed_steps (Ok x) a b user m h = record { ordered = λ o. traced a b _ (adding.due_for_assumptions o user) m (h.did o); comes = h.comes; asked = h.asked }
   assumed_steps (Err e) a b user m h = tt
 
   -- ANSWERS
@@ -347,11 +347,11 @@ module _ {W L : Type 0} {G : Ghosts L} (seen : W → Writer) (i k : ScriptState)
   observed_if (Ok users) a b h = observed a b users.items h
   observed_if (Err e) a b h = h
 
-  pub unnamed_if : (r : Result (Vec ℕ) SolverError) (a b : Engine W L G) → k ≡ i → IfErr r (λ e. naming.EngineNamesFail seen e a b) → IfErr r (λ e. NamesFail e (v a) (w b))
+  pub unnamed_if : (r : Result (Vec ℕ) SolverError) (a b : Engine W L G) → k ≡ i → IfErr r (λ e. naming.EngineObserveFails seen e a b) → IfErr r (λ e. ObserveFails e (v a) (w b))
   unnamed_if (Ok users) a b e h = h
   unnamed_if (Err x) a b e h = unnamed x a b e h
 
-  pub observing_text : (r : Result (Vec ℕ) SolverError) (a b : Engine W L G) → IfOk r (λ users. naming.EngineObserved seen a b users.items) → IfErr r (λ e. naming.EngineNamesFail seen e a b) → Writes r (v a) (w b)
+  pub observing_text : (r : Result (Vec ℕ) SolverError) (a b : Engine W L G) → IfOk r (λ users. naming.EngineObserved seen a b users.items) → IfErr r (λ e. naming.EngineObserveFails seen e a b) → WritesSteps r (v a) (w b)
   observing_text (Ok users) a b h k = made a b h.steps.took
   observing_text (Err e) a b h k = observing_wrote e a b k
 
@@ -371,7 +371,7 @@ module _ {W L : Type 0} {G : Ghosts L} (seen : W → Writer) (i k : ScriptState)
   right_model : (a : Engine W L G) → MatchesEngine a i → (line : List ℕ) → EngineIsModel a line → IsModel (v a) line
   right_model a m line h = let x = m h.going in record { going = h.going; answer = h.answer; line_is = h.line_is; right = h.right i x.0 x.1 }
 
-  pub model_if : (r : Result (Option (Vec ℕ)) SolverError) (a : Engine W L G) → MatchesEngine a i → IfOk r (λ o. MatchOption o (EngineHasNone a) (λ lits. EngineIsModel a lits.items)) → IfOk r (λ o. MatchOption o (HasNone (v a)) (λ lits. IsModel (v a) lits.items))
+  pub model_if : (r : Result (Option (Vec ℕ)) SolverError) (a : Engine W L G) → MatchesEngine a i → IfOk r (λ o. MatchOption o (EngineHasNone a) (λ lits. EngineIsModel a lits.items)) → IfOk r (λ o. MatchOption o (HasNoModel (v a)) (λ lits. IsModel (v a) lits.items))
   model_if (Ok None) a m h = h
   model_if (Ok (Some lits)) a m h = right_model a m lits.items h
   model_if (Err e) a m h = h

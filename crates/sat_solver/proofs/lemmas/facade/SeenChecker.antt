@@ -22,7 +22,7 @@ use Rattle.sat_solver.specs.declared.proof.emitted.CheckFault.TheVariants as che
 use Rattle.sat_solver.specs.declared.proof.emitted.EmittedSteps.{EmittedSteps}
 use Rattle.sat_solver.specs.declared.solver.Engine.{Engine}
 use Rattle.sat_solver.specs.proof.Checked.{listeners_of_checked}
-use Rattle.sat_solver.specs.proof.EmittedView.{HasListeners, IsUpToDate, LastWidthIsIn, MadeListenersAtRestart, OwnCheckerFailed, listed_in}
+use Rattle.sat_solver.specs.proof.EmittedView.{HasListeners, IsUpToDate, LastWidthIsIn, EmittedListenersAtRestart, OwnCheckerFailed, listed_in}
 use Rattle.sat_solver.specs.proof.ProofView as proofs
 use Rattle.sat_solver.specs.proof.ProofView.{has_missed_step, steps_of}
 use Rattle.sat_solver.specs.solver.Adding as adding
@@ -32,7 +32,7 @@ use Rattle.sat_solver.specs.solver.Naming as naming
 use Rattle.sat_solver.specs.solver.Proving as proving
 use Rattle.sat_solver.specs.facade.Inner.{own_checker}
 use Rattle.sat_solver.specs.facade.Checking.{AllStepsReported, CheckerAfter, CheckerAfterAsk, CheckerAfterClosing, CheckerAfterError, CheckerFailed, FailedAskChecks, FailsAfterHearing, FlushFails, KeepsWidth, ReportsAsk}
-use Rattle.sat_solver.specs.facade.Proving.{listed}
+use Rattle.sat_solver.specs.facade.Proving.{own_listeners}
 use Rattle.sat_solver.proofs.lemmas.facade.Seen.{v, w}
 
 -- a checker that was set to this width last
@@ -51,7 +51,7 @@ failure_seen takes fault None added steps h = h
 failure_seen takes fault (Some own) added steps h = (∥∥₁_elim h.0 ∥∥₁_prop (λ heard. ∣ record { now = listeners_of (listeners_of_checked own); heard = heard } ∣₁), h.1)
 
 -- the listeners of a checker that has missed no step
-pub begun_seen : {L : Type 0} {G : Ghosts L} (lost : Bool) (m : EmittedSteps L G) (o : Option (List L)) (begun : List L) → lost ≡ false → MadeListenersAtRestart lost m o begun → begun ≡ listed o
+pub begun_seen : {L : Type 0} {G : Ghosts L} (lost : Bool) (m : EmittedSteps L G) (o : Option (List L)) (begun : List L) → lost ≡ false → EmittedListenersAtRestart lost m o begun → begun ≡ own_listeners o
 begun_seen true m o begun e h = absurd (true≢false e)
 begun_seen false m None begun e h = h
 begun_seen false m (Some added) begun e h = h
@@ -70,7 +70,7 @@ module _ {W L : Type 0} {G : Ghosts L} (seen : W → Writer) (i k : ScriptState)
   kept : (a b : Engine W L G) → b ≡ a → has_missed_step b.context.proof ≡ has_missed_step a.context.proof
   kept a b h = ap (λ (s : Engine W L G). has_missed_step s.context.proof) h
 
-  after_error : (e : SolverError) (steps : List Step) (a b : Engine W L G) → faults.NamesLoss e a.context.proof b.context.proof → EmitsUpToFault {A = Unit {0}} seen (Err e) steps a.context.proof b.context.proof → CheckerAfterError G.takes e (v seen i k a) (w seen i k b)
+  after_error : (e : SolverError) (steps : List Step) (a b : Engine W L G) → faults.MissesOnlyByFault e a.context.proof b.context.proof → EmitsUpToFault {A = Unit {0}} seen (Err e) steps a.context.proof b.context.proof → CheckerAfterError G.takes e (v seen i k a) (w seen i k b)
   after_error (errors.ProofIoError cause) steps a b loss h = tt
   after_error (errors.ProofProcessorError cause) steps a b loss h = failed (checks.Processor cause) b h.why
   after_error errors.CounterEnd steps a b loss h = failed checks.CounterEnd b h.why
@@ -80,7 +80,7 @@ module _ {W L : Type 0} {G : Ghosts L} (seen : W → Writer) (i k : ScriptState)
   ]
   after_error e steps a b loss h = loss
 
-  names_error : (full : Type 0) (e : SolverError) (a b : Engine W L G) → adding.EndsNamesOr full seen e a b → CheckerAfterError G.takes e (v seen i k a) (w seen i k b)
+  names_error : (full : Type 0) (e : SolverError) (a b : Engine W L G) → adding.EngineNameCallFailsOr full seen e a b → CheckerAfterError G.takes e (v seen i k a) (w seen i k b)
   names_error full e a b h = after_error e h.breaks.steps a b h.breaks.loss h.breaks.went
 
   pub clause_checked : (r : Result (Unit {0}) SolverError) (a b : Engine W L G) (user : List ℕ) → adding.EngineAddsClause seen r a b user → CheckerAfter G.takes r (v seen i k a) (w seen i k b)
@@ -106,18 +106,18 @@ module _ {W L : Type 0} {G : Ghosts L} (seen : W → Writer) (i k : ScriptState)
   mode_checked (Err errors.HasFailed) a b user judge due IsAllowedStep h = kept a b h.same
   mode_checked (Err e) a b user judge due IsAllowedStep h = names_error _ e a b h.2
 
-  pub new_checked : (r : Result ℕ SolverError) (a b : Engine W L G) → naming.EngineNamesNew seen r a b → CheckerAfter G.takes r (v seen i k a) (w seen i k b)
+  pub new_checked : (r : Result ℕ SolverError) (a b : Engine W L G) → naming.EngineNewNameResult seen r a b → CheckerAfter G.takes r (v seen i k a) (w seen i k b)
   new_checked (Ok user) a b h = keeps_width a b h.1.did.width
   new_checked (Err errors.VariableLimit) a b h = kept a b h.same
   new_checked (Err errors.HasFailed) a b h = kept a b h.same
   new_checked (Err e) a b h = names_error _ e a b h.1
 
-  pub unnamed_checked : (e : SolverError) (a b : Engine W L G) → naming.EngineNamesFail seen e a b → CheckerAfterError G.takes e (v seen i k a) (w seen i k b)
+  pub unnamed_checked : (e : SolverError) (a b : Engine W L G) → naming.EngineObserveFails seen e a b → CheckerAfterError G.takes e (v seen i k a) (w seen i k b)
   unnamed_checked errors.VariableLimit a b h = absurd h
   unnamed_checked errors.HasFailed a b h = kept a b h.same
   unnamed_checked e a b h = names_error _ e a b h
 
-  pub observing_checked : (r : Result (Vec ℕ) SolverError) (a b : Engine W L G) → IfOk r (λ users. naming.EngineObserved seen a b users.items) → IfErr r (λ e. naming.EngineNamesFail seen e a b) → CheckerAfter G.takes r (v seen i k a) (w seen i k b)
+  pub observing_checked : (r : Result (Vec ℕ) SolverError) (a b : Engine W L G) → IfOk r (λ users. naming.EngineObserved seen a b users.items) → IfErr r (λ e. naming.EngineObserveFails seen e a b) → CheckerAfter G.takes r (v seen i k a) (w seen i k b)
   observing_checked (Ok users) a b h x = keeps_width a b h.steps.width
   observing_checked (Err e) a b h x = unnamed_checked e a b x
 

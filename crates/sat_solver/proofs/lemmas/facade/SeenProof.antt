@@ -6,12 +6,12 @@ use Rattle.sat_base.specs.device.Device.{Writer}
 use Rattle.sat_base.specs.script.ScriptState.{ScriptState}
 use Rattle.sat_base.specs.steps.Steps.{Step, End}
 use Rattle.sat_checker.specs.declared.processing.ProofProcessor.{Ghosts}
-use Rattle.sat_solver.specs.proof.Prefixes.{PrefixSince, TargetTakesPrefix}
+use Rattle.sat_solver.specs.proof.Prefixes.{PrefixSince, TargetReceivesPrefix}
 use Rattle.sat_solver.specs.proof.ProofView as proofs
-use Rattle.sat_solver.specs.proof.ProofView.{Target, TargetTakes, GivesWriter, returned_writer, target_of, steps_of, proof_listeners, has_missed_step}
+use Rattle.sat_solver.specs.proof.ProofView.{Target, TargetReceives, ReturnsWriter, returned_writer, target_of, steps_of, proof_listeners, has_missed_step}
 use Rattle.sat_solver.specs.session.Session.{AreAllowedSteps}
 use Rattle.std.specs.Global.{Vec}
-use Rattle.sat_parts.specs.clause.Activity.{Scale}
+use Rattle.sat_parts.specs.clause.Activity.{ActivityScale}
 use Rattle.sat_parts.specs.declared.parts.SearchState.{SearchState}
 use Rattle.sat_solver.specs.Configs.{updated}
 use Rattle.sat_solver.specs.declared.config.SolverConfigUpdate.{SolverConfigUpdate}
@@ -26,12 +26,12 @@ use Rattle.sat_solver.specs.declared.state.SatState.TheVariants as states
 use Rattle.sat_solver.specs.solver.Configuring as configuring
 use Rattle.sat_solver.specs.solver.Progressing as progressing
 use Rattle.sat_solver.specs.solver.Proving as proving
-use Rattle.sat_solver.specs.solver.Whole.{IsSolver}
+use Rattle.sat_solver.specs.solver.Whole.{EngineInvariant}
 use Rattle.sat_solver.specs.facade.Answers.{IsOngoing}
 use Rattle.sat_solver.specs.facade.View.{Checking, SolverView}
 use Rattle.sat_solver.specs.facade.Inner.{MatchesEngine, progress_of}
 use Rattle.sat_solver.specs.facade.Configuring.{Configures, decay_after}
-use Rattle.sat_solver.specs.facade.Proving.{AddsProcessor, listed, ClosesProof, ClosesText, Enables, IsCertificate, IsDratRefutation, MakesLast, OpensProof, ReturnsAcceptedPrefix, writer_given}
+use Rattle.sat_solver.specs.facade.Proving.{AddsProcessor, own_listeners, ClosesProof, ClosesText, EnablesChecking, IsCertificate, IsDratRefutation, MakesLast, OpensProof, ReturnsAcceptedPrefix, writer_given}
 use Rattle.sat_solver.proofs.lemmas.session.PrefixLemmas.{fronts_are_accepted}
 use Rattle.sat_solver.proofs.lemmas.session.ProofLemmas.{carries_none}
 use Rattle.sat_solver.proofs.lemmas.facade.Seen.{v, w, refused, differs}
@@ -63,10 +63,10 @@ module _ {W L : Type 0} {G : Ghosts L} (seen : W → Writer) (i k : ScriptState)
   opened (Err x) format target a b e h = absurd h
 
   -- the listeners of a checker that is begun by a solver that has not failed
-  begun_with : (a : Engine W L G) (begun more : List L) → IsSolver a → a.failed ≡ false → proofs.ListenersAtRestart a.context.proof begun → Some (begun ++ more) ≡ Some (listed (proof_listeners a.context.proof) ++ more)
+  begun_with : (a : Engine W L G) (begun more : List L) → EngineInvariant a → a.failed ≡ false → proofs.ListenersAtRestart a.context.proof begun → Some (begun ++ more) ≡ Some (own_listeners (proof_listeners a.context.proof) ++ more)
   begun_with a begun more solver going h = ap (λ (begun : List L). Some (begun ++ more)) (begun_seen (has_missed_step a.context.proof) a.context.proof.made (proof_listeners a.context.proof) begun (solver going).taking h)
 
-  pub enabled : (r : Result (Unit {0}) SolverError) (a b : Engine W L G) → IsSolver a → k ≡ i → proving.EngineEnables seen r a b → Enables r (v seen i k a) (w seen i k b)
+  pub enabled : (r : Result (Unit {0}) SolverError) (a b : Engine W L G) → EngineInvariant a → k ≡ i → proving.EngineEnables seen r a b → EnablesChecking r (v seen i k a) (w seen i k b)
   enabled (Ok x) a b solver e h = record {
     going = h.going;
     first = h.first;
@@ -77,7 +77,7 @@ module _ {W L : Type 0} {G : Ghosts L} (seen : W → Writer) (i k : ScriptState)
   enabled (Err errors.TooLate) a b solver e h = refused seen i k a b _ e h
   enabled (Err x) a b solver e h = absurd h
 
-  pub listened : (r : Result (Unit {0}) SolverError) (processor : L) (a b : Engine W L G) → IsSolver a → k ≡ i → proving.EngineAddsProcessor seen r processor a b → AddsProcessor r processor (v seen i k a) (w seen i k b)
+  pub listened : (r : Result (Unit {0}) SolverError) (processor : L) (a b : Engine W L G) → EngineInvariant a → k ≡ i → proving.EngineAddsProcessor seen r processor a b → AddsProcessor r processor (v seen i k a) (w seen i k b)
   listened (Ok x) processor a b solver e h = record {
     going = h.going;
     first = h.first;
@@ -93,7 +93,7 @@ module _ {W L : Type 0} {G : Ghosts L} (seen : W → Writer) (i k : ScriptState)
     failed = h.failed;
     steps = h.steps;
     target = h.target;
-    listeners = h.listens.listening ∙ begun_with a h.listens.before [] solver h.going h.listens.listed ∙ ap Some (append-nil (listed (proof_listeners a.context.proof)));
+    listeners = h.listens.listening ∙ begun_with a h.listens.before [] solver h.going h.listens.listed ∙ ap Some (append-nil (own_listeners (proof_listeners a.context.proof)));
     clock = h.clock;
   }
   listened (Err x) processor a b solver e h = absurd h
@@ -127,7 +127,7 @@ module _ {W L : Type 0} {G : Ghosts L} (seen : W → Writer) (i k : ScriptState)
   closed_text (Ok None) a b h = tt
   closed_text (Ok (Some given)) a b h = h.closes.takes
   closed_text (Err errors.HasFailed) a b h = record {
-    breaks = record { steps = []; history = ap (λ (s : Engine W L G). steps_of s.context.proof) h.same; listening = ap (λ (s : Engine W L G). proof_listeners s.context.proof) h.same; target = subst (λ (s : Engine W L G). TargetTakes (target_of seen a.context.proof) [] (target_of seen s.context.proof)) (sym h.same) (carries_none (target_of seen a.context.proof)) };
+    breaks = record { steps = []; history = ap (λ (s : Engine W L G). steps_of s.context.proof) h.same; listening = ap (λ (s : Engine W L G). proof_listeners s.context.proof) h.same; target = subst (λ (s : Engine W L G). TargetReceives (target_of seen a.context.proof) [] (target_of seen s.context.proof)) (sym h.same) (carries_none (target_of seen a.context.proof)) };
     last = refl;
   }
   closed_text (Err (errors.ProofIoError cause)) a b h = record {
@@ -170,10 +170,10 @@ module _ {W L : Type 0} {G : Ghosts L} (seen : W → Writer) (i k : ScriptState)
   drat_refuted (Ok (Some given)) a b h = refutes given a b h
   drat_refuted (Err e) a b h = tt
 
-  pub returns_front : (s : Engine W L G) (returned : Option W) → GivesWriter (target_of seen s.context.proof) (returned_writer seen returned) → ReturnsAcceptedPrefix (returned_writer seen returned) (v seen i k s)
+  pub returns_front : (s : Engine W L G) (returned : Option W) → ReturnsWriter (target_of seen s.context.proof) (returned_writer seen returned) → ReturnsAcceptedPrefix (returned_writer seen returned) (v seen i k s)
   returns_front s returned g opened f from given is open_then begun went =
-      let follows = subst (λ (t : Target). TargetTakesPrefix t went.steps (target_of seen s.context.proof)) open_then went.target in
-      let gives = subst (λ (o : Option Writer). GivesWriter (target_of seen s.context.proof) o) is g in
+      let follows = subst (λ (t : Target). TargetReceivesPrefix t went.steps (target_of seen s.context.proof)) open_then went.target in
+      let gives = subst (λ (o : Option Writer). ReturnsWriter (target_of seen s.context.proof) o) is g in
       ∥∥₁_elim s.context.proof.made.may ∥∥₁_prop (λ may.
       let front = fronts_are_accepted f from given opened.steps went.steps (target_of seen s.context.proof) begun (subst AreAllowedSteps went.history may) follows gives in
       ∣ subst (PrefixSince f from given opened.steps) (sym went.history) front ∣₁)
@@ -189,7 +189,7 @@ module _ {W L : Type 0} {G : Ghosts L} (seen : W → Writer) (i k : ScriptState)
   passed : (u : SolverConfigUpdate) (a b : Engine W L G) → configuring.EngineConfigured u a b → configuring.SetsDecays (record a.context { config = updated u a.context.config }) b.context → k ≡ i
       → w seen i k b ≡ record (v seen i k a) { parameters = updated u a.context.config; clock = configuring.at_scale u.luby_restart_interval_scale a.clock; decay = (updated u a.context.config).vsids_decay; clause_decay = (updated u a.context.config).clause_activity_decay }
   passed u a b h p e =
-      alike b.context.search.parts (updated u a.context.config).clause_activity_decay u a b h (p.parts ∙ ap (λ (q : SearchState). record a.context.search.parts { vsids = q.vsids }) (sym p.parts)) (ap (λ (q : Scale). q.decay) p.activity) e
+      alike b.context.search.parts (updated u a.context.config).clause_activity_decay u a b h (p.parts ∙ ap (λ (q : SearchState). record a.context.search.parts { vsids = q.vsids }) (sym p.parts)) (ap (λ (q : ActivityScale). q.decay) p.activity) e
       ∙ ap (λ (q : SearchState). record (v seen i k a) { parameters = updated u a.context.config; clock = configuring.at_scale u.luby_restart_interval_scale a.clock; decay = q.vsids.decay; clause_decay = (updated u a.context.config).clause_activity_decay }) p.parts
 
   changed : (st : SatState) (u : SolverConfigUpdate) (a b : Engine W L G) → configuring.EngineConfigured u a b → configuring.PassesToSearch st (record a.context { config = updated u a.context.config }) b.context → k ≡ i
@@ -207,7 +207,7 @@ module _ {W L : Type 0} {G : Ghosts L} (seen : W → Writer) (i k : ScriptState)
 
   -- NUMBERS
 
-  pub progressed : (s : Engine W L G) → IsSolver s → (r : Progress) → r.conflicts ≡ s.clock.rounds → r.restarts ≡ s.clock.restarts.count → (IsSolver s → s.failed ≡ false → r.vars ≡ progressing.solver_unassigned_count s) → (progressing.EngineIsOngoing s → progressing.CountsClausesIn r s) → IsOngoing (v seen i k s) → r ≡ progress_of s
+  pub progressed : (s : Engine W L G) → EngineInvariant s → (r : Progress) → r.conflicts ≡ s.clock.rounds → r.restarts ≡ s.clock.restarts.count → (EngineInvariant s → s.failed ≡ false → r.vars ≡ progressing.solver_unassigned_count s) → (progressing.EngineIsOngoing s → progressing.CountsClausesIn r s) → IsOngoing (v seen i k s) → r ≡ progress_of s
   progressed s solver r conflicts restarts vars clauses on =
       let c = clauses (record { solver = solver; going = on.going; left = on.left }) in
       numbers conflicts restarts (vars solver on.going) c.binary c.irred c.core c.mid c.local

@@ -3,7 +3,7 @@ use Rattle.std.proofs.Common.{◌≡◌, ◌∙◌, inl, inr, List, [], ◌++◌
 use Rattle.sat_base.specs.steps.Steps.{Step}
 use Rattle.sat_solver.specs.facade.View.{SolverView}
 use Rattle.sat_solver.specs.facade.Calls.{MakesSteps, ReachesBySteps}
-use Rattle.sat_solver.specs.facade.Recording.{BreaksWriting}
+use Rattle.sat_solver.specs.facade.Recording.{FailsWhileWriting}
 use Rattle.sat_solver.proofs.lemmas.session.ProofLemmas.{carries_more, carries_none, stops_later}
 use Rattle.sat_solver.proofs.lemmas.session.PrefixLemmas.{follows_more}
 
@@ -26,7 +26,7 @@ module _ {L : Type 0} where
   }
 
   -- steps were written, and a call of the target failed at later ones
-  pub breaks_later : (a b c : SolverView L) → MakesSteps a b → BreaksWriting b c → BreaksWriting a c
+  pub breaks_later : (a b c : SolverView L) → MakesSteps a b → FailsWhileWriting b c → FailsWhileWriting a c
   breaks_later a b c p q = record {
     steps = q.steps ++ p.steps;
     history = following a b c p.steps q.steps p.history q.history;
@@ -39,7 +39,7 @@ module _ {L : Type 0} where
   pub reaches_made : (a b : SolverView L) → MakesSteps a b → ReachesBySteps a b
   reaches_made a b h = record { steps = h.steps; history = h.history; target = inl h.target }
 
-  pub reaches_broken : (a b : SolverView L) → BreaksWriting a b → ReachesBySteps a b
+  pub reaches_broken : (a b : SolverView L) → FailsWhileWriting a b → ReachesBySteps a b
   reaches_broken a b h = record { steps = h.steps; history = h.history; target = inr ([], h.steps, refl, h.target) }
 
   pub reaches_more : (a b c : SolverView L) → ReachesBySteps a b → ReachesBySteps b c → ReachesBySteps a c

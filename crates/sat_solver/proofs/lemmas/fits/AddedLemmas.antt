@@ -15,7 +15,7 @@ use Rattle.sat_parts.specs.prop.Values.{IsTrueLit, IsFalseLit}
 use Rattle.sat_parts.specs.prop.State.{PropagationState, node, level, lit_at, StateIsConsistent}
 use Rattle.sat_parts.proofs.lemmas.clause.OrderLemmas.{shuffled_trans}
 use Rattle.sat_parts.proofs.lemmas.prop.StateLemmas.{negated_variable, negated_twice, false_from_true, not_both}
-use Rattle.sat_solver.specs.session.Session.{Session, with_fact, after, IsAllowedStep}
+use Rattle.sat_solver.specs.session.Session.{Session, with_unit_added, after, IsAllowedStep}
 use Rattle.sat_solver.proofs.lemmas.session.Changes.{with_live_clause, with_sorted, knowing_literals, session_if}
 use Rattle.sat_solver.specs.session.LiveClauses.{LiveClause, with_var, AreMapped}
 use Rattle.sat_solver.proofs.lemmas.session.Mapped.{negated_mapped, apart}
@@ -25,8 +25,8 @@ use Rattle.sat_solver.proofs.lemmas.trail.UnitLemmas.{fact_keeps, fact_only, fac
 use Rattle.sat_solver.proofs.lemmas.trail.InsertedLemmas.{inserted_first}
 use Rattle.sat_parts.specs.parts.Round.{UnitsHaveNoReason}
 use Rattle.sat_parts.specs.parts.Frame.{IsUnitLit}
-use Rattle.sat_solver.specs.session.Fits.{is_redundant, SessionMatches}
-use Rattle.sat_solver.specs.session.Listed.{FitsList}
+use Rattle.sat_solver.specs.session.Matching.{is_redundant, SessionMatches}
+use Rattle.sat_solver.specs.session.Listed.{MatchesClauseList}
 use Rattle.sat_solver.proofs.lemmas.fits.FitLemmas.{fact_unsat, mapped_shuffled, taut_mapped, paired_binary}
 use Rattle.sat_solver.proofs.lemmas.fits.SetLemmas.{same_shuffled, taut_carried, once_shuffled}
 use Rattle.sat_solver.proofs.lemmas.fits.ListedLemmas.{listed, fits_listed, listed_stays, listed_by, listed_derived, listed_satisfied, some_unit, MayCome}
@@ -50,7 +50,7 @@ module _ (words live : List ℕ) (implied : List (List ℕ)) (st : PropagationSt
   abbrev all : List LiveClause
   all = solver_clauses (is_redundant words) words live implied
 
-  its : FitsList all st s global
+  its : MatchesClauseList all st s global
   its = listed words live implied st s global fits
 
   -- A UNIT CLAUSE
@@ -63,7 +63,7 @@ module _ (words live : List ℕ) (implied : List (List ℕ)) (st : PropagationSt
       let none : s.units (negated (with_var global l)) ≡ false = false_from_ne_true (s.units (negated w)) (λ u.
       let x = fits.sound (negated l) (subst (λ v. s.solver_names (global v) ≡ Some v) (sym (negated_variable l)) own) (subst (λ z. s.units z ≡ true) (sym (negated_mapped global l)) u) in
       not_both st.values (negated l) x.0 (false_from_true st.values l holds)) in
-      let derived : FitsList all st (after (AtClause false (with_var global l ∷ []) []) s) global = record {
+      let derived : MatchesClauseList all st (after (AtClause false (with_var global l ∷ []) []) s) global = record {
         clauses = short_leaves s global all false (w ∷ []) [] (refl, tt) (omega arith) refl fits.clauses;
         known = λ m u. fact_keeps known w (with_var global m) (fits.known m u);
         sound = λ m n u.
@@ -86,7 +86,7 @@ module _ (words live : List ℕ) (implied : List (List ℕ)) (st : PropagationSt
       let open_here : s.units (with_var global l) ≡ false = false_from_ne_true (s.units (with_var global l)) (λ u.
       not_both st.values l (fits.sound l own u).0 (subst (λ z. IsFalseLit st.values z) (negated_twice l) (false_from_true st.values (negated l) x.0))) in
       let other : s.units (negated (with_var global l)) ≡ true = subst (λ z. s.units z ≡ true) (negated_mapped global l) (fits.known (negated l) unit) in
-      ap (λ b. (session_if b s (with_fact w known)).unsat) fits.consistent
+      ap (λ b. (session_if b s (with_unit_added w known)).unsat) fits.consistent
       ∙ ap (λ b. (session_if b known (session_if (s.units (negated w)) (record known { unsat = true }) (record known { units = λ m. eqb w m || s.units m }))).unsat) open_here
       ∙ ap (λ b. (session_if b (record known { unsat = true }) (record known { units = λ m. eqb w m || s.units m })).unsat) other
 
@@ -117,7 +117,7 @@ module _ (words live : List ℕ) (implied : List (List ℕ)) (st : PropagationSt
     come = record { order = order; mapped = names; once = once_shuffled ls ms order differ; long = omega arith; plain = taut_mapped global s.solver_names ms names taut }
 
     -- the list of live clauses that also contains the new one matches
-    pub listed_added : (new : List LiveClause) → InsertsClause all new (record { redundant = false; literals = ms }) → FitsList new st (after (AddClause (map (with_var global) ls)) s) global
+    pub listed_added : (new : List LiveClause) → InsertsClause all new (record { redundant = false; literals = ms }) → MatchesClauseList new st (after (AddClause (map (with_var global) ls)) s) global
     listed_added new i = listed_by new st s global (map (with_var global) ls) [] fits.consistent (listed_derived s global ls ms come st all new false i its [])
 
     -- a clause that contains a unit may be deleted at once, with its literals in any order
@@ -128,7 +128,7 @@ module _ (words live : List ℕ) (implied : List (List ℕ)) (st : PropagationSt
         let t : Session = after (AddClause (map (with_var global) ls)) s in
         let c : LiveClause = record { redundant = false; literals = ms } in
         let i : InsertsClause all (c ∷ all) c = inserted_first all c in
-        let h : FitsList (c ∷ all) st t global = listed_added (c ∷ all) i in
+        let h : MatchesClauseList (c ∷ all) st t global = listed_added (c ∷ all) i in
         let x = listed_satisfied t global st (c ∷ all) all false ns ms again i h refl (some_unit t global st (c ∷ all) all false ns ms again i h l there (h.known l unit)) in
         (x.0, fits_listed words live implied st (after (DeleteClause (map (with_var global) ns) Satisfied) t) global x.1 fits.paired)
 

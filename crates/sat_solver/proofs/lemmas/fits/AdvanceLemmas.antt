@@ -9,7 +9,7 @@ use Rattle.sat_checker.proofs.lemmas.sets.Canonical.{canonical_among}
 use Rattle.sat_parts.specs.declared.prop.graph.Conflict.{Conflict}
 use Rattle.sat_parts.specs.clause.Db.{live_refs}
 use Rattle.sat_parts.specs.prop.Binaries.{implied_by}
-use Rattle.sat_parts.specs.prop.Causes.{falsified}
+use Rattle.sat_parts.specs.prop.ReasonLits.{conflict_lits}
 use Rattle.sat_parts.specs.prop.Values.{IsFalseLit}
 use Rattle.sat_parts.specs.prop.Graphs.{node_of}
 use Rattle.sat_parts.specs.prop.State.{level}
@@ -22,12 +22,12 @@ use Rattle.sat_solver.proofs.lemmas.session.Mapped.{negated_mapped, among_mapped
 use Rattle.sat_solver.specs.session.SolverClauses.{binaries, longs, solver_clauses}
 use Rattle.sat_solver.specs.analyze_conflict.AnalysisState.{AnalysisState}
 use Rattle.sat_solver.specs.analyze_conflict.Derivation.{AnalysisResult}
-use Rattle.sat_solver.specs.analyze_conflict.Advances.{IsStored, stored_long, stored_pair}
+use Rattle.sat_solver.specs.analyze_conflict.Empowering.{IsStored, stored_long, stored_pair}
 use Rattle.sat_solver.proofs.lemmas.analyze_conflict.Advancing.{IsLow, OthersLow, stored_low}
 use Rattle.sat_parts.specs.declared.parts.SearchState.{SearchState}
-use Rattle.sat_parts.specs.parts.Whole.{state, IsRefuted}
-use Rattle.sat_solver.specs.session.Fits.{is_redundant, SessionMatchesParts, TrueLitsHaveNames}
-use Rattle.sat_solver.specs.session.Advancing.{UnitPropagates, StaysUnassignedInSession, IsEmpowering, AreConsistent, LearnedIsEmpoweringInSession}
+use Rattle.sat_parts.specs.parts.Whole.{state, HasConflict}
+use Rattle.sat_solver.specs.session.Matching.{is_redundant, SessionMatchesParts, TrueLitsHaveIndices}
+use Rattle.sat_solver.specs.session.Empowering.{UnitPropagates, StaysUnassignedInSession, IsEmpowering, AreConsistent, LearnedIsEmpoweringInSession}
 use Rattle.sat_solver.proofs.lemmas.fits.UsableLemmas.{among_place}
 use Rattle.sat_solver.proofs.lemmas.fits.FitLemmas.{among_at, among_back, in_either, long_of}
 use Rattle.sat_solver.proofs.lemmas.fits.ModelLemmas.{pair_of, IsPairOf, in_map_back}
@@ -36,7 +36,7 @@ each : (P : ℕ → Type 0) (xs : List ℕ) (m : ℕ) → AllByRecursion P xs �
 each P [] m a e = absurd (true≢false (sym e))
 each P (x ∷ xs) m a e = elim (or_cases (eqb x m) (is_among xs m) e) [ inl q ↦ subst P (eqb-true x m q) a.0 | inr k ↦ each P xs m a.1 k ]
 
-module _ (p : SearchState) (e : Conflict) (w : AnalysisState) (back : ℕ) (s : Session) (global : ℕ → ℕ) (refuted : IsRefuted p e) (fits : SessionMatchesParts p s global) (named_lits : TrueLitsHaveNames p.assignment.current s global) (learns : AnalysisResult p.clauses (state p) (falsified p.clauses e) w back) where
+module _ (p : SearchState) (e : Conflict) (w : AnalysisState) (back : ℕ) (s : Session) (global : ℕ → ℕ) (refuted : HasConflict p e) (fits : SessionMatchesParts p s global) (named_lits : TrueLitsHaveIndices p.assignment.current s global) (learns : AnalysisResult p.clauses (state p) (conflict_lits p.clauses e) w back) where
   abbrev all : List LiveClause
   all = solver_clauses (is_redundant p.clauses) p.clauses (live_refs p.clauses p.db.refs) p.binary.implied
 
@@ -108,7 +108,7 @@ module _ (p : SearchState) (e : Conflict) (w : AnalysisState) (back : ℕ) (s : 
       let back_there = among_back (with_var global) f.literals h.1.0 (f.same h.1.0 ∙ h.1.2) in
       let q : ℕ = back_there.0 in
       let n : IsNamed back_there.0 = name_of f.literals q f.names back_there.1.0 in
-      let it : IsLow (state p) back back_there.0 = stored_low p.clauses p.db.refs p.watchlists p.binary.implied (state p) back q f.literals refuted.0.asks learns.below f.stored (others c f holds o q low h.1.1 n back_there.1.1) in
+      let it : IsLow (state p) back back_there.0 = stored_low p.clauses p.db.refs p.watchlists p.binary.implied (state p) back q f.literals refuted.0.propagation learns.below f.stored (others c f holds o q low h.1.1 n back_there.1.1) in
       goes_on cs (λ l. eqb o l || holds l) reached
       (λ l m t. elim (or_cases (eqb o (with_var global l)) (holds (with_var global l)) t) [
         | inl e ↦ subst (λ z. IsLow (state p) back z) (apart global s.solver_names q l n m (back_there.1.1 ∙ eqb-true o (with_var global l) e)) it
@@ -186,7 +186,7 @@ module _ (p : SearchState) (e : Conflict) (w : AnalysisState) (back : ℕ) (s : 
             not_low (negated l) (ap (λ v. (node_of p.graph v).level) (negated_variable l)) (low (negated l) (other_named l top_named) (subst (λ z. reached z ≡ true) (sym (negated_mapped global l)) t)));
         no_conflict = λ c live a.
             let f : Found c = found c live in
-            not_low l refl (stored_low p.clauses p.db.refs p.watchlists p.binary.implied (state p) back l f.literals refuted.0.asks learns.below f.stored (others c f reached (with_var global l) l low (all_of c a) top_named refl));
+            not_low l refl (stored_low p.clauses p.db.refs p.watchlists p.binary.implied (state p) back l f.literals refuted.0.propagation learns.below f.stored (others c f reached (with_var global l) l low (all_of c a) top_named refl));
       }
     where
       all_of : (ms : List ℕ) → AllByRecursion (λ m. reached (negated m) ≡ true) ms → AllByRecursion (λ m. (m ≡ with_var global (get_or w.clause 0 0)) ⊎ (reached (negated m) ≡ true)) ms
@@ -197,7 +197,7 @@ pub learned_advances_in : LearnedIsEmpoweringInSession
 learned_advances_in p e w back s global picked reached refuted fits names learns h = advances p e w back s global refuted fits names learns picked reached h
 
 -- the clause advances as it is written in the step
-pub learned_clause_advances : (p : SearchState) (e : Conflict) (w : AnalysisState) (back : ℕ) (s : Session) (global : ℕ → ℕ) → AreConsistent s.units → IsRefuted p e → SessionMatchesParts p s global → TrueLitsHaveNames p.assignment.current s global → AnalysisResult p.clauses (state p) (falsified p.clauses e) w back → IsEmpowering s (map (with_var global) w.clause)
+pub learned_clause_advances : (p : SearchState) (e : Conflict) (w : AnalysisState) (back : ℕ) (s : Session) (global : ℕ → ℕ) → AreConsistent s.units → HasConflict p e → SessionMatchesParts p s global → TrueLitsHaveIndices p.assignment.current s global → AnalysisResult p.clauses (state p) (conflict_lits p.clauses e) w back → IsEmpowering s (map (with_var global) w.clause)
 learned_clause_advances p e w back s global consistent refuted fits names learns = record {
   some = subst (λ n. 0 < n) (sym (length-map w.clause (with_var global))) learns.asserting.some;
   agree = subst (λ ls. AreConsistent (rup_assumptions s ls)) (sym (rest_of (with_var global) w.clause)) (agrees p e w back s global refuted fits names learns consistent);

@@ -9,8 +9,8 @@ use Rattle.sat_parts.specs.prop.State.{PropagationState}
 use Rattle.sat_solver.specs.session.Session.{Session, after}
 use Rattle.sat_solver.specs.session.LiveClauses.{LiveClause, with_var}
 use Rattle.sat_solver.specs.session.SolverClauses.{solver_clauses}
-use Rattle.sat_solver.specs.session.Fits.{is_redundant, SessionMatches}
-use Rattle.sat_solver.specs.session.Listed.{FitsList, SameFacts, ChangesNoClause}
+use Rattle.sat_solver.specs.session.Matching.{is_redundant, SessionMatches}
+use Rattle.sat_solver.specs.session.Listed.{MatchesClauseList, SameFacts, ChangesNoClause}
 use Rattle.sat_solver.proofs.lemmas.fits.UsableLemmas.{among_place}
 use Rattle.sat_solver.proofs.lemmas.fits.ListedLemmas.{listed, fits_listed, listed_stays}
 use Rattle.sat_solver.proofs.lemmas.fits.SetLemmas.{part_mapped}
@@ -27,7 +27,7 @@ rests End s h = (record { names = λ w. refl; units = λ l. refl; unsat = refl; 
 rests step s h = absurd h
 
 module _ (st : PropagationState) (s : Session) (global : ℕ → ℕ) (step : Step) (quiet : ChangesNoClause step) where
-  pub listed_rests : (cs : List LiveClause) → FitsList cs st s global → FitsList cs st (after step s) global
+  pub listed_rests : (cs : List LiveClause) → MatchesClauseList cs st s global → MatchesClauseList cs st (after step s) global
   listed_rests cs h = let x = rests step s quiet in listed_stays cs st s (after step s) global h x.0 x.1.1 x.1.0
 
   pub fits_rests : (words live : List ℕ) (implied : List (List ℕ)) → SessionMatches words live implied st s global → SessionMatches words live implied st (after step s) global

@@ -5,7 +5,7 @@ use Rattle.std.specs.List.{Contains}
 use Rattle.sat_base.specs.values.Literals.{negated}
 use Rattle.sat_store.specs.clause.Buffer.{lits_at}
 use Rattle.sat_store.specs.clause.Header.{Header, is_learned}
-use Rattle.sat_parts.specs.clause.Db.{Db, DbMatchesBuffer, AreStrictlyIncreasing, is_live, live_refs, without, AddsLongClause, DeletesClause}
+use Rattle.sat_parts.specs.clause.Db.{Db, DbMatchesBuffer, AreStrictlyIncreasing, is_live, live_refs, without_ref, AddsLongClause, DeletesClause}
 use Rattle.sat_parts.specs.clause.Orders.{AreDistinct, IsReordering}
 use Rattle.sat_parts.specs.prop.Binaries.{Binaries, with_binary}
 use Rattle.sat_parts.proofs.lemmas.clause.ListLemmas.{rising_tail, rising_above, rising_distinct, place_in, in_without}
@@ -15,7 +15,7 @@ use Rattle.sat_solver.specs.session.LiveClauses.{LiveClause}
 use Rattle.sat_solver.specs.session.SolverClauses.{pair, binaries, longs, solver_clauses, InsertsClause}
 use Rattle.sat_solver.proofs.lemmas.trail.ClauseLemmas.{binary_comes, binary_comes_turned}
 use Rattle.sat_solver.proofs.lemmas.trail.InsertedLemmas.{inserted_after, inserted_before, long_goes, long_comes}
-use Rattle.sat_solver.specs.session.Fits.{is_redundant}
+use Rattle.sat_solver.specs.session.Matching.{is_redundant}
 use Rattle.sat_solver.proofs.lemmas.fits.FitLemmas.{longs_same}
 
 -- the list of live clauses has every reference once, in rising order
@@ -62,8 +62,8 @@ module _ (words words' : List ℕ) (db db' : Db) (implied : List (List ℕ)) whe
   pub deleted_there : (o : ℕ) → DbMatchesBuffer words db → Contains live o → DeletesClause words db words' db' o →
       InsertsClause (solver_clauses (is_redundant words') words' live' implied) (solver_clauses (is_redundant words) words live implied) (record { redundant = is_redundant words o; literals = lits_at words o })
   deleted_there o held there d =
-      let its : longs (is_redundant words') words' (without o live) ≡ longs (is_redundant words) words (without o live) =
-      longs_same (is_redundant words) (is_redundant words') words words' (without o live) (λ p k.
+      let its : longs (is_redundant words') words' (without_ref o live) ≡ longs (is_redundant words) words (without_ref o live) =
+      longs_same (is_redundant words) (is_redundant words') words words' (without_ref o live) (λ p k.
       let x = in_without o p live k in
       let kept = d.put.others p (live_in words db.refs p x.0) x.1 in (ap (λ (h : Header). is_learned h.tier) kept.header, kept.lits)) in
       let c : LiveClause = record { redundant = is_redundant words o; literals = lits_at words o } in

@@ -8,21 +8,21 @@ use Rattle.sat_checker.specs.LiteralSets.{is_among, is_subset_of, is_tautology}
 use Rattle.sat_checker.specs.Propagation.{UnitInTurn}
 use Rattle.sat_checker.proofs.lemmas.sets.Order.{among-append}
 use Rattle.sat_checker.proofs.lemmas.sets.Canonical.{tautology_from, both_signs}
-use Rattle.sat_parts.specs.clause.Stored.{AreClauses}
+use Rattle.sat_parts.specs.clause.Stored.{AreLongClauses}
 use Rattle.sat_parts.specs.prop.Graphs.{has_no_clause, node_of}
 use Rattle.sat_parts.specs.prop.State.{PropagationState, node, level, StateIsConsistent}
-use Rattle.sat_parts.specs.prop.Reasons.{AreUnitInTurn}
+use Rattle.sat_parts.specs.prop.Reasons.{ReasonsAreUnit}
 use Rattle.sat_parts.specs.prop.Values.{IsFalseLit}
 use Rattle.sat_parts.proofs.lemmas.prop.StateLemmas.{negated_twice, negated_variable, true_from_false}
-use Rattle.sat_checker.specs.Leading.{PropagatesToConflict}
-use Rattle.sat_solver.specs.session.Session.{Session, IsAllowedStep, MayDerive, AreLiveByHash, rup_assumptions, by_clauses, by_derivation, by_signs, by_unit}
+use Rattle.sat_checker.specs.ConflictPropagation.{PropagatesToConflict}
+use Rattle.sat_solver.specs.session.Session.{Session, IsAllowedStep, CanDerive, AreLiveByHash, rup_assumptions, by_clauses, by_derivation, by_signs, by_unit}
 use Rattle.sat_solver.specs.session.LiveClauses.{with_var}
 use Rattle.sat_solver.proofs.lemmas.session.Mapped.{negated_mapped, among_mapped, leads_mapped, Carries}
 use Rattle.sat_solver.specs.session.TrailUnits.{IsUsable}
 use Rattle.sat_solver.specs.analyze_conflict.Marks.{IsReasoned}
 use Rattle.sat_solver.specs.analyze_conflict.Derivation.{clause_of, AreLevelZeroLits}
 use Rattle.sat_parts.specs.parts.Round.{UnitsHaveNoReason}
-use Rattle.sat_solver.specs.session.Fits.{SessionMatches}
+use Rattle.sat_solver.specs.session.Matching.{SessionMatches}
 use Rattle.sat_solver.proofs.lemmas.fits.MayLemmas.{bottom, bottom_units, leads_from_turns, AllUsable, named_by, place_usable, bottom_known}
 use Rattle.sat_solver.proofs.lemmas.fits.AnswerLemmas.{assumed_part}
 
@@ -38,7 +38,7 @@ one_part : (l : ℕ) (ls : List ℕ) → is_among ls l ≡ true → is_subset_of
 one_part l ls t = rw t refl
 
 -- the reasons of the used literals refute the core: they are unit in turn under it, and the last one is falsified
-module _ (words live : List ℕ) (implied : List (List ℕ)) (st : PropagationState) (s : Session) (global : ℕ → ℕ) (fits : SessionMatches words live implied st s global) (agrees : StateIsConsistent st) (clauses : AreClauses words live (length st.values)) (bare : UnitsHaveNoReason st) (turns : AreUnitInTurn words live implied st 0) where
+module _ (words live : List ℕ) (implied : List (List ℕ)) (st : PropagationState) (s : Session) (global : ℕ → ℕ) (fits : SessionMatches words live implied st s global) (agrees : StateIsConsistent st) (clauses : AreLongClauses words live (length st.values)) (bare : UnitsHaveNoReason st) (turns : ReasonsAreUnit words live implied st 0) where
   all_usable : (used : List ℕ) → ((k : ℕ) → k < length used → IsReasoned st 0 (get_or used k 0)) → AllUsable s global (map (clause_of words st) used)
   all_usable [] r = tt
   all_usable (l ∷ ls) r =
@@ -48,7 +48,7 @@ module _ (words live : List ℕ) (implied : List (List ℕ)) (st : PropagationSt
       )
 
   core_derives : (core used : List ℕ) → ((k : ℕ) → k < length used → IsReasoned st 0 (get_or used k 0)) → ((units : List ℕ) → AreLevelZeroLits st units → UnitInTurn (core ++ units) (map (clause_of words st) used)) →
-      MayDerive s (map negated (map (with_var global) core)) (map (λ l. hash_of (clause_of words st l)) used)
+      CanDerive s (map negated (map (with_var global) core)) (map (λ l. hash_of (clause_of words st l)) used)
   core_derives core used reasons acceptable =
       let cs : List (List ℕ) = map (clause_of words st) used in
       let known : ℕ → Bool = λ l. is_among core l || is_among (bottom st) l in

@@ -11,8 +11,8 @@ use Rattle.sat_solver.specs.session.Session.{Session, after, IsAllowedStep}
 use Rattle.sat_solver.specs.session.LiveClauses.{LiveClause, with_var}
 use Rattle.sat_solver.specs.session.SolverClauses.{solver_clauses, InsertsClause}
 use Rattle.sat_parts.specs.parts.Frame.{IsUnitLit}
-use Rattle.sat_solver.specs.session.Fits.{is_redundant, SessionMatches}
-use Rattle.sat_solver.specs.session.Listed.{FitsList}
+use Rattle.sat_solver.specs.session.Matching.{is_redundant, SessionMatches}
+use Rattle.sat_solver.specs.session.Listed.{MatchesClauseList}
 use Rattle.sat_solver.proofs.lemmas.fits.ListedLemmas.{listed, fits_listed, listed_redundant, listed_satisfied, some_unit}
 use Rattle.sat_solver.proofs.lemmas.fits.ChangedLemmas.{deleted_there}
 
@@ -24,7 +24,7 @@ module _ (words words' : List ℕ) (db db' : Db) (implied : List (List ℕ)) (st
   abbrev new : List LiveClause
   new = solver_clauses (is_redundant words') words' (live_refs words' db'.refs) implied
 
-  its : FitsList old st s global
+  its : MatchesClauseList old st s global
   its = listed words (live_refs words db.refs) implied st s global fits
 
   inserted : InsertsClause new old (record { redundant = is_redundant words o; literals = lits_at words o })

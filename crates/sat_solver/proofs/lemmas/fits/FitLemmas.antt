@@ -13,7 +13,7 @@ use Rattle.sat_checker.proofs.lemmas.sets.Canonical.{canonical_among, canonical_
 use Rattle.sat_parts.specs.declared.prop.graph.ImplNode.{ImplNode}
 use Rattle.sat_parts.specs.declared.prop.graph.Reason.{Reason}
 use Rattle.sat_parts.specs.clause.Orders.{IsReordering, SameUpToOrder}
-use Rattle.sat_parts.specs.clause.Stored.{AreClauses}
+use Rattle.sat_parts.specs.clause.Stored.{AreLongClauses}
 use Rattle.sat_parts.specs.prop.Graphs.{has_no_clause}
 use Rattle.sat_parts.specs.prop.Binaries.{Binaries, implied_by, with_implied, with_binary}
 use Rattle.sat_parts.specs.prop.Values.{value_of, IsTrueLit, IsUnassignedLit}
@@ -21,17 +21,17 @@ use Rattle.sat_parts.specs.prop.State.{PropagationState, node, level, lit_at, St
 use Rattle.sat_parts.proofs.lemmas.clause.ListLemmas.{at_place, place_in}
 use Rattle.sat_parts.proofs.lemmas.prop.StateLemmas.{negated_twice, negated_variable, grows_enqueued, lit_last, node_new, true_new}
 use Rattle.sat_parts.proofs.lemmas.prop.RoomLemmas.{room_for}
-use Rattle.sat_checker.specs.Contents.{same_side, more_if}
-use Rattle.sat_solver.specs.session.Session.{Session, with_fact, after}
+use Rattle.sat_checker.specs.Contents.{same_flag, plus_one_if}
+use Rattle.sat_solver.specs.session.Session.{Session, with_unit_added, after}
 use Rattle.sat_solver.proofs.lemmas.session.Changes.{with_live, with_live_clause, knowing_literals, session_if}
-use Rattle.sat_solver.specs.session.LiveClauses.{LiveClause, live_count_of, IsIn, with_var, mapped, AreMapped, AreOf}
+use Rattle.sat_solver.specs.session.LiveClauses.{LiveClause, live_count_of, IsIn, with_var, mapped, AreMapped, AreLiveClausesOf}
 use Rattle.sat_solver.proofs.lemmas.session.Mapped.{negated_mapped, among_mapped, not_among, apart}
 use Rattle.sat_solver.proofs.lemmas.session.StepsOfClauses.{clause_long, short_leaves}
 use Rattle.sat_solver.specs.session.SolverClauses.{binaries, longs, solver_clauses}
 use Rattle.sat_solver.proofs.lemmas.trail.UnitLemmas.{fact_keeps, fact_gives, fact_only, fact_names, fact_width}
 use Rattle.sat_parts.specs.parts.Frame.{IsUnitLit, AddsNoUnit}
 use Rattle.sat_parts.proofs.lemmas.parts.BinaryLemmas.{binary_all, binary_kept, binary_new, implied_kept, implied_new}
-use Rattle.sat_solver.specs.session.Fits.{ArePaired, is_redundant, SessionMatches}
+use Rattle.sat_solver.specs.session.Matching.{ArePaired, is_redundant, SessionMatches}
 use Rattle.sat_solver.proofs.lemmas.fits.UsableLemmas.{among_place, once_distinct}
 use Rattle.sat_solver.proofs.lemmas.trail.ClauseLemmas.{in_after, long_there}
 
@@ -109,7 +109,7 @@ all_at P (x ∷ xs) h = (h zero (omega arith), all_at P xs (λ k n. h (suc k) (o
 
 counts_front : (f : LiveClause → LiveClause) (xs ys zs : List LiveClause) (r : Bool) (set : List ℕ) → live_count_of (map f ys) r set ≡ live_count_of (map f zs) r set → live_count_of (map f (xs ++ ys)) r set ≡ live_count_of (map f (xs ++ zs)) r set
 counts_front f [] ys zs r set e = e
-counts_front f (x ∷ xs) ys zs r set e = ap (more_if (same_side (f x).redundant r && same_literals (canonical (f x).literals) set)) (counts_front f xs ys zs r set e)
+counts_front f (x ∷ xs) ys zs r set e = ap (plus_one_if (same_flag (f x).redundant r && same_literals (canonical (f x).literals) set)) (counts_front f xs ys zs r set e)
 
 counts_kept : (global : ℕ → ℕ) (a b : ℕ → Bool) (words words' os : List ℕ) (r : Bool) (set : List ℕ) → ((o : ℕ) → Contains os o → (b o ≡ a o) × IsReordering (lits_at words o) (lits_at words' o)) →
     live_count_of (map (mapped global) (longs a words os)) r set ≡ live_count_of (map (mapped global) (longs b words' os)) r set
@@ -118,9 +118,9 @@ counts_kept global a b words words' (o ∷ os) r set h =
     let x = h o (0, omega arith, refl) in
     let rest : live_count_of (map (mapped global) (longs a words os)) r set ≡ live_count_of (map (mapped global) (longs b words' os)) r set =
     counts_kept global a b words words' os r set (λ p c. h p (suc c.0, omega (arith, c.1), c.2)) in
-    ap (λ q. more_if (same_side q r && same_literals (canonical (map (with_var global) (lits_at words o))) set) (live_count_of (map (mapped global) (longs a words os)) r set)) (sym x.0)
-    ∙ ap (λ ks. more_if (same_side (b o) r && same_literals ks set) (live_count_of (map (mapped global) (longs a words os)) r set)) (canonical_shuffled (with_var global) (lits_at words o) (lits_at words' o) x.1)
-    ∙ ap (more_if (same_side (b o) r && same_literals (canonical (map (with_var global) (lits_at words' o))) set)) rest
+    ap (λ q. plus_one_if (same_flag q r && same_literals (canonical (map (with_var global) (lits_at words o))) set) (live_count_of (map (mapped global) (longs a words os)) r set)) (sym x.0)
+    ∙ ap (λ ks. plus_one_if (same_flag (b o) r && same_literals ks set) (live_count_of (map (mapped global) (longs a words os)) r set)) (canonical_shuffled (with_var global) (lits_at words o) (lits_at words' o) x.1)
+    ∙ ap (plus_one_if (same_flag (b o) r && same_literals (canonical (map (with_var global) (lits_at words' o))) set)) rest
 
 -- every literal of a clause has its solver name
 pub mapped_at : (global : ℕ → ℕ) (names : ℕ → Option ℕ) (ls : List ℕ) (k : ℕ) → AreMapped global names ls → k < length ls → names (global (variable (get_or ls k 0))) ≡ Some (variable (get_or ls k 0))
@@ -134,8 +134,8 @@ mapped_shuffled global names ls ms order h = all_at (λ l. names (global (variab
     let j = order.back k (omega (arith, order.size)) in
     subst (λ l. names (global (variable l)) ≡ Some (variable l)) j.1.1 (mapped_at global names ls j.0 h j.1.0))
 
-pub of_reordered : (words words' live : List ℕ) (implied : List (List ℕ)) (s : Session) (global : ℕ → ℕ) (count : ℕ) → AreClauses words' live count → SameUpToOrder words words' live →
-    AreOf s global (solver_clauses (is_redundant words) words live implied) → AreOf s global (solver_clauses (is_redundant words') words' live implied)
+pub of_reordered : (words words' live : List ℕ) (implied : List (List ℕ)) (s : Session) (global : ℕ → ℕ) (count : ℕ) → AreLongClauses words' live count → SameUpToOrder words words' live →
+    AreLiveClausesOf s global (solver_clauses (is_redundant words) words live implied) → AreLiveClausesOf s global (solver_clauses (is_redundant words') words' live implied)
 of_reordered words words' live implied s global count clauses kept h = record {
   named = λ c k. elim (in_either c (binaries implied) (longs (is_redundant words') words' live) k) [
     | inl a ↦ h.named c (in_front c (binaries implied) (longs (is_redundant words) words live) a)
@@ -156,7 +156,7 @@ of_reordered words words' live implied s global count clauses kept h = record {
       (counts_kept global (is_redundant words) (is_redundant words') words words' live r set (λ o c. (ap (λ (x : Header). is_learned x.tier) (kept.headers o c), kept.lits o c)));
 }
 
-pub fits_reordered : (words words' live : List ℕ) (implied : List (List ℕ)) (st : PropagationState) (s : Session) (global : ℕ → ℕ) → AreClauses words' live (length st.values) → SameUpToOrder words words' live →
+pub fits_reordered : (words words' live : List ℕ) (implied : List (List ℕ)) (st : PropagationState) (s : Session) (global : ℕ → ℕ) → AreLongClauses words' live (length st.values) → SameUpToOrder words words' live →
     SessionMatches words live implied st s global → SessionMatches words' live implied st s global
 fits_reordered words words' live implied st s global clauses kept h = record {
   clauses = of_reordered words words' live implied s global (length st.values) clauses kept h.clauses;
@@ -228,7 +228,7 @@ two_of (x ∷ []) e = absurd (omega arith)
 two_of (x ∷ y ∷ []) e = refl
 two_of (x ∷ y ∷ z ∷ zs) e = absurd (omega arith)
 
-pub fact_unsat : (l : ℕ) (s : Session) → s.units (negated l) ≡ false → (with_fact l s).unsat ≡ s.unsat
+pub fact_unsat : (l : ℕ) (s : Session) → s.units (negated l) ≡ false → (with_unit_added l s).unsat ≡ s.unsat
 fact_unsat l s n = go (s.units l) (s.units (negated l)) n
   where
     go : (b d : Bool) → d ≡ false → (session_if b s (session_if d (record s { unsat = true }) (record s { units = λ m. eqb l m || s.units m }))).unsat ≡ s.unsat
@@ -253,7 +253,7 @@ module _ (words live : List ℕ) (implied : List (List ℕ)) (st : PropagationSt
         paired = fits.paired;
         known = λ m u. elim (units_enqueued st l r agrees free below m u) [
           | inl o ↦ fact_keeps known (with_var global l) (with_var global m) (fits.known m o)
-          | inr e ↦ subst (λ z. (with_fact (with_var global l) known).units (with_var global z) ≡ true) (sym e.0) (fact_gives known (with_var global l) none)
+          | inr e ↦ subst (λ z. (with_unit_added (with_var global l) known).units (with_var global z) ≡ true) (sym e.0) (fact_gives known (with_var global l) none)
         ];
         sound = λ m n u. elim (fact_only known (with_var global l) (with_var global m) u) [
           | inl e ↦
@@ -269,7 +269,7 @@ module _ (words live : List ℕ) (implied : List (List ℕ)) (st : PropagationSt
 
   -- a longer learned clause, if the list of clauses is as the step says
   pub fits_long_by : (words' live' : List ℕ) (implied' : List (List ℕ)) (l : ℕ) (r : Reason) (flag : Bool) (c hashes : List ℕ) → IsUnassignedLit st.values l → variable l < length st.values → has_no_clause r ≡ false →
-      NoRepeats c → 1 < length c → is_tautology c ≡ false → ArePaired implied' → AreOf (after (AtClause flag c hashes) s) global (solver_clauses (is_redundant words') words' live' implied') →
+      NoRepeats c → 1 < length c → is_tautology c ≡ false → ArePaired implied' → AreLiveClausesOf (after (AtClause flag c hashes) s) global (solver_clauses (is_redundant words') words' live' implied') →
       SessionMatches words' live' implied' (enqueued l r st) (after (AtClause flag c hashes) s) global
   fits_long_by words' live' implied' l r flag c hashes free below caused once long taut paired clauses =
       let g : TrailGrows st (enqueued l r st) = grows_enqueued st l r agrees free below (room_for st l r agrees free below) in

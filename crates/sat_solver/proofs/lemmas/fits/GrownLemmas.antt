@@ -6,7 +6,7 @@ use Rattle.std.specs.List.{Contains}
 use Rattle.sat_base.specs.values.Literals.{negated}
 use Rattle.sat_parts.specs.prop.Binaries.{Binaries, implied_by, with_binary_lists}
 use Rattle.sat_solver.specs.session.SolverClauses.{binaries_of, binaries_from, binaries}
-use Rattle.sat_solver.specs.session.Fits.{ArePaired}
+use Rattle.sat_solver.specs.session.Matching.{ArePaired}
 
 -- A LIST EXTENDED BY DEFAULT VALUES
 

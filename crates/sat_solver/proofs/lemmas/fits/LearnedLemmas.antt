@@ -27,7 +27,7 @@ use Rattle.sat_parts.proofs.lemmas.prop.StateLemmas.{true_from_false, not_both}
 use Rattle.sat_parts.proofs.lemmas.prop.RoomLemmas.{below_from_value}
 use Rattle.sat_parts.proofs.lemmas.prop.BuildLemmas.{live_in}
 use Rattle.sat_solver.specs.session.Session.{Session, after}
-use Rattle.sat_solver.specs.session.LiveClauses.{LiveClause, with_var, AreMapped, AreOf}
+use Rattle.sat_solver.specs.session.LiveClauses.{LiveClause, with_var, AreMapped, AreLiveClausesOf}
 use Rattle.sat_solver.proofs.lemmas.session.Mapped.{once_mapped}
 use Rattle.sat_solver.proofs.lemmas.session.StepsOfClauses.{derived_comes, length_mapped}
 use Rattle.sat_solver.specs.session.SolverClauses.{binaries, longs, solver_clauses}
@@ -37,9 +37,9 @@ use Rattle.sat_solver.specs.analyze_conflict.Derivation.{AnalysisResult}
 use Rattle.sat_parts.specs.declared.parts.SearchState.{SearchState}
 use Rattle.sat_parts.specs.parts.Whole.{state, SearchStateInvariant}
 use Rattle.sat_parts.specs.parts.Learned.{IsAnalyzedClause, IsUnitAfterBacktracking}
-use Rattle.sat_parts.specs.parts.Frame.{SameClauses, AddsLearnedClause, learnt_unit, learnt_binary, learnt_long, AddsNoUnit}
+use Rattle.sat_parts.specs.parts.Frame.{SameClauses, AddsLearnedClause, learned_unit, learned_binary, learned_long, AddsNoUnit}
 use Rattle.sat_parts.proofs.lemmas.parts.LearnLemmas.{pending_below}
-use Rattle.sat_solver.specs.session.Fits.{is_redundant, SessionMatches, SessionMatchesParts, FlagFits}
+use Rattle.sat_solver.specs.session.Matching.{is_redundant, SessionMatches, SessionMatchesParts, FlagMatches}
 use Rattle.sat_solver.proofs.lemmas.fits.UsableLemmas.{once_distinct}
 use Rattle.sat_solver.proofs.lemmas.fits.FitLemmas.{fits_carried, fits_unit, fits_long_by, mapped_at, no_signs, taut_mapped, longs_same, longs_push, alone, two_of, paired_binary}
 
@@ -80,7 +80,7 @@ false_signs values ls h = no_signs values ls (λ j k a b e. not_both values (neg
 
 -- THE CLAUSE IS STORED
 
-module _ (s : Session) (global : ℕ → ℕ) (header : Header) (ls hashes : List ℕ) (flag : Bool) (flags : FlagFits flag header ls) (taut : is_tautology ls ≡ false) (mapped_here : AreMapped global s.solver_names ls) where
+module _ (s : Session) (global : ℕ → ℕ) (header : Header) (ls hashes : List ℕ) (flag : Bool) (flags : FlagMatches flag header ls) (taut : is_tautology ls ≡ false) (mapped_here : AreMapped global s.solver_names ls) where
   abbrev now : Session
   now = after (AtClause flag (map (with_var global) ls) hashes) s
 
@@ -110,11 +110,11 @@ module _ (s : Session) (global : ℕ → ℕ) (header : Header) (ls hashes : Lis
         let here : AreMapped global s.solver_names (get_or ls 0 0 ∷ get_or ls 1 0 ∷ []) = subst (λ (c : List ℕ). AreMapped global s.solver_names c) is mapped_here in
         let plain : is_tautology (map (with_var global) ls) ≡ false = taut_mapped global s.solver_names ls mapped_here taut in
         let side : flag ≡ false = flags.binary two in
-        let came : AreOf (after (AtClause false (map (with_var global) (get_or ls 0 0 ∷ get_or ls 1 0 ∷ [])) hashes) s) global (binaries (with_binary (get_or ls 0 0) (get_or ls 1 0) x).implied ++ longs (is_redundant words) words (live_refs words db.refs)) =
+        let came : AreLiveClausesOf (after (AtClause false (map (with_var global) (get_or ls 0 0 ∷ get_or ls 1 0 ∷ [])) hashes) s) global (binaries (with_binary (get_or ls 0 0) (get_or ls 1 0) x).implied ++ longs (is_redundant words) words (live_refs words db.refs)) =
         learned s global a b hashes (longs (is_redundant words) words (live_refs words db.refs)) differ here x first second (subst (λ (c : List ℕ). is_tautology (map (with_var global) c) ≡ false) is plain) fits.clauses in
-        let comes : AreOf now global (solver_clauses (is_redundant words) words (live_refs words db.refs) (with_binary (get_or ls 0 0) (get_or ls 1 0) x).implied) =
-        subst (λ (f : Bool). AreOf (after (AtClause f (map (with_var global) ls) hashes) s) global (solver_clauses (is_redundant words) words (live_refs words db.refs) (with_binary (get_or ls 0 0) (get_or ls 1 0) x).implied)) (sym side)
-        (subst (λ (c : List ℕ). AreOf (after (AtClause false (map (with_var global) c) hashes) s) global (solver_clauses (is_redundant words) words (live_refs words db.refs) (with_binary (get_or ls 0 0) (get_or ls 1 0) x).implied)) (sym is) came) in
+        let comes : AreLiveClausesOf now global (solver_clauses (is_redundant words) words (live_refs words db.refs) (with_binary (get_or ls 0 0) (get_or ls 1 0) x).implied) =
+        subst (λ (f : Bool). AreLiveClausesOf (after (AtClause f (map (with_var global) ls) hashes) s) global (solver_clauses (is_redundant words) words (live_refs words db.refs) (with_binary (get_or ls 0 0) (get_or ls 1 0) x).implied)) (sym side)
+        (subst (λ (c : List ℕ). AreLiveClausesOf (after (AtClause false (map (with_var global) c) hashes) s) global (solver_clauses (is_redundant words) words (live_refs words db.refs) (with_binary (get_or ls 0 0) (get_or ls 1 0) x).implied)) (sym is) came) in
         fits_long_by words (live_refs words db.refs) x.implied st s global agrees fits words (live_refs words db.refs) (with_binary (get_or ls 0 0) (get_or ls 1 0) x).implied (get_or ls 0 0) r flag (map (with_var global) ls) hashes
         pending.open_first pending.there caused (once_mapped global s.solver_names ls mapped_here once_here) (mapped_long (omega arith)) plain (paired_binary x a b first second differ fits.paired) comes
 
@@ -134,23 +134,23 @@ module _ (s : Session) (global : ℕ → ℕ) (header : Header) (ls hashes : Lis
         ∙ ap (λ b. longs (is_redundant words) words (live_refs words db.refs) ++ (record { redundant = b; literals = lits_at words' o }) ∷ []) side
         ∙ ap (λ ms. longs (is_redundant words) words (live_refs words db.refs) ++ (record { redundant = flag; literals = ms }) ∷ []) adds.added.lits_there in
         let before : List LiveClause = binaries x.implied ++ longs (is_redundant words) words (live_refs words db.refs) in
-        let from : AreOf s global ((binaries x.implied ++ longs (is_redundant words) words (live_refs words db.refs)) ++ []) = subst (λ ds. AreOf s global ds) (sym (append-nil before)) fits.clauses in
-        let came : AreOf now global ((binaries x.implied ++ longs (is_redundant words) words (live_refs words db.refs)) ++ c ∷ []) =
+        let from : AreLiveClausesOf s global ((binaries x.implied ++ longs (is_redundant words) words (live_refs words db.refs)) ++ []) = subst (λ ds. AreLiveClausesOf s global ds) (sym (append-nil before)) fits.clauses in
+        let came : AreLiveClausesOf now global ((binaries x.implied ++ longs (is_redundant words) words (live_refs words db.refs)) ++ c ∷ []) =
         derived_comes s global before [] c hashes from mapped_here once_here (omega arith) plain in
-        let comes : AreOf now global (solver_clauses (is_redundant words') words' (live_refs words' db'.refs) x.implied) =
-        subst (λ ds. AreOf now global ds) (append_assoc (binaries x.implied) (longs (is_redundant words) words (live_refs words db.refs)) (c ∷ []) ∙ ap (λ ds. binaries x.implied ++ ds) (sym new)) came in
+        let comes : AreLiveClausesOf now global (solver_clauses (is_redundant words') words' (live_refs words' db'.refs) x.implied) =
+        subst (λ ds. AreLiveClausesOf now global ds) (append_assoc (binaries x.implied) (longs (is_redundant words) words (live_refs words db.refs)) (c ∷ []) ∙ ap (λ ds. binaries x.implied ++ ds) (sym new)) came in
         fits_long_by words (live_refs words db.refs) x.implied st s global agrees fits words' (live_refs words' db'.refs) x.implied (get_or ls 0 0) r flag (map (with_var global) ls) hashes
         pending.open_first pending.there caused (once_mapped global s.solver_names ls mapped_here once_here) (mapped_long (omega arith)) plain fits.paired comes
 
 -- parts and session match after a learned clause of any length
-pub fits_learnt : (p p' : SearchState) (s : Session) (global : ℕ → ℕ) (header : Header) (ls hashes : List ℕ) (flag : Bool) → FlagFits flag header ls → is_tautology ls ≡ false → AreMapped global s.solver_names ls → SearchStateInvariant p → IsUnitAfterBacktracking (state p) p.vsids ls →
+pub fits_learnt : (p p' : SearchState) (s : Session) (global : ℕ → ℕ) (header : Header) (ls hashes : List ℕ) (flag : Bool) → FlagMatches flag header ls → is_tautology ls ≡ false → AreMapped global s.solver_names ls → SearchStateInvariant p → IsUnitAfterBacktracking (state p) p.vsids ls →
     AddsLearnedClause p p' header ls → SessionMatchesParts p s global → SessionMatchesParts p' (after (AtClause flag (map (with_var global) ls) hashes) s) global
-fits_learnt p p' s global header ls hashes flag flags taut names holds pending (learnt_unit one same r bare is) fits =
-    rw (is, same.0, same.1, same.2) (learnt_as_unit s global header ls hashes flag flags taut names p.clauses p.db p.binary (state p) p.vsids holds.below.asks.agrees fits pending r one)
-fits_learnt p p' s global header ls hashes flag flags taut names holds pending (learnt_binary two a b c r caused is) fits =
-    rw (is, a, b, c) (learnt_as_binary s global header ls hashes flag flags taut names p.clauses p.db p.binary (state p) p.vsids holds.below.asks.agrees fits pending r caused two holds.below.asks.ranges.room)
-fits_learnt p p' s global header ls hashes flag flags taut names holds pending (learnt_long three o adds b r caused is) fits =
-    rw (is, b) (learnt_as_long s global header ls hashes flag flags taut names p.clauses p.db p.binary (state p) p.vsids holds.below.asks.agrees fits pending r p'.clauses p'.db o caused three holds.below.held adds)
+fits_learnt p p' s global header ls hashes flag flags taut names holds pending (learned_unit one same r bare is) fits =
+    rw (is, same.0, same.1, same.2) (learnt_as_unit s global header ls hashes flag flags taut names p.clauses p.db p.binary (state p) p.vsids holds.below.propagation.agrees fits pending r one)
+fits_learnt p p' s global header ls hashes flag flags taut names holds pending (learned_binary two a b c r caused is) fits =
+    rw (is, a, b, c) (learnt_as_binary s global header ls hashes flag flags taut names p.clauses p.db p.binary (state p) p.vsids holds.below.propagation.agrees fits pending r caused two holds.below.propagation.ranges.room)
+fits_learnt p p' s global header ls hashes flag flags taut names holds pending (learned_long three o adds b r caused is) fits =
+    rw (is, b) (learnt_as_long s global header ls hashes flag flags taut names p.clauses p.db p.binary (state p) p.vsids holds.below.propagation.agrees fits pending r p'.clauses p'.db o caused three holds.below.db_matches adds)
 
 -- undoing levels preserves the match
 pub fits_undone : (p p' : SearchState) (s : Session) (global : ℕ → ℕ) → SameClauses p p' → AddsNoUnit (state p) (state p') → SessionMatchesParts p s global → SessionMatchesParts p' s global
@@ -158,6 +158,6 @@ fits_undone p p' s global same carries fits =
     rw (same.0, same.1, same.2) (fits_carried p.clauses (live_refs p.clauses p.db.refs) p.binary.implied (state p) (state p') s global carries fits)
 
 pub size_learnt : (p p' : SearchState) (header : Header) (ls : List ℕ) → AddsLearnedClause p p' header ls → length p'.assignment.current ≡ length p.assignment.current
-size_learnt p p' header ls (learnt_unit one same r bare is) = ap (λ (s : PropagationState). length s.values) is ∙ length-set p.assignment.current (variable (get_or ls 0 0)) (Some (is_positive (get_or ls 0 0)))
-size_learnt p p' header ls (learnt_binary two a b c r caused is) = ap (λ (s : PropagationState). length s.values) is ∙ length-set p.assignment.current (variable (get_or ls 0 0)) (Some (is_positive (get_or ls 0 0)))
-size_learnt p p' header ls (learnt_long three o adds b r caused is) = ap (λ (s : PropagationState). length s.values) is ∙ length-set p.assignment.current (variable (get_or ls 0 0)) (Some (is_positive (get_or ls 0 0)))
+size_learnt p p' header ls (learned_unit one same r bare is) = ap (λ (s : PropagationState). length s.values) is ∙ length-set p.assignment.current (variable (get_or ls 0 0)) (Some (is_positive (get_or ls 0 0)))
+size_learnt p p' header ls (learned_binary two a b c r caused is) = ap (λ (s : PropagationState). length s.values) is ∙ length-set p.assignment.current (variable (get_or ls 0 0)) (Some (is_positive (get_or ls 0 0)))
+size_learnt p p' header ls (learned_long three o adds b r caused is) = ap (λ (s : PropagationState). length s.values) is ∙ length-set p.assignment.current (variable (get_or ls 0 0)) (Some (is_positive (get_or ls 0 0)))

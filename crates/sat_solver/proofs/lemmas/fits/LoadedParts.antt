@@ -13,7 +13,7 @@ use Rattle.sat_parts.specs.prop.Values.{value_of, IsTrueLit, IsUnassignedLit}
 use Rattle.sat_parts.specs.prop.State.{PropagationState, level, current_level, StateIsConsistent}
 use Rattle.sat_parts.proofs.lemmas.clause.OrderLemmas.{shuffled_refl}
 use Rattle.sat_parts.proofs.lemmas.prop.StateLemmas.{negated_variable, true_from_false, level_low}
-use Rattle.sat_solver.specs.session.Session.{Session, with_fact, after}
+use Rattle.sat_solver.specs.session.Session.{Session, with_unit_added, after}
 use Rattle.sat_solver.proofs.lemmas.session.Changes.{knowing_literals}
 use Rattle.sat_solver.specs.session.LiveClauses.{LiveClause, with_var, AreMapped}
 use Rattle.sat_solver.proofs.lemmas.session.Mapped.{negated_mapped, apart}
@@ -26,9 +26,9 @@ use Rattle.sat_parts.specs.declared.parts.load.Loaded.TheVariants.{Stored, Unit 
 use Rattle.sat_parts.specs.parts.Whole.{state, SearchStateInvariant}
 use Rattle.sat_parts.specs.parts.Frame.{GainsUnit, AddsOriginalClause, stores_binary, stores_long, IsUnitLit}
 use Rattle.sat_parts.specs.parts.Loading.{LoadEffect}
-use Rattle.sat_solver.specs.session.Fits.{is_redundant, SessionMatches, SessionMatchesParts}
-use Rattle.sat_solver.specs.session.Listed.{FitsList}
-use Rattle.sat_solver.specs.session.Loads.{LoadFits}
+use Rattle.sat_solver.specs.session.Matching.{is_redundant, SessionMatches, SessionMatchesParts}
+use Rattle.sat_solver.specs.session.Listed.{MatchesClauseList}
+use Rattle.sat_solver.specs.session.Loads.{LoadMatches}
 use Rattle.sat_solver.proofs.lemmas.fits.FitLemmas.{mapped_at, mapped_shuffled, fits_carried, fact_unsat, alone, two_of, among_at}
 use Rattle.sat_solver.proofs.lemmas.fits.LearnedLemmas.{fits_undone}
 use Rattle.sat_solver.proofs.lemmas.fits.SetLemmas.{same_shuffled}
@@ -46,11 +46,11 @@ fits_gained words live implied st st' s global l fits own free g =
     let x = fits.sound (negated l) (subst (λ v. s.solver_names (global v) ≡ Some v) (sym (negated_variable l)) own) (subst (λ z. s.units z ≡ true) (sym (negated_mapped global l)) u) in
     let e : None ≡ Some (is_positive (negated l)) = sym free ∙ ap (value_of st.values) (sym (negated_variable l)) ∙ x.0 in
     absurd cc) in
-    let derived : FitsList all st' (after (AtClause false (with_var global l ∷ []) []) s) global = record {
+    let derived : MatchesClauseList all st' (after (AtClause false (with_var global l ∷ []) []) s) global = record {
       clauses = short_leaves s global all false (w ∷ []) [] (refl, tt) (omega arith) refl fits.clauses;
       known = λ m u. elim (g.units m u) [
         | inl o ↦ fact_keeps known w (with_var global m) (fits.known m o)
-        | inr e ↦ subst (λ z. (with_fact w known).units (with_var global z) ≡ true) (sym e) (fact_gives known w none)
+        | inr e ↦ subst (λ z. (with_unit_added w known).units (with_var global z) ≡ true) (sym e) (fact_gives known w none)
       ];
       sound = λ m n u.
           let old : s.solver_names (global (variable m)) ≡ Some (variable m) = sym (fact_names known w (global (variable m))) ∙ n in
@@ -81,7 +81,7 @@ module _ (p p' : SearchState) (s : Session) (global : ℕ → ℕ) (holds : Sear
   live = live_refs p.clauses p.db.refs
 
   agrees : StateIsConsistent (state p)
-  agrees = holds.below.asks.agrees
+  agrees = holds.below.propagation.agrees
 
   small_too : (k : ℕ) → k < length ls → get_or ls k 0 < 2 * length p.assignment.current
   small_too k lt = let j = order.back k (omega (arith, order.size)) in subst (λ z. z < 2 * length p.assignment.current) j.1.1 (small j.0 j.1.0)
@@ -105,16 +105,16 @@ module _ (p p' : SearchState) (s : Session) (global : ℕ → ℕ) (holds : Sear
       let is : IsReordering given (get_or ls 0 0 ∷ get_or ls 1 0 ∷ []) = subst (λ ms. IsReordering given ms) (two_of ls two) order in
       rw (words, list, pairs)
       (fits_carried p.clauses live (with_binary (get_or ls 0 0) (get_or ls 1 0) p.binary).implied (state p) (state p') added global carries
-      (fits_added_binary p.clauses live p.binary (state p) s global agrees fits given (get_or ls 0 0) (get_or ls 1 0) is differ (small_too 0 (omega arith)) (small_too 1 (omega arith)) (subst (λ ms. AreMapped global s.solver_names ms) (two_of ls two) names_too) holds.below.asks.ranges.room plain))
+      (fits_added_binary p.clauses live p.binary (state p) s global agrees fits given (get_or ls 0 0) (get_or ls 1 0) is differ (small_too 0 (omega arith)) (small_too 1 (omega arith)) (subst (λ ms. AreMapped global s.solver_names ms) (two_of ls two) names_too) holds.below.propagation.ranges.room plain))
   fits_stored (stores_long three o adds pairs carries) =
       rw pairs
       (fits_carried p'.clauses (live_refs p'.clauses p'.db.refs) p.binary.implied (state p) (state p') added global carries
-      (fits_added_long_as p.clauses p'.clauses p.db p'.db p.binary.implied (state p) s global agrees fits given ls o no_header holds.below.held adds refl order differ three names_too plain))
+      (fits_added_long_as p.clauses p'.clauses p.db p'.db p.binary.implied (state p) s global agrees fits given ls o no_header holds.below.db_matches adds refl order differ three names_too plain))
 
   taut : is_tautology ls ≡ false
   taut = sym (same_tautology given ls (same_shuffled given ls order)) ∙ plain
 
-  pub fits_loaded : (r : Loaded) → LoadEffect r p p' ls → LoadFits r p' s global given ls
+  pub fits_loaded : (r : Loaded) → LoadEffect r p p' ls → LoadMatches r p' s global given ls
   fits_loaded Stored says = fits_stored says
   fits_loaded One says =
       let l : ℕ = get_or ls 0 0 in

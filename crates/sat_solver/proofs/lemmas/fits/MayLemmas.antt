@@ -8,14 +8,14 @@ use Rattle.sat_checker.specs.LiteralSets.{is_among}
 use Rattle.sat_checker.specs.Propagation.{UnitInTurn}
 use Rattle.sat_checker.proofs.lemmas.sets.Order.{among-append}
 use Rattle.sat_parts.specs.declared.prop.graph.Reason.{Reason}
-use Rattle.sat_parts.specs.clause.Stored.{AreClauses}
-use Rattle.sat_parts.specs.prop.Causes.{falsified}
+use Rattle.sat_parts.specs.clause.Stored.{AreLongClauses}
+use Rattle.sat_parts.specs.prop.ReasonLits.{conflict_lits}
 use Rattle.sat_parts.specs.prop.Graphs.{has_no_clause}
 use Rattle.sat_parts.specs.prop.Values.{IsTrueLit}
 use Rattle.sat_parts.specs.prop.State.{PropagationState, node, level, lit_at, StateIsConsistent}
-use Rattle.sat_parts.specs.prop.Reasons.{AreUnitInTurn}
+use Rattle.sat_parts.specs.prop.Reasons.{ReasonsAreUnit}
 use Rattle.sat_parts.proofs.lemmas.prop.RoomLemmas.{below_from_value}
-use Rattle.sat_checker.specs.Leading.{PropagatesToConflict}
+use Rattle.sat_checker.specs.ConflictPropagation.{PropagatesToConflict}
 use Rattle.sat_solver.specs.session.Session.{Session, AreLiveByHash, rup_assumptions, by_clauses}
 use Rattle.sat_solver.specs.session.LiveClauses.{with_var}
 use Rattle.sat_solver.proofs.lemmas.session.Mapped.{leads_mapped, denied_mapped}
@@ -25,8 +25,8 @@ use Rattle.sat_solver.proofs.lemmas.trail.AnswerLemmas.{true_lit, lit_true}
 use Rattle.sat_solver.specs.analyze_conflict.Marks.{IsReasoned}
 use Rattle.sat_solver.specs.analyze_conflict.Derivation.{clause_of, AreLevelZeroLits}
 use Rattle.sat_parts.specs.parts.Round.{UnitsHaveNoReason}
-use Rattle.sat_solver.specs.session.Fits.{SessionMatches}
-use Rattle.sat_solver.specs.session.FitLaws.{named_clauses, LearnedIsAllowed}
+use Rattle.sat_solver.specs.session.Matching.{SessionMatches}
+use Rattle.sat_solver.specs.session.MatchingLaws.{named_clauses, LearnedIsAllowed}
 use Rattle.sat_solver.proofs.lemmas.fits.UsableLemmas.{reason_usable, conflict_usable, reason_clauses}
 
 -- THE LITERALS OF LEVEL 0 AS A LIST
@@ -103,7 +103,7 @@ pub named_by : (s : Session) (global : ℕ → ℕ) (cs : List (List ℕ)) → s
 named_by s global [] w h = tt
 named_by s global (c ∷ cs) w h = (h.0.live, whole s (hash_of c) w ∙ h.0.hash, named_by s global cs w h.1)
 
-module _ (words live : List ℕ) (implied : List (List ℕ)) (st : PropagationState) (s : Session) (global : ℕ → ℕ) (fits : SessionMatches words live implied st s global) (clauses : AreClauses words live (length st.values)) (turns : AreUnitInTurn words live implied st 0) where
+module _ (words live : List ℕ) (implied : List (List ℕ)) (st : PropagationState) (s : Session) (global : ℕ → ℕ) (fits : SessionMatches words live implied st s global) (clauses : AreLongClauses words live (length st.values)) (turns : ReasonsAreUnit words live implied st 0) where
   pub place_usable : (i : ℕ) → i < length st.trail.lits → has_no_clause (node st (lit_at st i)).reason ≡ false → IsUsable s global (clause_of words st (lit_at st i))
   place_usable i lt u =
       subst (λ c. IsUsable s global c) (sym (reason_clauses words live implied st i (length st.values) (node st (lit_at st i)).reason clauses u (turns i (omega arith) lt)))
@@ -136,9 +136,9 @@ learned_may words live implied st s global e w back fits agrees clauses bare tur
     let known : ℕ → Bool = λ l. is_among (map negated w.clause) l || is_among (bottom st) l in
     let units : AreLevelZeroLits st (bottom st) = bottom_units st in
     let all : AllUsable s global (named_clauses words st w.used e) =
-    all_used words live implied st s global fits clauses turns w.used (falsified words e) learns.reasons (conflict_usable words live implied s global fits.clauses fits.paired st.values e conflict) in
+    all_used words live implied st s global fits clauses turns w.used (conflict_lits words e) learns.reasons (conflict_usable words live implied s global fits.clauses fits.paired st.values e conflict) in
     let leads : PropagatesToConflict known (named_clauses words st w.used e) =
     leads_from_turns (named_clauses words st w.used e) known (map negated w.clause ++ bottom st) (λ l k. sym (among-append (map negated w.clause) (bottom st) l) ∙ k) (learns.acceptable (bottom st) units) in
-    by_clauses (map (map (with_var global)) (named_clauses words st w.used e)) (subst (AreLiveByHash s (map (map (with_var global)) (named_clauses words st w.used e))) (hashes_same (clause_of words st) w.used (falsified words e)) (named_by s global (named_clauses words st w.used e) fits.width all))
+    by_clauses (map (map (with_var global)) (named_clauses words st w.used e)) (subst (AreLiveByHash s (map (map (with_var global)) (named_clauses words st w.used e))) (hashes_same (clause_of words st) w.used (conflict_lits words e)) (named_by s global (named_clauses words st w.used e) fits.width all))
     (leads_mapped global (named_clauses words st w.used e) known (rup_assumptions s (map (with_var global) w.clause))
     (denied_mapped global s w.clause (is_among (bottom st)) (λ l k. let o = units.only l k in bottom_known words live implied st s global fits clauses turns agrees bare l o.0 o.1)) leads)

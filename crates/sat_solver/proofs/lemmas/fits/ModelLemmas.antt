@@ -14,7 +14,7 @@ use Rattle.sat_parts.specs.clause.Stored.{lit_of}
 use Rattle.sat_parts.specs.prop.Binaries.{implied_by}
 use Rattle.sat_parts.specs.prop.Values.{value_of, IsTrueLit}
 use Rattle.sat_parts.proofs.lemmas.prop.StateLemmas.{negated_variable, negated_twice, false_from_true, not_both, lit_from_parts}
-use Rattle.sat_solver.specs.session.Session.{Session, MayWriteModel}
+use Rattle.sat_solver.specs.session.Session.{Session, CanWriteModel}
 use Rattle.sat_solver.specs.session.LiveClauses.{LiveClause, IsIn, with_var, mapped}
 use Rattle.sat_solver.proofs.lemmas.session.Lists.{shows_all}
 use Rattle.sat_solver.proofs.lemmas.session.Mapped.{negated_mapped, among_mapped}
@@ -23,7 +23,7 @@ use Rattle.sat_parts.specs.declared.parts.SearchState.{SearchState}
 use Rattle.sat_parts.specs.parts.Whole.{AllAssigned, ClausesAreSatisfied}
 use Rattle.sat_parts.proofs.lemmas.parts.ValueLemmas.{open_or_true}
 use Rattle.sat_solver.specs.session.Units.{AreTrueLits}
-use Rattle.sat_solver.specs.session.Fits.{is_redundant, SessionMatchesParts, TrueLitsHaveNames}
+use Rattle.sat_solver.specs.session.Matching.{is_redundant, SessionMatchesParts, TrueLitsHaveIndices}
 use Rattle.sat_solver.proofs.lemmas.fits.FitLemmas.{among_at, among_back, long_of, in_either}
 
 -- a binary clause is stored in a list of implied literals
@@ -84,7 +84,7 @@ among_in : (xs : List ℕ) (a b l : ℕ) → xs ≡ a ∷ b ∷ [] → (l ≡ a)
 among_in xs a b l e (inl q) = subst (λ ys. is_among ys l ≡ true) (sym e) (or_left (eqb a l) (is_among (b ∷ []) l) (eq-eqb a l (sym q)))
 among_in xs a b l e (inr q) = subst (λ ys. is_among ys l ≡ true) (sym e) (or_right (eqb a l) (is_among (b ∷ []) l) (or_left (eqb b l) false (eq-eqb b l (sym q))))
 
-module _ (p : SearchState) (s : Session) (global : ℕ → ℕ) (fits : SessionMatchesParts p s global) (names : TrueLitsHaveNames p.assignment.current s global) (room : length p.binary.implied ≡ 2 * length p.assignment.current) where
+module _ (p : SearchState) (s : Session) (global : ℕ → ℕ) (fits : SessionMatchesParts p s global) (names : TrueLitsHaveIndices p.assignment.current s global) (room : length p.binary.implied ≡ 2 * length p.assignment.current) where
   named_true : (l : ℕ) → IsTrueLit p.assignment.current l → s.solver_names (global (variable l)) ≡ Some (variable l)
   named_true l t = names l t
 
@@ -150,7 +150,7 @@ module _ (p : SearchState) (s : Session) (global : ℕ → ℕ) (fits : SessionM
             let n : x.place < 0 = subst (λ (ms : List ℕ). x.place < length ms) past x.within in
             omega arith
 
-    pub model_may : MayWriteModel s (map (with_var global) ls)
+    pub model_may : CanWriteModel s (map (with_var global) ls)
     model_may = record {
       consistent = fits.consistent;
       apart = apart_all ls lits.only lits.once;

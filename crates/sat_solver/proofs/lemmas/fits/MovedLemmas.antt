@@ -2,18 +2,18 @@
 use Rattle.std.proofs.Common.{ℕ, suc, ◌<◌, ◌≡◌, Bool, List, [], ◌∷◌, ◌++◌, length, get_or, refl, sym, ◌∙◌, ap, subst, arith}
 use Rattle.sat_store.specs.clause.Buffer.{lits_at}
 use Rattle.sat_store.specs.clause.Header.{Header, is_learned}
-use Rattle.sat_parts.specs.clause.Collected.{Copies}
+use Rattle.sat_parts.specs.clause.Collected.{CopiesClauses}
 use Rattle.sat_parts.specs.prop.State.{PropagationState}
 use Rattle.sat_solver.specs.session.Session.{Session}
-use Rattle.sat_solver.specs.session.LiveClauses.{AreOf}
+use Rattle.sat_solver.specs.session.LiveClauses.{AreLiveClausesOf}
 use Rattle.sat_solver.specs.session.SolverClauses.{binaries, longs}
-use Rattle.sat_solver.specs.session.Fits.{is_redundant, SessionMatches}
+use Rattle.sat_solver.specs.session.Matching.{is_redundant, SessionMatches}
 
 -- the match depends only on the list of long clauses
 pub fits_longs : (words words' live live' : List ℕ) (implied : List (List ℕ)) (st : PropagationState) (s : Session) (global : ℕ → ℕ) → longs (is_redundant words') words' live' ≡ longs (is_redundant words) words live → SessionMatches words live implied st s global →
     SessionMatches words' live' implied st s global
 fits_longs words words' live live' implied st s global e h = record {
-  clauses = subst (λ ds. AreOf s global (binaries implied ++ ds)) (sym e) h.clauses;
+  clauses = subst (λ ds. AreLiveClausesOf s global (binaries implied ++ ds)) (sym e) h.clauses;
   paired = h.paired;
   known = h.known;
   sound = h.sound;
@@ -33,6 +33,6 @@ longs_by r r' words words' (o ∷ os) (p ∷ ps) n h =
     ∙ ap (λ ls. (record { redundant = r o; literals = ls }) ∷ longs r' words' ps) x.1
     ∙ ap (λ ds. (record { redundant = r o; literals = lits_at words o }) ∷ ds) (longs_by r r' words words' os ps (omega arith) (λ k lt. h (suc k) (omega arith)))
 
-pub longs_copied : (words live words' refs' : List ℕ) → Copies words live words' refs' → longs (is_redundant words') words' refs' ≡ longs (is_redundant words) words live
+pub longs_copied : (words live words' refs' : List ℕ) → CopiesClauses words live words' refs' → longs (is_redundant words') words' refs' ≡ longs (is_redundant words) words live
 longs_copied words live words' refs' c =
     longs_by (is_redundant words) (is_redundant words') words words' live refs' c.size (λ k lt. (ap (λ (h : Header). is_learned h.tier) (c.headers k lt), c.lits k lt))

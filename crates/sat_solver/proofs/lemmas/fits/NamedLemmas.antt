@@ -13,9 +13,9 @@ use Rattle.sat_solver.proofs.lemmas.session.Changes.{session_with_name}
 use Rattle.sat_solver.specs.session.LiveClauses.{LiveClause, IsIn}
 use Rattle.sat_solver.proofs.lemmas.session.Represented.{loses_name, still_of}
 use Rattle.sat_solver.specs.session.SolverClauses.{binaries, longs, solver_clauses}
-use Rattle.sat_parts.specs.parts.Round.{IsUnused}
+use Rattle.sat_parts.specs.parts.Round.{IsInNoClause}
 use Rattle.sat_parts.specs.parts.Frame.{IsUnitLit}
-use Rattle.sat_solver.specs.session.Listed.{FitsList}
+use Rattle.sat_solver.specs.session.Listed.{MatchesClauseList}
 use Rattle.sat_solver.proofs.lemmas.fits.FitLemmas.{long_of, in_either, IsLongOf}
 use Rattle.sat_solver.proofs.lemmas.fits.ModelLemmas.{pair_of, IsPairOf}
 
@@ -25,7 +25,7 @@ none_mentions : (ls : List ℕ) (v : ℕ) → ((k : ℕ) → k < length ls → v
 none_mentions [] v h = refl
 none_mentions (l ∷ ls) v h = or_from (eqb (variable l) v) (mentions ls v) (ne_eqb (variable l) v (h 0 (omega arith))) (none_mentions ls v (λ k lt. h (suc k) (omega arith)))
 
-pub unused_in : (redundant : ℕ → Bool) (words live : List ℕ) (implied : List (List ℕ)) (v : ℕ) → IsUnused words live implied v → (c : LiveClause) → IsIn c (solver_clauses redundant words live implied) → mentions c.literals v ≡ false
+pub unused_in : (redundant : ℕ → Bool) (words live : List ℕ) (implied : List (List ℕ)) (v : ℕ) → IsInNoClause words live implied v → (c : LiveClause) → IsIn c (solver_clauses redundant words live implied) → mentions c.literals v ≡ false
 unused_in redundant words live implied v h c k = elim (in_either c (binaries implied) (longs redundant words live) k) [
   | inl a ↦
       let x : IsPairOf implied c = pair_of implied c a in
@@ -58,8 +58,8 @@ pub record LosesName (st st' : PropagationState) (s : Session) (global : ℕ →
   pub units : (l : ℕ) → IsUnitLit st' l → IsUnitLit st l
   pub kept : (l : ℕ) → variable l ≢ x → IsTrueLit st.values l → level st l ≡ 0 → IsTrueLit st'.values l × (level st' l ≡ 0)
 
-pub listed_unnamed : (cs : List LiveClause) (st st' : PropagationState) (s : Session) (global : ℕ → ℕ) (w x : ℕ) → FitsList cs st s global → LosesName st st' s global w x →
-    ((c : LiveClause) → IsIn c cs → mentions c.literals x ≡ false) → FitsList cs st' (after (SolverVarName w None) s) global
+pub listed_unnamed : (cs : List LiveClause) (st st' : PropagationState) (s : Session) (global : ℕ → ℕ) (w x : ℕ) → MatchesClauseList cs st s global → LosesName st st' s global w x →
+    ((c : LiveClause) → IsIn c cs → mentions c.literals x ≡ false) → MatchesClauseList cs st' (after (SolverVarName w None) s) global
 listed_unnamed cs st st' s global w x h g unused =
     let t : Session = after (SolverVarName w None) s in
     let old : (v : ℕ) → t.solver_names (global v) ≡ Some v → (v ≢ x) × (s.solver_names (global v) ≡ Some v) = λ v e. elim (cases_eq (global v) w) [

@@ -9,7 +9,7 @@ use Rattle.sat_store.specs.clause.Buffer.{lits_at}
 use Rattle.sat_checker.specs.LiteralSets.{is_among}
 use Rattle.sat_parts.specs.clause.Db.{Db, DbMatchesBuffer, live_refs, DeletesClause}
 use Rattle.sat_parts.specs.clause.Orders.{AreDistinct, IsReordering}
-use Rattle.sat_parts.specs.clause.Stored.{AreClauses, lit_of}
+use Rattle.sat_parts.specs.clause.Stored.{AreLongClauses, lit_of}
 use Rattle.sat_parts.specs.prop.Binaries.{Binaries, with_binary}
 use Rattle.sat_parts.specs.prop.State.{PropagationState, StateIsConsistent}
 use Rattle.sat_parts.proofs.lemmas.clause.OrderLemmas.{shuffled_trans}
@@ -17,8 +17,8 @@ use Rattle.sat_solver.specs.session.Session.{Session, after, IsAllowedStep}
 use Rattle.sat_solver.specs.session.LiveClauses.{LiveClause, with_var}
 use Rattle.sat_solver.specs.session.SolverClauses.{solver_clauses, InsertsClause}
 use Rattle.sat_parts.specs.parts.Frame.{IsUnitLit}
-use Rattle.sat_solver.specs.session.Fits.{is_redundant, SessionMatches}
-use Rattle.sat_solver.specs.session.Listed.{FitsList, ArePlain}
+use Rattle.sat_solver.specs.session.Matching.{is_redundant, SessionMatches}
+use Rattle.sat_solver.specs.session.Listed.{MatchesClauseList, HasNoTautology}
 use Rattle.sat_solver.proofs.lemmas.fits.UsableLemmas.{among_place}
 use Rattle.sat_solver.proofs.lemmas.fits.FitLemmas.{among_at, paired_binary}
 use Rattle.sat_solver.proofs.lemmas.fits.SetLemmas.{same_shuffled}
@@ -75,7 +75,7 @@ pub record AreTwo (st : PropagationState) (c : List ℕ) (a b : ℕ) : Type 0 wh
   pub apart : a ≢ b
   pub others : (k : ℕ) → k < length c → get_or c k 0 ≢ a → get_or c k 0 ≢ b → IsUnitLit st (negated (get_or c k 0))
 
-module _ (words words' : List ℕ) (db db' : Db) (x : Binaries) (st : PropagationState) (s : Session) (global : ℕ → ℕ) (agrees : StateIsConsistent st) (fits : SessionMatches words (live_refs words db.refs) x.implied st s global) (held : DbMatchesBuffer words db) (clauses : AreClauses words (live_refs words db.refs) (length st.values)) (plain : ArePlain s) (o : ℕ) (there : Contains (live_refs words db.refs) o) (gone : DeletesClause words db words' db' o) (room : length x.implied ≡ 2 * length st.values) (a b : ℕ) (two : AreTwo st (lits_at words o) a b) (ls part : List ℕ) (order : IsReordering ls (lits_at words o)) (part_order : IsReordering part (a ∷ b ∷ [])) (hs : List ℕ) (hash_order : IsReordering hs (lits_at words o)) (hash_distinct : AreDistinct hs) (hash : ℕ) (its : hash ≡ hash_of hs) where
+module _ (words words' : List ℕ) (db db' : Db) (x : Binaries) (st : PropagationState) (s : Session) (global : ℕ → ℕ) (agrees : StateIsConsistent st) (fits : SessionMatches words (live_refs words db.refs) x.implied st s global) (held : DbMatchesBuffer words db) (clauses : AreLongClauses words (live_refs words db.refs) (length st.values)) (plain : HasNoTautology s) (o : ℕ) (there : Contains (live_refs words db.refs) o) (gone : DeletesClause words db words' db' o) (room : length x.implied ≡ 2 * length st.values) (a b : ℕ) (two : AreTwo st (lits_at words o) a b) (ls part : List ℕ) (order : IsReordering ls (lits_at words o)) (part_order : IsReordering part (a ∷ b ∷ [])) (hs : List ℕ) (hash_order : IsReordering hs (lits_at words o)) (hash_distinct : AreDistinct hs) (hash : ℕ) (its : hash ≡ hash_of hs) where
   abbrev live : List ℕ
   live = live_refs words db.refs
 
@@ -143,7 +143,7 @@ module _ (words words' : List ℕ) (db db' : Db) (x : Binaries) (st : Propagatio
   abbrev now : List LiveClause
   now = solver_clauses (is_redundant words') words' live' (with_binary a b x).implied
 
-  middle : FitsList (solver_clauses (is_redundant words) words live (with_binary a b x).implied) st (after step s) global
+  middle : MatchesClauseList (solver_clauses (is_redundant words) words live (with_binary a b x).implied) st (after step s) global
   middle =
       listed_derived s global part d (come_shorter words live x.implied st s global agrees fits clauses plain o there part d its_order differ long within) st (solver_clauses (is_redundant words) words live x.implied)
       (solver_clauses (is_redundant words) words live (with_binary a b x).implied) false came.inserted (listed words live x.implied st s global fits) (hash ∷ [])

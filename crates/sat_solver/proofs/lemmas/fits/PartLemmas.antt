@@ -10,9 +10,9 @@ use Rattle.sat_checker.specs.LiteralSets.{is_among, is_subset_of, canonical}
 use Rattle.sat_checker.proofs.lemmas.sets.Canonical.{same_tautology}
 use Rattle.sat_checker.proofs.lemmas.sets.Subsets.{all_true}
 use Rattle.sat_parts.specs.clause.Orders.{AreDistinct, IsReordering}
-use Rattle.sat_parts.specs.clause.Stored.{AreClauses}
+use Rattle.sat_parts.specs.clause.Stored.{AreLongClauses}
 use Rattle.sat_parts.specs.prop.State.{PropagationState, StateIsConsistent}
-use Rattle.sat_solver.specs.session.Session.{Session, after, MayDerive, MayDeleteSimplified}
+use Rattle.sat_solver.specs.session.Session.{Session, after, CanDerive, CanDeleteSimplified}
 use Rattle.sat_solver.specs.session.LiveClauses.{with_var, AreMapped}
 use Rattle.sat_solver.proofs.lemmas.session.Lists.{solver_hash}
 use Rattle.sat_solver.proofs.lemmas.session.Naming.{live_same}
@@ -20,8 +20,8 @@ use Rattle.sat_solver.proofs.lemmas.session.Mapped.{among_mapped, not_among, onc
 use Rattle.sat_solver.proofs.lemmas.session.StepsOfClauses.{length_sorted, length_mapped}
 use Rattle.sat_solver.specs.session.TrailUnits.{IsUsable}
 use Rattle.sat_parts.specs.parts.Frame.{IsUnitLit}
-use Rattle.sat_solver.specs.session.Fits.{SessionMatches}
-use Rattle.sat_solver.specs.session.Listed.{ArePlain}
+use Rattle.sat_solver.specs.session.Matching.{SessionMatches}
+use Rattle.sat_solver.specs.session.Listed.{HasNoTautology}
 use Rattle.sat_solver.proofs.lemmas.fits.UsableLemmas.{long_usable, long_named, once_distinct, among_place}
 use Rattle.sat_solver.proofs.lemmas.fits.FitLemmas.{among_at, mapped_at}
 use Rattle.sat_solver.proofs.lemmas.fits.SetLemmas.{same_shuffled, same_mapped, set_shuffled, part_mapped}
@@ -30,7 +30,7 @@ use Rattle.sat_solver.proofs.lemmas.fits.ListedLemmas.{MayCome}
 use Rattle.sat_solver.proofs.lemmas.fits.ShortenedLemmas.{may_shorten, may_replace, live_plain}
 
 -- a part of a live clause replaces it: the step derives `part`, the parts store `d`, and literal w was dropped
-module _ (words live : List ℕ) (implied : List (List ℕ)) (st : PropagationState) (s : Session) (global : ℕ → ℕ) (agrees : StateIsConsistent st) (fits : SessionMatches words live implied st s global) (clauses : AreClauses words live (length st.values)) (plain : ArePlain s) (o : ℕ) (there : Contains live o) where
+module _ (words live : List ℕ) (implied : List (List ℕ)) (st : PropagationState) (s : Session) (global : ℕ → ℕ) (agrees : StateIsConsistent st) (fits : SessionMatches words live implied st s global) (clauses : AreLongClauses words live (length st.values)) (plain : HasNoTautology s) (o : ℕ) (there : Contains live o) where
   abbrev c : List ℕ
   c = lits_at words o
 
@@ -76,7 +76,7 @@ module _ (words live : List ℕ) (implied : List (List ℕ)) (st : PropagationSt
     }
 
     -- the part may be derived by the hash of the clause, with its literals in any order
-    pub derive_shorter : (hs : List ℕ) (hash : ℕ) → IsReordering hs c → AreDistinct hs → hash ≡ hash_of hs → ((k : ℕ) → k < length c → (is_among d (get_or c k 0) ≡ true) ⊎ IsUnitLit st (negated (get_or c k 0))) → MayDerive s (map (with_var global) part) (hash ∷ [])
+    pub derive_shorter : (hs : List ℕ) (hash : ℕ) → IsReordering hs c → AreDistinct hs → hash ≡ hash_of hs → ((k : ℕ) → k < length c → (is_among d (get_or c k 0) ≡ true) ⊎ IsUnitLit st (negated (get_or c k 0))) → CanDerive s (map (with_var global) part) (hash ∷ [])
     derive_shorter hs hash shuffled distinct e each = may_shorten s global hs part hash fits.width (usable_as hs shuffled distinct) e (λ k lt.
         let j = shuffled.forth k lt in
         subst (λ m. (is_among part m ≡ true) ⊎ (s.units (with_var global (negated m)) ≡ true)) j.1.1 (elim (each j.0 (omega (arith, j.1.0, shuffled.size))) [
@@ -84,7 +84,7 @@ module _ (words live : List ℕ) (implied : List (List ℕ)) (st : PropagationSt
           | inr u ↦ inr (fits.known (negated (get_or c j.0 0)) u)
         ]))
 
-    pub replace_shorter : (ls : List ℕ) (w : ℕ) (hashes : List ℕ) → IsReordering ls c → is_among c w ≡ true → is_among d w ≡ false → MayDeleteSimplified (after (AtClause false (map (with_var global) part) hashes) s) (map (with_var global) ls)
+    pub replace_shorter : (ls : List ℕ) (w : ℕ) (hashes : List ℕ) → IsReordering ls c → is_among c w ≡ true → is_among d w ≡ false → CanDeleteSimplified (after (AtClause false (map (with_var global) part) hashes) s) (map (with_var global) ls)
     replace_shorter ls w hashes shuffled has missing =
         let size : 1 < length (canonical (map (with_var global) part)) = (
         let e : canonical (map (with_var global) part) ≡ canonical (map (with_var global) d) = set_shuffled (with_var global) part d order in

@@ -6,11 +6,11 @@ use Rattle.sat_base.specs.steps.Steps.{Redundant, Simplified, Satisfied, Step, S
 use Rattle.sat_checker.specs.LiteralSets.{is_subset_of, is_tautology, canonical, same_literals}
 use Rattle.sat_checker.proofs.lemmas.sets.Canonical.{canonical_tautology, tautology_from, both_signs}
 use Rattle.sat_checker.proofs.lemmas.meaning.Clauses.{same}
-use Rattle.sat_checker.specs.Contents.{same_side, more_if, less_if}
-use Rattle.sat_solver.specs.session.Session.{Session, with_fact, session_after}
+use Rattle.sat_checker.specs.Contents.{same_flag, plus_one_if, minus_one_if}
+use Rattle.sat_solver.specs.session.Session.{Session, with_unit_added, session_after}
 use Rattle.sat_solver.proofs.lemmas.session.Changes.{with_facts, with_live, with_sorted, with_live_clause, knowing_literals, without_live, changed, session_if}
 use Rattle.sat_solver.proofs.lemmas.session.StepsOfClauses.{fact_stays, facts_stay}
-use Rattle.sat_solver.specs.session.Listed.{ArePlain}
+use Rattle.sat_solver.specs.session.Listed.{HasNoTautology}
 use Rattle.sat_solver.proofs.lemmas.fits.SetLemmas.{part_has}
 
 -- a part of a clause that is no tautology is none either
@@ -21,11 +21,11 @@ part_plain xs ys p n = false_from_ne_true (is_tautology xs) (λ t.
 
 -- STEPS PRESERVE THIS
 
-more_positive : (b : Bool) (n : ℕ) → 0 < more_if b n → (b ≡ true) ⊎ (0 < n)
+more_positive : (b : Bool) (n : ℕ) → 0 < plus_one_if b n → (b ≡ true) ⊎ (0 < n)
 more_positive true n h = inl refl
 more_positive false n h = inr h
 
-less_positive : (b : Bool) (n : ℕ) → 0 < less_if b n → 0 < n
+less_positive : (b : Bool) (n : ℕ) → 0 < minus_one_if b n → 0 < n
 less_positive true n h = omega arith
 less_positive false n h = h
 
@@ -33,36 +33,36 @@ right : (a b : Bool) → (a && b) ≡ true → b ≡ true
 right true b h = h
 right false b h = absurd (true≢false (sym h))
 
-plain_live : (r : Bool) (set : List ℕ) (s : Session) → is_tautology set ≡ false → ArePlain s → ArePlain (with_live r set s)
-plain_live r set s n h q other c = elim (more_positive (same_side r q && same_literals set other) (s.live q other) c) [
-  | inl t ↦ ap is_tautology (sym (same set other (right (same_side r q) (same_literals set other) t))) ∙ n
+plain_live : (r : Bool) (set : List ℕ) (s : Session) → is_tautology set ≡ false → HasNoTautology s → HasNoTautology (with_live r set s)
+plain_live r set s n h q other c = elim (more_positive (same_flag r q && same_literals set other) (s.live q other) c) [
+  | inl t ↦ ap is_tautology (sym (same set other (right (same_flag r q) (same_literals set other) t))) ∙ n
   | inr k ↦ h q other k
 ]
 
-plain_same : (s t : Session) → t.live ≡ s.live → ArePlain s → ArePlain t
+plain_same : (s t : Session) → t.live ≡ s.live → HasNoTautology s → HasNoTautology t
 plain_same s t e h q set c = h q set (subst (λ f. 0 < f q set) e c)
 
-plain_sorted : (r : Bool) (set : List ℕ) (s : Session) → is_tautology set ≡ false → ArePlain s → ArePlain (with_sorted r set s)
+plain_sorted : (r : Bool) (set : List ℕ) (s : Session) → is_tautology set ≡ false → HasNoTautology s → HasNoTautology (with_sorted r set s)
 plain_sorted r [] s n h = h
-plain_sorted r (l ∷ []) s n h = plain_same s (with_fact l s) (fact_stays l s).live h
+plain_sorted r (l ∷ []) s n h = plain_same s (with_unit_added l s) (fact_stays l s).live h
 plain_sorted r (l ∷ m ∷ ls) s n h = plain_live r (l ∷ m ∷ ls) s n h
 
-plain_clause : (r : Bool) (c : List ℕ) (s : Session) → ArePlain s → ArePlain (with_live_clause r c s)
+plain_clause : (r : Bool) (c : List ℕ) (s : Session) → HasNoTautology s → HasNoTautology (with_live_clause r c s)
 plain_clause r c s h = go (is_tautology c) refl
   where
-    go : (b : Bool) → is_tautology c ≡ b → ArePlain (session_if b s (with_sorted r (canonical c) s))
+    go : (b : Bool) → is_tautology c ≡ b → HasNoTautology (session_if b s (with_sorted r (canonical c) s))
     go true e = h
     go false e = plain_sorted r (canonical c) s (canonical_tautology c ∙ e) h
 
-plain_without : (r : Bool) (set : List ℕ) (s : Session) → ArePlain s → ArePlain (without_live r set s)
-plain_without r set s h q other c = h q other (less_positive (same_side r q && same_literals set other) (s.live q other) c)
+plain_without : (r : Bool) (set : List ℕ) (s : Session) → HasNoTautology s → HasNoTautology (without_live r set s)
+plain_without r set s h q other c = h q other (less_positive (same_flag r q && same_literals set other) (s.live q other) c)
 
-plain_changed : (step : Step) (s : Session) → ArePlain s → ArePlain (changed step s)
+plain_changed : (step : Step) (s : Session) → HasNoTautology s → HasNoTautology (changed step s)
 plain_changed (SolverVarName v None) s h = h
 plain_changed (UserVarName v (Some name)) s h = h
 plain_changed (AddClause clause) s h = go s.unsat
   where
-    go : (b : Bool) → ArePlain (session_if b s (with_live_clause false clause (knowing_literals clause s)))
+    go : (b : Bool) → HasNoTautology (session_if b s (with_live_clause false clause (knowing_literals clause s)))
     go true = h
     go false = plain_clause false clause (knowing_literals clause s) h
 plain_changed (AtClause redundant clause hashes) s h = plain_clause redundant clause (knowing_literals clause s) h
@@ -75,6 +75,6 @@ plain_changed (DeleteClause clause Satisfied) s h = plain_without false (canonic
 plain_changed step s h = h
 
 -- this holds after any steps
-pub sessions_are_plain : (steps : List Step) → ArePlain (session_after steps)
+pub sessions_are_plain : (steps : List Step) → HasNoTautology (session_after steps)
 sessions_are_plain [] q set c = absurd (omega arith)
 sessions_are_plain (step ∷ earlier) q set c = plain_changed step (session_after earlier) (sessions_are_plain earlier) q set c

@@ -6,12 +6,12 @@ use Rattle.std.specs.List.{AllByRecursion, list_any}
 use Rattle.sat_base.specs.values.Literals.{negated}
 use Rattle.sat_base.specs.steps.Steps.{Step, AtClause}
 use Rattle.sat_checker.specs.LiteralSets.{is_among}
-use Rattle.sat_checker.specs.Leading.{PropagatesToConflict}
+use Rattle.sat_checker.specs.ConflictPropagation.{PropagatesToConflict}
 use Rattle.sat_parts.proofs.lemmas.prop.StateLemmas.{negated_twice}
-use Rattle.sat_solver.specs.session.Session.{Session, IsLive, AreLiveByHash, rup_assumptions, MayDerive, by_unit, by_clauses}
+use Rattle.sat_solver.specs.session.Session.{Session, IsLive, AreLiveByHash, rup_assumptions, CanDerive, by_unit, by_clauses}
 use Rattle.sat_solver.proofs.lemmas.session.Mapped.{among_mapped}
 use Rattle.sat_solver.specs.session.AllowedSteps.{EachIsAllowed}
-use Rattle.sat_solver.specs.session.Quiet.{others_of, LeavesLiteralUnassigned, are_few, is_quiet, AreQuiet, ComesQuietly, QuietIsNeverEmpowering}
+use Rattle.sat_solver.specs.session.Quiet.{others_of, LeavesLiteralUnassigned, has_at_most_one, is_quiet, AreQuiet, MakesOnlyQuiet, QuietIsNeverEmpowering}
 
 -- LISTS
 
@@ -20,7 +20,7 @@ quiet_both xs [] h k = h
 quiet_both xs (y ∷ ys) h k = (k.0, quiet_both xs ys h k.1)
 
 -- deriving a clause from a unit or a single clause is quiet
-pub few_quiet : (redundant : Bool) (clause hashes : List ℕ) → are_few hashes ≡ true → is_quiet (AtClause redundant clause hashes) ≡ true
+pub few_quiet : (redundant : Bool) (clause hashes : List ℕ) → has_at_most_one hashes ≡ true → is_quiet (AtClause redundant clause hashes) ≡ true
 few_quiet redundant [] hashes e = refl
 few_quiet redundant (l ∷ ls) hashes e = e
 
@@ -32,10 +32,10 @@ quiet_each : (from xs : List Step) → AreQuiet xs → EachIsAllowed (λ earlier
 quiet_each from [] h = tt
 quiet_each from (x ∷ xs) h = (quiet_each from xs h.1, h.0)
 
-pub quiet_comes : (from to xs : List Step) → to ≡ xs ++ from → AreQuiet xs → ComesQuietly from to
+pub quiet_comes : (from to xs : List Step) → to ≡ xs ++ from → AreQuiet xs → MakesOnlyQuiet from to
 quiet_comes from to xs e h = record { steps = xs; following = e; each = quiet_each from xs h }
 
-pub comes_quiet : (from to xs : List Step) → ComesQuietly from to → to ≡ xs ++ from → AreQuiet xs
+pub comes_quiet : (from to xs : List Step) → MakesOnlyQuiet from to → to ≡ xs ++ from → AreQuiet xs
 comes_quiet from to xs c e = subst AreQuiet (append_cancel_right c.steps xs from (sym c.following ∙ e)) (each_quiet from c.steps c.each)
 
 -- ONE CLAUSE
@@ -138,7 +138,7 @@ module _ (s : Session) (clause : List ℕ) (l : ℕ) (o : LeavesLiteralUnassigne
     | inr f ↦ let new = o.stays [] holds (λ m t. t) in new.no_conflict c live (no_open c f (all_split c h))
   ]
 
-  by_few : (named : List (List ℕ)) (hashes : List ℕ) → are_few hashes ≡ true → AreLiveByHash s named hashes → PropagatesToConflict (rup_assumptions s clause) named → ⊥
+  by_few : (named : List (List ℕ)) (hashes : List ℕ) → has_at_most_one hashes ≡ true → AreLiveByHash s named hashes → PropagatesToConflict (rup_assumptions s clause) named → ⊥
   by_few [] hashes few n h = h
   by_few (c ∷ []) [] few n h = n
   by_few (c ∷ []) (x ∷ hashes) few n h = by_one c n.0 h
@@ -147,7 +147,7 @@ module _ (s : Session) (clause : List ℕ) (l : ℕ) (o : LeavesLiteralUnassigne
   by_few (c ∷ d ∷ cs) (x ∷ y ∷ hashes) few n h = true≢false (sym few)
 
 -- a clause derived from a unit or a single clause leaves none of its literals open
-clause_never : (s : Session) (clause hashes : List ℕ) → MayDerive s clause hashes → are_few hashes ≡ true → (l : ℕ) → LeavesLiteralUnassigned s clause l → ⊥
+clause_never : (s : Session) (clause hashes : List ℕ) → CanDerive s clause hashes → has_at_most_one hashes ≡ true → (l : ℕ) → LeavesLiteralUnassigned s clause l → ⊥
 clause_never s clause hashes may few l o = elim may [
   | by_unit u ↦ by_a_unit s clause l o (unit_in s clause u)
   | by_clauses named n h ↦ by_few s clause l o named hashes few n h

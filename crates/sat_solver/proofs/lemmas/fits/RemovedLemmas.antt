@@ -20,8 +20,8 @@ use Rattle.sat_solver.proofs.lemmas.trail.OpenLemmas.{binaries_open}
 use Rattle.sat_solver.proofs.lemmas.trail.LeftLemmas.{left_start, left_list, left_end, left_other, left_open, left_set}
 use Rattle.sat_parts.specs.parts.Round.{UnitsHaveNoReason}
 use Rattle.sat_parts.proofs.lemmas.parts.ValueLemmas.{open_or_true}
-use Rattle.sat_solver.specs.session.Fits.{ArePaired, is_redundant, SessionMatches}
-use Rattle.sat_solver.specs.session.Listed.{FitsList}
+use Rattle.sat_solver.specs.session.Matching.{ArePaired, is_redundant, SessionMatches}
+use Rattle.sat_solver.specs.session.Listed.{MatchesClauseList}
 use Rattle.sat_solver.proofs.lemmas.fits.ListedLemmas.{listed, fits_listed, listed_satisfied, some_unit}
 use Rattle.sat_solver.proofs.lemmas.fits.AddedLemmas.{true_unit}
 
@@ -75,7 +75,7 @@ paired_open values x y h p =
 
 -- the first k literals of list l, and all lists before it, were visited
 abbrev pub LeftFits : (words live : List ℕ) (x : Binaries) (st : PropagationState) (global : ℕ → ℕ) → Session → (l k : ℕ) → Type 0
-LeftFits words live x st global t l k = FitsList (binaries_left st.values x.implied l k ++ longs (is_redundant words) words live) st t global
+LeftFits words live x st global t l k = MatchesClauseList (binaries_left st.values x.implied l k ++ longs (is_redundant words) words live) st t global
 
 module _ (words live : List ℕ) (x : Binaries) (st : PropagationState) (global : ℕ → ℕ) (agrees : StateIsConsistent st) (bare : UnitsHaveNoReason st) (bottom : length st.trail.starts ≡ 0) (paired : ArePaired x.implied) (complete : (l k : ℕ) → k < length (implied_by x.implied l) → IsTrueLit st.values l → IsTrueLit st.values (get_or (implied_by x.implied l) k 0)) where
   -- an assigned variable makes one of its literals true
@@ -103,8 +103,8 @@ module _ (words live : List ℕ) (x : Binaries) (st : PropagationState) (global 
     ]
   ]
 
-  same_left : (t : Session) (ds es : List LiveClause) → ds ≡ es → FitsList (ds ++ longs (is_redundant words) words live) st t global → FitsList (es ++ longs (is_redundant words) words live) st t global
-  same_left t ds es e h = subst (λ cs. FitsList (cs ++ longs (is_redundant words) words live) st t global) e h
+  same_left : (t : Session) (ds es : List LiveClause) → ds ≡ es → MatchesClauseList (ds ++ longs (is_redundant words) words live) st t global → MatchesClauseList (es ++ longs (is_redundant words) words live) st t global
+  same_left t ds es e h = subst (λ cs. MatchesClauseList (cs ++ longs (is_redundant words) words live) st t global) e h
 
   pub removal_begins : (s : Session) → SessionMatches words live x.implied st s global → LeftFits words live x st global s 0 0
   removal_begins s fits = same_left s (binaries x.implied) (binaries_left st.values x.implied 0 0) (sym (left_start st.values x.implied)) (listed words live x.implied st s global fits)

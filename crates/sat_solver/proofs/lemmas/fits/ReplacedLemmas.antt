@@ -11,7 +11,7 @@ use Rattle.sat_store.specs.clause.Header.{Header, is_learned}
 use Rattle.sat_checker.specs.LiteralSets.{is_among}
 use Rattle.sat_parts.specs.clause.Db.{Db, DbMatchesBuffer, live_refs, ShortensClause}
 use Rattle.sat_parts.specs.clause.Orders.{AreDistinct, IsReordering}
-use Rattle.sat_parts.specs.clause.Stored.{AreClauses, lit_of, size_of}
+use Rattle.sat_parts.specs.clause.Stored.{AreLongClauses, lit_of, size_of}
 use Rattle.sat_parts.specs.prop.State.{PropagationState, StateIsConsistent}
 use Rattle.sat_parts.proofs.lemmas.prop.BuildLemmas.{live_in}
 use Rattle.sat_solver.specs.session.Session.{Session, after, IsAllowedStep}
@@ -19,8 +19,8 @@ use Rattle.sat_solver.specs.session.LiveClauses.{LiveClause, with_var}
 use Rattle.sat_solver.specs.session.SolverClauses.{binaries, longs, solver_clauses, InsertsClause}
 use Rattle.sat_solver.proofs.lemmas.trail.InsertedLemmas.{Splits, splits, longs_both, replaces}
 use Rattle.sat_parts.specs.parts.Frame.{IsUnitLit}
-use Rattle.sat_solver.specs.session.Fits.{is_redundant, SessionMatches}
-use Rattle.sat_solver.specs.session.Listed.{FitsList, ArePlain}
+use Rattle.sat_solver.specs.session.Matching.{is_redundant, SessionMatches}
+use Rattle.sat_solver.specs.session.Listed.{MatchesClauseList, HasNoTautology}
 use Rattle.sat_solver.proofs.lemmas.fits.UsableLemmas.{among_place}
 use Rattle.sat_solver.proofs.lemmas.fits.FitLemmas.{among_at, longs_same}
 use Rattle.sat_solver.proofs.lemmas.fits.ListedLemmas.{MayCome, listed, fits_listed, listed_derived, listed_redundant, listed_simplified}
@@ -69,7 +69,7 @@ shortened_there words words' db implied o len held there short =
 
 -- LONG TO LONG
 
-module _ (words words' : List ℕ) (db : Db) (implied : List (List ℕ)) (st : PropagationState) (s : Session) (global : ℕ → ℕ) (agrees : StateIsConsistent st) (fits : SessionMatches words (live_refs words db.refs) implied st s global) (held : DbMatchesBuffer words db) (clauses : AreClauses words (live_refs words db.refs) (length st.values)) (plain : ArePlain s) (o len : ℕ) (there : Contains (live_refs words db.refs) o) (short : ShortensClause words db words' o len) (long : 3 ≤ len) (fewer : len < size_of words o) (false_by : (k : ℕ) → len ≤ k → k < size_of words o → IsUnitLit st (negated (lit_of words o k))) (ls part : List ℕ) (order : IsReordering ls (lits_at words o)) (part_order : IsReordering part (take len (lits_at words o))) (hs : List ℕ) (hash_order : IsReordering hs (lits_at words o)) (hash_distinct : AreDistinct hs) (hash : ℕ) (its : hash ≡ hash_of hs) where
+module _ (words words' : List ℕ) (db : Db) (implied : List (List ℕ)) (st : PropagationState) (s : Session) (global : ℕ → ℕ) (agrees : StateIsConsistent st) (fits : SessionMatches words (live_refs words db.refs) implied st s global) (held : DbMatchesBuffer words db) (clauses : AreLongClauses words (live_refs words db.refs) (length st.values)) (plain : HasNoTautology s) (o len : ℕ) (there : Contains (live_refs words db.refs) o) (short : ShortensClause words db words' o len) (long : 3 ≤ len) (fewer : len < size_of words o) (false_by : (k : ℕ) → len ≤ k → k < size_of words o → IsUnitLit st (negated (lit_of words o k))) (ls part : List ℕ) (order : IsReordering ls (lits_at words o)) (part_order : IsReordering part (take len (lits_at words o))) (hs : List ℕ) (hash_order : IsReordering hs (lits_at words o)) (hash_distinct : AreDistinct hs) (hash : ℕ) (its : hash ≡ hash_of hs) where
   abbrev live : List ℕ
   live = live_refs words db.refs
 
@@ -118,7 +118,7 @@ module _ (words words' : List ℕ) (db : Db) (implied : List (List ℕ)) (st : P
   step flag = AtClause flag (map (with_var global) part) (hash ∷ [])
 
   -- the derived clause is redundant if and only if the old one is
-  middle : (flag : Bool) → is_redundant words o ≡ flag → (mid : List LiveClause) × (FitsList mid st (after (step flag) s) global × InsertsClause (solver_clauses (is_redundant words') words' live' implied) mid (record { redundant = flag; literals = c }))
+  middle : (flag : Bool) → is_redundant words o ≡ flag → (mid : List LiveClause) × (MatchesClauseList mid st (after (step flag) s) global × InsertsClause (solver_clauses (is_redundant words') words' live' implied) mid (record { redundant = flag; literals = c }))
   middle flag side =
       let x = shortened_there words words' db implied o len held there short in
       let old : List LiveClause = solver_clauses (is_redundant words) words live implied in (

@@ -8,11 +8,11 @@ use Rattle.sat_base.specs.steps.Steps.{AtClause}
 use Rattle.sat_checker.specs.LiteralSets.{is_among, is_subset_of, is_tautology, canonical}
 use Rattle.sat_checker.proofs.lemmas.sets.Canonical.{canonical_among, canonical_tautology}
 use Rattle.sat_checker.proofs.lemmas.sets.Subsets.{all_true}
-use Rattle.sat_solver.specs.session.Session.{Session, last_long, after, IsLive, MayDerive, by_clauses, MayDeleteSimplified, rup_assumptions}
+use Rattle.sat_solver.specs.session.Session.{Session, last_long, after, IsLive, CanDerive, by_clauses, CanDeleteSimplified, rup_assumptions}
 use Rattle.sat_solver.specs.session.LiveClauses.{with_var}
 use Rattle.sat_solver.proofs.lemmas.session.Mapped.{negated_mapped, among_mapped}
 use Rattle.sat_solver.specs.session.TrailUnits.{IsUsable}
-use Rattle.sat_solver.specs.session.Listed.{ArePlain}
+use Rattle.sat_solver.specs.session.Listed.{HasNoTautology}
 use Rattle.sat_solver.proofs.lemmas.fits.MayLemmas.{whole}
 use Rattle.sat_solver.proofs.lemmas.fits.SetLemmas.{part_has}
 
@@ -22,7 +22,7 @@ all_of_map P f (l ∷ ls) h = (h zero (omega arith), all_of_map P f ls (λ k n. 
 
 -- a part may be derived from a live clause if the other literals are false by units
 pub may_shorten : (s : Session) (global : ℕ → ℕ) (c part : List ℕ) (hash : ℕ) → s.width ≡ 64 → IsUsable s global c → hash ≡ hash_of c →
-    ((k : ℕ) → k < length c → (is_among part (get_or c k 0) ≡ true) ⊎ (s.units (with_var global (negated (get_or c k 0))) ≡ true)) → MayDerive s (map (with_var global) part) (hash ∷ [])
+    ((k : ℕ) → k < length c → (is_among part (get_or c k 0) ≡ true) ⊎ (s.units (with_var global (negated (get_or c k 0))) ≡ true)) → CanDerive s (map (with_var global) part) (hash ∷ [])
 may_shorten s global c part hash width u e each =
     let ks : List ℕ = map (with_var global) part in
     by_clauses (map (with_var global) c ∷ []) (u.live, e ∙ whole s (hash_of c) width ∙ u.hash, tt)
@@ -40,7 +40,7 @@ long_some (l ∷ []) n = absurd (omega arith)
 long_some (l ∷ m ∷ ls) n = refl
 
 -- then the part may replace the clause if it lacks one of its literals
-pub may_replace : (s : Session) (ks ms hashes : List ℕ) (w : ℕ) → 1 < length (canonical ks) → is_tautology ks ≡ false → is_subset_of ks ms ≡ true → is_among ms w ≡ true → is_among ks w ≡ false → MayDeleteSimplified (after (AtClause false ks hashes) s) ms
+pub may_replace : (s : Session) (ks ms hashes : List ℕ) (w : ℕ) → 1 < length (canonical ks) → is_tautology ks ≡ false → is_subset_of ks ms ≡ true → is_among ms w ≡ true → is_among ks w ≡ false → CanDeleteSimplified (after (AtClause false ks hashes) s) ms
 may_replace s ks ms hashes w two plain within there missing = record {
   part = canonical ks;
   last = ap (λ b. cond b None (last_long false (canonical ks))) plain ∙ long_some (canonical ks) two;
@@ -49,7 +49,7 @@ may_replace s ks ms hashes w two plain within there missing = record {
 }
 
 -- a live clause is no tautology
-pub live_plain : (s : Session) (c : List ℕ) → ArePlain s → IsLive s c → is_tautology c ≡ false
+pub live_plain : (s : Session) (c : List ℕ) → HasNoTautology s → IsLive s c → is_tautology c ≡ false
 live_plain s c plain h =
     let set : List ℕ = canonical c in
     sym (canonical_tautology c) ∙ elim (cases_lt 0 (s.live false set)) [

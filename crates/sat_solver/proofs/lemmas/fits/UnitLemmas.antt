@@ -7,28 +7,28 @@ use Rattle.sat_base.specs.values.Hashes.{hash_of}
 use Rattle.sat_base.specs.steps.Steps.{UnitClauses}
 use Rattle.sat_checker.specs.LiteralSets.{is_among}
 use Rattle.sat_parts.specs.declared.prop.graph.Conflict.{Conflict}
-use Rattle.sat_parts.specs.clause.Stored.{AreClauses}
-use Rattle.sat_parts.specs.prop.Causes.{falsified}
+use Rattle.sat_parts.specs.clause.Stored.{AreLongClauses}
+use Rattle.sat_parts.specs.prop.ReasonLits.{conflict_lits}
 use Rattle.sat_parts.specs.prop.Graphs.{has_no_clause}
 use Rattle.sat_parts.specs.prop.Values.{IsTrueLit, IsFalseLit}
 use Rattle.sat_parts.specs.prop.State.{PropagationState, node, level, lit_at, current_level, StateIsConsistent}
-use Rattle.sat_parts.specs.prop.Reasons.{AreUnitInTurn}
+use Rattle.sat_parts.specs.prop.Reasons.{ReasonsAreUnit}
 use Rattle.sat_parts.specs.prop.Ready.{IsConflict}
 use Rattle.sat_parts.proofs.lemmas.prop.StateLemmas.{negated_variable, true_from_false, false_from_true, not_both, level_low}
-use Rattle.sat_solver.specs.session.Session.{Session, with_fact, after, MayWriteUnits, MayDerive, by_clauses, rup_assumptions}
+use Rattle.sat_solver.specs.session.Session.{Session, with_unit_added, after, CanWriteUnits, CanDerive, by_clauses, rup_assumptions}
 use Rattle.sat_solver.proofs.lemmas.session.Changes.{with_facts, knowing_literals}
 use Rattle.sat_solver.specs.session.LiveClauses.{with_var}
 use Rattle.sat_solver.proofs.lemmas.session.Mapped.{negated_mapped, apart}
 use Rattle.sat_solver.proofs.lemmas.session.StepsOfClauses.{units_leave}
 use Rattle.sat_solver.proofs.lemmas.analyze_conflict.Callers.{conflict_fails}
-use Rattle.sat_solver.specs.session.TrailUnits.{written_units, IsUsable, UnitsFit}
+use Rattle.sat_solver.specs.session.TrailUnits.{written_units, IsUsable, TrailMatches}
 use Rattle.sat_solver.specs.session.SolverClauses.{solver_clauses}
 use Rattle.sat_solver.specs.session.TrailEntries.{reason_clause}
 use Rattle.sat_solver.proofs.lemmas.fits.MayLemmas.{whole}
 use Rattle.sat_solver.proofs.lemmas.trail.UnitLemmas.{trail_units_may, fact_keeps, fact_gives, fact_only, fact_names, fact_width}
-use Rattle.sat_parts.specs.parts.Frame.{TakesOffUnits}
-use Rattle.sat_solver.specs.session.Fits.{is_redundant, SessionMatches, TrueLitsHaveNames}
-use Rattle.sat_solver.specs.session.Units.{written_lits, FitsAll}
+use Rattle.sat_parts.specs.parts.Frame.{ClearsUnits}
+use Rattle.sat_solver.specs.session.Matching.{is_redundant, SessionMatches, TrueLitsHaveIndices}
+use Rattle.sat_solver.specs.session.Units.{written_lits, MatchesWithUnits}
 use Rattle.sat_solver.proofs.lemmas.fits.UsableLemmas.{reason_usable, conflict_usable}
 use Rattle.sat_solver.proofs.lemmas.fits.FitLemmas.{fact_unsat, all_at}
 
@@ -58,7 +58,7 @@ module _ (st : PropagationState) (global : ℕ → ℕ) where
       let x = s.sound (negated l) n (subst (λ z. t.units z ≡ true) (sym (negated_mapped global l)) u) in
       not_both st.values (negated l) x.0 (false_from_true st.values l g.holds))
 
-  fact_sound : (t : Session) (l : ℕ) → Sound t → IsGood t.solver_names l → Sound (with_fact (with_var global l) t)
+  fact_sound : (t : Session) (l : ℕ) → Sound t → IsGood t.solver_names l → Sound (with_unit_added (with_var global l) t)
   fact_sound t l s g = record {
     sound = λ m n u.
         let old : t.solver_names (global (variable m)) ≡ Some (variable m) = sym (fact_names t (with_var global l) (global (variable m))) ∙ n in
@@ -78,14 +78,14 @@ module _ (st : PropagationState) (global : ℕ → ℕ) where
   facts_all [] t s h = record { keeps = λ m u. u; gives = λ l k. absurd (true≢false (sym k)); names = λ v. refl; width = refl; unsat = refl; sound = s }
   facts_all (l ∷ ls) t s h =
       let w : ℕ = with_var global l in
-      let u : Session = with_fact (with_var global l) t in
+      let u : Session = with_unit_added (with_var global l) t in
       let n : t.units (negated (with_var global l)) ≡ false = never t l s h.0 in
-      let rest : Facts ls (with_fact (with_var global l) t) (with_facts (map (with_var global) ls) (with_fact (with_var global l) t)) =
-      facts_all ls (with_fact (with_var global l) t) (fact_sound t l s h.0) (all_good t.solver_names u.solver_names ls (fact_names t w) h.1) in
+      let rest : Facts ls (with_unit_added (with_var global l) t) (with_facts (map (with_var global) ls) (with_unit_added (with_var global l) t)) =
+      facts_all ls (with_unit_added (with_var global l) t) (fact_sound t l s h.0) (all_good t.solver_names u.solver_names ls (fact_names t w) h.1) in
       record {
         keeps = λ m k. rest.keeps m (fact_keeps t w m k);
         gives = λ m k. elim (or_cases (eqb l m) (is_among ls m) k) [
-          | inl e ↦ subst (λ z. (with_facts (map (with_var global) ls) (with_fact (with_var global l) t)).units (with_var global z) ≡ true) (eqb-true l m e) (rest.keeps w (fact_gives t w n))
+          | inl e ↦ subst (λ z. (with_facts (map (with_var global) ls) (with_unit_added (with_var global l) t)).units (with_var global z) ≡ true) (eqb-true l m e) (rest.keeps w (fact_gives t w n))
           | inr r ↦ rest.gives m r
         ];
         names = λ v. rest.names v ∙ fact_names t w v;
@@ -126,7 +126,7 @@ module _ (st : PropagationState) (global : ℕ → ℕ) where
       go true ih = ih
       go false ih = or_right (eqb l (get_or ls k 0)) (is_among (written_lits st ls) (get_or ls k 0)) ih
 
-module _ (words live : List ℕ) (implied : List (List ℕ)) (st : PropagationState) (s : Session) (global : ℕ → ℕ) (fits : SessionMatches words live implied st s global) (names : TrueLitsHaveNames st.values s global) (agrees : StateIsConsistent st) (clauses : AreClauses words live (length st.values)) (turns : AreUnitInTurn words live implied st 0) (bottom : length st.trail.starts ≡ 0) where
+module _ (words live : List ℕ) (implied : List (List ℕ)) (st : PropagationState) (s : Session) (global : ℕ → ℕ) (fits : SessionMatches words live implied st s global) (names : TrueLitsHaveIndices st.values s global) (agrees : StateIsConsistent st) (clauses : AreLongClauses words live (length st.values)) (turns : ReasonsAreUnit words live implied st 0) (bottom : length st.trail.starts ≡ 0) where
   low : (l : ℕ) → IsTrueLit st.values l → level st l ≡ 0
   low l t = (let h : level st l ≤ current_level st = level_low st l agrees t in omega arith)
 
@@ -136,7 +136,7 @@ module _ (words live : List ℕ) (implied : List (List ℕ)) (st : PropagationSt
   bare_known : (i : ℕ) → i < length st.trail.lits → has_no_clause (node st (lit_at st i)).reason ≡ true → s.units (with_var global (lit_at st i)) ≡ true
   bare_known i lt u = fits.known (lit_at st i) (inr (record { place = i; within = lt; there = refl; bottom = low (lit_at st i) (agrees.holds i lt); none = u }))
 
-  units_fit : UnitsFit words st s global
+  units_fit : TrailMatches words st s global
   units_fit = record {
     named = named_at;
     usable = λ i lt u. reason_usable words live implied s global fits.clauses fits.paired st i (node st (lit_at st i)).reason u (turns i (omega arith) lt);
@@ -146,11 +146,11 @@ module _ (words live : List ℕ) (implied : List (List ℕ)) (st : PropagationSt
   }
 
   -- these units may be written
-  pub units_may : MayWriteUnits s (written_units words st 64 global st.trail.lits)
-  units_may = subst (λ w. MayWriteUnits s (written_units words st w global st.trail.lits)) fits.width (trail_units_may words live implied st s global (λ o c. omega (arith, clauses.long o c)) agrees turns units_fit)
+  pub units_may : CanWriteUnits s (written_units words st 64 global st.trail.lits)
+  units_may = subst (λ w. CanWriteUnits s (written_units words st w global st.trail.lits)) fits.width (trail_units_may words live implied st s global (λ o c. omega (arith, clauses.long o c)) agrees turns units_fit)
 
   -- after they are written, every true literal of level 0 is a unit
-  pub units_written : FitsAll words live implied st (after (UnitClauses (written_units words st 64 global st.trail.lits)) s) global
+  pub units_written : MatchesWithUnits words live implied st (after (UnitClauses (written_units words st 64 global st.trail.lits)) s) global
   units_written =
       let us : List (ℕ × ℕ) = written_units words st 64 global st.trail.lits in
       let ls : List ℕ = map (λ u. u.0) (written_units words st 64 global st.trail.lits) in
@@ -184,7 +184,7 @@ module _ (words live : List ℕ) (implied : List (List ℕ)) (st : PropagationSt
       true_or_false false = inr refl
 
 -- written units are taken off the trail
-pub fits_cleared : (words live : List ℕ) (implied : List (List ℕ)) (st st' : PropagationState) (s : Session) (global : ℕ → ℕ) → TakesOffUnits st st' → FitsAll words live implied st s global → SessionMatches words live implied st' s global
+pub fits_cleared : (words live : List ℕ) (implied : List (List ℕ)) (st st' : PropagationState) (s : Session) (global : ℕ → ℕ) → ClearsUnits st st' → MatchesWithUnits words live implied st s global → SessionMatches words live implied st' s global
 fits_cleared words live implied st st' s global c h = record {
   clauses = h.fits.clauses;
   paired = h.fits.paired;
@@ -197,16 +197,16 @@ fits_cleared words live implied st st' s global c h = record {
 -- THE EMPTY CLAUSE
 
 -- at a conflict at level 0, the empty clause may be derived once the units are written
-pub empty_may : (words live : List ℕ) (implied : List (List ℕ)) (st : PropagationState) (s : Session) (global : ℕ → ℕ) (e : Conflict) → FitsAll words live implied st s global → StateIsConsistent st → length st.trail.starts ≡ 0 → IsConflict words live implied st.values e →
-    MayDerive s [] (hash_of (falsified words e) ∷ [])
+pub empty_may : (words live : List ℕ) (implied : List (List ℕ)) (st : PropagationState) (s : Session) (global : ℕ → ℕ) (e : Conflict) → MatchesWithUnits words live implied st s global → StateIsConsistent st → length st.trail.starts ≡ 0 → IsConflict words live implied st.values e →
+    CanDerive s [] (hash_of (conflict_lits words e) ∷ [])
 empty_may words live implied st s global e h agrees bottom conflict =
-    let u : IsUsable s global (falsified words e) = conflict_usable words live implied s global h.fits.clauses h.fits.paired st.values e conflict in
-    let fails : (k : ℕ) → k < length (falsified words e) → IsFalseLit st.values (get_or (falsified words e) k 0) = conflict_fails words live implied st.values e conflict in
-    by_clauses (map (with_var global) (falsified words e) ∷ []) (u.live, whole s (hash_of (falsified words e)) h.fits.width ∙ u.hash, tt)
-    (all_false (falsified words e) (λ k lt.
-    let r : ℕ = get_or (falsified words e) k 0 in
-    let t : IsTrueLit st.values (negated (get_or (falsified words e) k 0)) = true_from_false st.values r (fails k lt) in
-    let z : level st (negated (get_or (falsified words e) k 0)) ≡ 0 = (let l : level st (negated r) ≤ current_level st = level_low st (negated r) agrees t in omega arith) in
+    let u : IsUsable s global (conflict_lits words e) = conflict_usable words live implied s global h.fits.clauses h.fits.paired st.values e conflict in
+    let fails : (k : ℕ) → k < length (conflict_lits words e) → IsFalseLit st.values (get_or (conflict_lits words e) k 0) = conflict_fails words live implied st.values e conflict in
+    by_clauses (map (with_var global) (conflict_lits words e) ∷ []) (u.live, whole s (hash_of (conflict_lits words e)) h.fits.width ∙ u.hash, tt)
+    (all_false (conflict_lits words e) (λ k lt.
+    let r : ℕ = get_or (conflict_lits words e) k 0 in
+    let t : IsTrueLit st.values (negated (get_or (conflict_lits words e) k 0)) = true_from_false st.values r (fails k lt) in
+    let z : level st (negated (get_or (conflict_lits words e) k 0)) ≡ 0 = (let l : level st (negated r) ≤ current_level st = level_low st (negated r) agrees t in omega arith) in
     subst (λ x. s.units x ≡ true) (negated_mapped global r) (h.all (negated r) t z)))
   where
     all_false : (ls : List ℕ) → ((k : ℕ) → k < length ls → s.units (negated (with_var global (get_or ls k 0))) ≡ true) → AllByRecursion (λ l. rup_assumptions s [] (negated l) ≡ true) (map (with_var global) ls)

@@ -13,16 +13,16 @@ use Rattle.sat_parts.specs.declared.prop.graph.Reason.TheVariants.{Unit as NoCau
 use Rattle.sat_parts.specs.declared.prop.graph.Conflict.{Conflict}
 use Rattle.sat_parts.specs.declared.prop.graph.Conflict.TheVariants as conflicts
 use Rattle.sat_parts.specs.clause.Orders.{AreDistinct}
-use Rattle.sat_parts.specs.clause.Stored.{AreClauses}
+use Rattle.sat_parts.specs.clause.Stored.{AreLongClauses}
 use Rattle.sat_parts.specs.prop.Binaries.{implied_by}
-use Rattle.sat_parts.specs.prop.Causes.{causes, falsified}
+use Rattle.sat_parts.specs.prop.ReasonLits.{reason_lits, conflict_lits}
 use Rattle.sat_parts.specs.prop.Graphs.{has_no_clause}
 use Rattle.sat_parts.specs.prop.State.{PropagationState, lit_at}
-use Rattle.sat_parts.specs.prop.Reasons.{Implies}
+use Rattle.sat_parts.specs.prop.Reasons.{ReasonImplies}
 use Rattle.sat_parts.specs.prop.Ready.{IsConflict}
 use Rattle.sat_parts.proofs.lemmas.clause.ListLemmas.{at_place}
 use Rattle.sat_solver.specs.session.Session.{Session, IsLive}
-use Rattle.sat_solver.specs.session.LiveClauses.{LiveClause, IsIn, with_var, AreMapped, AreOf}
+use Rattle.sat_solver.specs.session.LiveClauses.{LiveClause, IsIn, with_var, AreMapped, AreLiveClausesOf}
 use Rattle.sat_solver.proofs.lemmas.session.Lists.{solver_hash}
 use Rattle.sat_solver.proofs.lemmas.session.Mapped.{once_mapped}
 use Rattle.sat_solver.proofs.lemmas.session.Represented.{usable}
@@ -31,7 +31,7 @@ use Rattle.sat_solver.specs.session.SolverClauses.{pair, binaries, longs, solver
 use Rattle.sat_solver.specs.session.TrailUnits.{IsUsable}
 use Rattle.sat_solver.specs.session.TrailEntries.{reason_clause}
 use Rattle.sat_solver.proofs.lemmas.trail.ClauseLemmas.{binary_there, long_there, in_front, in_after}
-use Rattle.sat_solver.specs.session.Fits.{ArePaired, is_redundant}
+use Rattle.sat_solver.specs.session.Matching.{ArePaired, is_redundant}
 
 -- a literal of a list has a position
 pub among_place : (xs : List ℕ) (m : ℕ) → is_among xs m ≡ true → (k : ℕ) × ((k < length xs) × (get_or xs k 0 ≡ m))
@@ -72,7 +72,7 @@ pub first_rest : (ls : List ℕ) (l : ℕ) → 0 < length ls → get_or ls 0 0 �
 first_rest [] l lt e = absurd (omega arith)
 first_rest (x ∷ xs) l lt e = ap (λ z. z ∷ xs) (sym e)
 
-module _ (words live : List ℕ) (implied : List (List ℕ)) (s : Session) (global : ℕ → ℕ) (clauses : AreOf s global (solver_clauses (is_redundant words) words live implied)) (paired : ArePaired implied) where
+module _ (words live : List ℕ) (implied : List (List ℕ)) (s : Session) (global : ℕ → ℕ) (clauses : AreLiveClausesOf s global (solver_clauses (is_redundant words) words live implied)) (paired : ArePaired implied) where
   abbrev all : List LiveClause
   all = solver_clauses (is_redundant words) words live implied
 
@@ -113,18 +113,18 @@ module _ (words live : List ℕ) (implied : List (List ℕ)) (s : Session) (glob
       clauses.named it (in_after it (binaries implied) (longs (is_redundant words) words live) (long_there (is_redundant words) words live o c))
 
   -- the reason of a literal on the trail
-  pub reason_usable : (st : PropagationState) (i : ℕ) (r : Reason) → has_no_clause r ≡ false → Implies words live implied st i r → IsUsable s global (reason_clause words (lit_at st i) r)
+  pub reason_usable : (st : PropagationState) (i : ℕ) (r : Reason) → has_no_clause r ≡ false → ReasonImplies words live implied st i r → IsUsable s global (reason_clause words (lit_at st i) r)
   reason_usable st i NoCause u h = absurd (true≢false u)
   reason_usable st i (Binary ls) u h = pair_usable (lit_at st i) (get_or ls 0 0) (paired.back (get_or ls 0 0) (lit_at st i) h.0)
   reason_usable st i (Long o) u h = long_usable o h.0
 
   -- the falsified clause
-  pub conflict_usable : (values : List (Option Bool)) (e : Conflict) → IsConflict words live implied values e → IsUsable s global (falsified words e)
+  pub conflict_usable : (values : List (Option Bool)) (e : Conflict) → IsConflict words live implied values e → IsUsable s global (conflict_lits words e)
   conflict_usable values (conflicts.Binary ls) c = pair_usable (get_or ls 0 0) (get_or ls 1 0) (paired.back (get_or ls 1 0) (get_or ls 0 0) c.0)
   conflict_usable values (conflicts.Long o) c = long_usable o c.0
 
 -- two ways to write the clause of a reason agree
-pub reason_clauses : (words live : List ℕ) (implied : List (List ℕ)) (st : PropagationState) (i count : ℕ) (r : Reason) → AreClauses words live count → has_no_clause r ≡ false → Implies words live implied st i r → lit_at st i ∷ causes words r ≡ reason_clause words (lit_at st i) r
+pub reason_clauses : (words live : List ℕ) (implied : List (List ℕ)) (st : PropagationState) (i count : ℕ) (r : Reason) → AreLongClauses words live count → has_no_clause r ≡ false → ReasonImplies words live implied st i r → lit_at st i ∷ reason_lits words r ≡ reason_clause words (lit_at st i) r
 reason_clauses words live implied st i count NoCause h u x = absurd (true≢false u)
 reason_clauses words live implied st i count (Binary ls) h u x = refl
 reason_clauses words live implied st i count (Long o) h u x = first_rest (lits_at words o) (lit_at st i) (omega (arith, h.long o x.0)) x.1

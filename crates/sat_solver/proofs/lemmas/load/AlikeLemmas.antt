@@ -12,7 +12,7 @@ use Rattle.sat_solver.proofs.lemmas.fits.CodeLemmas.{coded_by}
 use Rattle.sat_solver.proofs.lemmas.cdcl.TurnLemmas.{ready_names}
 use Rattle.sat_solver.specs.declared.context.Search.{Search}
 use Rattle.sat_solver.specs.cdcl.Joint.{global_in, SearchInvariant}
-use Rattle.sat_solver.specs.load.Alike.{LooksAlike}
+use Rattle.sat_solver.specs.load.Alike.{SameToSearch}
 use Rattle.sat_solver.specs.load.Loaded.{IsAdded}
 use Rattle.sat_solver.proofs.lemmas.load.LoadingLemmas.{asked_added, leaves_added}
 
@@ -20,7 +20,7 @@ mapped_alike : (global : ℕ → ℕ) (f h : ℕ → Option ℕ) (ls : List ℕ)
 mapped_alike global f h [] same m = m
 mapped_alike global f h (l ∷ ls) same m = (same (global (variable l)) ∙ m.0, mapped_alike global f h ls same m.1)
 
-pub search_alike : (s t : Session) (c : Search) → SearchInvariant s c → LooksAlike s t → SearchInvariant t c
+pub search_alike : (s t : Session) (c : Search) → SearchInvariant s c → SameToSearch s t → SearchInvariant t c
 search_alike s t c x a =
     let fits = x.valid.fits in
     record {
@@ -33,7 +33,7 @@ search_alike s t c x a =
             counts = λ r set. a.live r set ∙ fits.clauses.counts r set;
           };
           paired = fits.paired;
-          known = λ l u. unit_same l (ready_names s c x.ready l (unit_true (state c.parts) l x.valid.holds.below.asks.agrees u).0) ∙ fits.known l u;
+          known = λ l u. unit_same l (ready_names s c x.ready l (unit_true (state c.parts) l x.valid.holds.below.propagation.agrees u).0) ∙ fits.known l u;
           sound = λ l n u. (let own = sym (a.names (global_in c (variable l))) ∙ n in fits.sound l own (sym (unit_same l own) ∙ u));
           consistent = a.unsat ∙ fits.consistent;
           width = a.width ∙ fits.width;
@@ -57,7 +57,7 @@ tautology_loads steps c ls added both =
     let x = added.search in
     let p = c.parts in
     rw added.added (record {
-      valid = record { holds = x.valid.holds; fits = fits_added_tautology p.clauses (live_refs p.clauses p.db.refs) p.binary.implied (state p) (session_after added.earlier) (global_in c) x.valid.holds.below.asks.agrees x.valid.fits ls both };
+      valid = record { holds = x.valid.holds; fits = fits_added_tautology p.clauses (live_refs p.clauses p.db.refs) p.binary.implied (state p) (session_after added.earlier) (global_in c) x.valid.holds.below.propagation.agrees x.valid.fits ls both };
       ready = record {
         free = x.ready.free;
         placed = x.ready.placed;

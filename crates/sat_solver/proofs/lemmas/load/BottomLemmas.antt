@@ -9,10 +9,10 @@ use Rattle.sat_base.specs.steps.Steps.{Assumptions as Asks}
 use Rattle.sat_parts.specs.prop.State.{PropagationState}
 use Rattle.sat_parts.specs.declared.parts.SearchState.{SearchState}
 use Rattle.sat_parts.specs.declared.parts.assumptions.Assumptions.{Assumptions}
-use Rattle.sat_parts.specs.parts.Assumed.{ArePlaced, HaveVariablesIn, variables_of_lits}
+use Rattle.sat_parts.specs.parts.Assumed.{PlacesAreCorrect, HaveVariablesIn, variables_of_lits}
 use Rattle.sat_parts.specs.parts.Frame.{SameClauses, AddsNoUnit}
 use Rattle.sat_parts.specs.parts.Whole.{state, SearchStateInvariant}
-use Rattle.sat_parts.specs.parts.Words.{TrailWordStays}
+use Rattle.sat_parts.specs.parts.Words.{KeepsRemovedAndIdleForAll}
 use Rattle.sat_solver.proofs.lemmas.fits.AnswerParts.{parts_rests}
 use Rattle.sat_solver.proofs.lemmas.fits.LearnedLemmas.{fits_undone}
 use Rattle.sat_solver.specs.declared.context.Search.{Search}
@@ -21,7 +21,7 @@ use Rattle.sat_solver.proofs.lemmas.cdcl.TurnLemmas.{ready_moved, free_moved, le
 use Rattle.sat_solver.specs.load.Restart.{FullyRestarted}
 use Rattle.sat_solver.specs.assumptions.Setting.{ReplacesAssumed}
 
-pub fully_restarted : (c : Search) (p : SearchState) (a : Assumptions) → p.trail.starts ≡ [] → SearchStateInvariant p → SameClauses c.parts p → AddsNoUnit (state c.parts) (state p) → TrailWordStays c.parts p → ArePlaced a (state p) → a.lits ≡ c.assumptions.lits →
+pub fully_restarted : (c : Search) (p : SearchState) (a : Assumptions) → p.trail.starts ≡ [] → SearchStateInvariant p → SameClauses c.parts p → AddsNoUnit (state c.parts) (state p) → KeepsRemovedAndIdleForAll c.parts p → PlacesAreCorrect a (state p) → a.lits ≡ c.assumptions.lits →
     FullyRestarted c (record c { parts = p; assumptions = a })
 fully_restarted c p a bottom holds same carries stay placed lits =
     let c' : Search = record c { parts = p; assumptions = a } in
@@ -65,7 +65,7 @@ variables_mention (l ∷ ls) v (zero, lt, e) = or_left (eqb (variable l) v) (men
 variables_mention (l ∷ ls) v (suc k, lt, e) = or_right (eqb (variable l) v) (mentions ls v) (variables_mention ls v (k, omega arith, e))
 
 -- other assumptions replace the current ones
-pub assumed : (c : Search) (a : Assumptions) → c.parts.trail.starts ≡ [] → HaveVariablesIn a.lits.items c.parts → ((s : PropagationState) → s.trail.starts ≡ [] → ArePlaced a s) → ReplacesAssumed a.lits.items c (record c { assumptions = a })
+pub assumed : (c : Search) (a : Assumptions) → c.parts.trail.starts ≡ [] → HaveVariablesIn a.lits.items c.parts → ((s : PropagationState) → s.trail.starts ≡ [] → PlacesAreCorrect a s) → ReplacesAssumed a.lits.items c (record c { assumptions = a })
 assumed c a bottom there placed = record {
   lits = refl;
   same = refl;

@@ -7,31 +7,31 @@ use Rattle.std.specs.List.{Contains, AllByRecursion}
 use Rattle.sat_base.specs.values.Literals.{mk_lit, variable, is_positive}
 use Rattle.sat_store.specs.heap.Vsids.{is_available}
 use Rattle.sat_store.specs.variables.Flags.{GrowsFlags}
-use Rattle.sat_parts.specs.clause.Glue.{AreClear}
+use Rattle.sat_parts.specs.clause.Glue.{FlagsAreClear}
 use Rattle.sat_parts.specs.clause.Db.{live_refs}
 use Rattle.sat_parts.specs.prop.Values.{value_of, IsTrueLit}
 use Rattle.sat_parts.specs.prop.State.{PropagationState, level}
 use Rattle.sat_solver.specs.session.Session.{Session}
-use Rattle.sat_solver.specs.session.LiveClauses.{LiveClause, IsIn, with_var, mapped, live_count_of, AreMapped, AreOf}
+use Rattle.sat_solver.specs.session.LiveClauses.{LiveClause, IsIn, with_var, mapped, live_count_of, AreMapped, AreLiveClausesOf}
 use Rattle.sat_solver.specs.session.SolverClauses.{solver_clauses}
 use Rattle.sat_parts.specs.declared.parts.SearchState.{SearchState}
-use Rattle.sat_parts.specs.parts.Assumed.{IsPlaced, ArePlaced, variables_of_lits}
+use Rattle.sat_parts.specs.parts.Assumed.{AreConsideredUpTo, PlacesAreCorrect, variables_of_lits}
 use Rattle.sat_parts.specs.parts.Frame.{AddsVars, IsUnitLit}
 use Rattle.sat_parts.specs.parts.Whole.{state, SearchStateInvariant}
 use Rattle.sat_parts.specs.parts.Words.{IsIdle}
-use Rattle.sat_solver.specs.session.Fits.{is_redundant, SessionMatchesParts, TrueLitsHaveNames}
+use Rattle.sat_solver.specs.session.Matching.{is_redundant, SessionMatchesParts, TrueLitsHaveIndices}
 use Rattle.sat_solver.specs.session.Naming.{global_of_index}
 use Rattle.sat_solver.proofs.lemmas.fits.AddedLemmas.{unit_true}
 use Rattle.sat_solver.proofs.lemmas.fits.CodeLemmas.{coded_by}
 use Rattle.sat_solver.proofs.lemmas.fits.FramedParts.{fits_grown}
-use Rattle.sat_solver.specs.variables.Variables.{says_unit}
+use Rattle.sat_solver.specs.variables.Variables.{is_unit_value}
 use Rattle.sat_solver.specs.variables.Search.{IndicesDistinct, HasGiven}
 use Rattle.sat_solver.specs.declared.variables.solver_vars.Given.{Given}
 use Rattle.sat_solver.specs.declared.context.Search.{Search}
-use Rattle.sat_solver.specs.cdcl.Joint.{global_in, assumed_indices, IsFree, SearchInvariant}
+use Rattle.sat_solver.specs.cdcl.Joint.{global_in, assumed_indices, HasClearFlags, SearchInvariant}
 use Rattle.sat_solver.proofs.lemmas.cdcl.TurnLemmas.{ready_names}
 use Rattle.sat_solver.specs.load.Restart.{FullyRestarted}
-use Rattle.sat_solver.specs.variables.Initialized.{GivesLit, IsVacant, AreVacant, ActivatesIndices, Renames, IsGivenTo, GivesNames, GivesSearchIndices}
+use Rattle.sat_solver.specs.variables.Initialized.{GivesLit, IsVacant, AreVacant, ActivatesIndices, SetsVariablesOfIndices, IsGivenTo, GivesIndicesInSession, GivesSearchIndices}
 use Rattle.sat_solver.proofs.lemmas.load.IndexLemmas.{given_or_not, lit_given}
 
 -- two maps of variables that agree on a clause map it to the same clause
@@ -58,7 +58,7 @@ module _ (f h : ℕ → ℕ) (p q : ℕ → Option ℕ) (stays : (v : ℕ) → p
   clauses_on (c ∷ cs) m =
       ap (λ ls. (record c { literals = ls }) ∷ map (mapped f) cs) (lits_on c.literals (m c (inl refl))) ∙ ap (λ ds. mapped h c ∷ ds) (clauses_on cs (λ d k. m d (inr k)))
 
-  pub of_on : (s t : Session) (cs : List LiveClause) → s.solver_names ≡ p → t.solver_names ≡ q → t.live ≡ s.live → AreOf s f cs → AreOf t h cs
+  pub of_on : (s t : Session) (cs : List LiveClause) → s.solver_names ≡ p → t.solver_names ≡ q → t.live ≡ s.live → AreLiveClausesOf s f cs → AreLiveClausesOf t h cs
   of_on s t cs ep eq live a = record {
     named = λ c k. subst (λ z. AreMapped h z c.literals) (sym eq) (mapped_on c.literals (subst (λ z. AreMapped f z c.literals) ep (a.named c k)));
     once = a.once;
@@ -80,9 +80,9 @@ lit_unit : (globals : List ℕ) (s t : Session) (gs : List Given) (l : ℕ) → 
 lit_unit globals s t [] l all h = absurd h
 lit_unit globals s t (g ∷ gs) l all (inl e) =
     ap s.units (sym (coded_by (global_of_index globals) l)) ∙ ap (λ v. s.units (mk_lit (global_of_index globals v) (is_positive l))) (sym e.0)
-    ∙ all.0.unit (is_positive l) ∙ ap (λ u. says_unit u (is_positive l)) e.1 ∙ says_itself (is_positive l)
+    ∙ all.0.unit (is_positive l) ∙ ap (λ u. is_unit_value u (is_positive l)) e.1 ∙ says_itself (is_positive l)
   where
-    says_itself : (b : Bool) → says_unit (Some b) b ≡ true
+    says_itself : (b : Bool) → is_unit_value (Some b) b ≡ true
     says_itself true = refl
     says_itself false = refl
 lit_unit globals s t (g ∷ gs) l all (inr k) = lit_unit globals s t gs l all.1 k
@@ -92,7 +92,7 @@ unit_lit globals s t [] l all h u = h
 unit_lit globals s t (g ∷ gs) l all (inl e) u =
     inl (e, says_only g.unit (is_positive l) (sym (all.0.unit (is_positive l)) ∙ ap (λ v. s.units (mk_lit (global_of_index globals v) (is_positive l))) e ∙ ap s.units (coded_by (global_of_index globals) l) ∙ u))
   where
-    says_only : (o : Option Bool) (b : Bool) → says_unit o b ≡ true → o ≡ Some b
+    says_only : (o : Option Bool) (b : Bool) → is_unit_value o b ≡ true → o ≡ Some b
     says_only None b h = absurd (true≢false (sym h))
     says_only (Some true) true h = refl
     says_only (Some false) true h = absurd (true≢false (sym h))
@@ -102,7 +102,7 @@ unit_lit globals s t (g ∷ gs) l all (inr k) u = inr (unit_lit globals s t gs l
 
 -- at level 0, visited assumptions stay visited as long as literals of level 0 stay true
 pub placed_bottom : (ls below : List ℕ) (place : ℕ) (s s' : PropagationState) → s.trail.starts ≡ [] → s'.trail.starts ≡ [] → ((l : ℕ) → IsTrueLit s.values l → level s l ≡ 0 → IsTrueLit s'.values l × (level s' l ≡ 0)) →
-    IsPlaced ls below place s → IsPlaced ls below place s'
+    AreConsideredUpTo ls below place s → AreConsideredUpTo ls below place s'
 placed_bottom ls below place s s' e e' kept h =
     let none : length s.trail.starts ≡ 0 = ap (λ (xs : List ℕ). length xs) e in
     let none' : length s'.trail.starts ≡ 0 = ap (λ (xs : List ℕ). length xs) e' in
@@ -119,8 +119,8 @@ placed_bottom ls below place s s' e e' kept h =
 
 module _ (c c' : Search) (globals : List ℕ) (gs : List Given) (count : ℕ) (holds : SearchStateInvariant c.parts) (bottom : c.parts.trail.starts ≡ []) (next : length c.globals.items ≡ length c.parts.assignment.current) (more : length c.globals.items ≤ count) (least : length c.globals.items ≤ length globals → count ≤ length globals) (past : AllByRecursion (λ g. g.solver < count) gs)
     (p : SearchState) (grown : AddsVars c.parts p count) (takes : ActivatesIndices gs p c'.parts)
-    (xs : List ℕ) (front : (v : ℕ) → v < length c.globals.items → get_or xs v 0 ≡ get_or c.globals.items v 0) (many : length xs ≡ count) (renamed : Renames gs globals xs c'.globals.items)
-    (assumptions : c'.assumptions ≡ c.assumptions) (flags : length c'.analysis.flags ≡ count) (clear : AreClear c.analysis.flags → AreClear c'.analysis.flags) (glue : GrowsFlags count c.flags.flags.items c'.flags.flags.items) where
+    (xs : List ℕ) (front : (v : ℕ) → v < length c.globals.items → get_or xs v 0 ≡ get_or c.globals.items v 0) (many : length xs ≡ count) (renamed : SetsVariablesOfIndices gs globals xs c'.globals.items)
+    (assumptions : c'.assumptions ≡ c.assumptions) (flags : length c'.analysis.flags ≡ count) (clear : FlagsAreClear c.analysis.flags → FlagsAreClear c'.analysis.flags) (glue : GrowsFlags count c.flags.flags.items c'.flags.flags.items) where
   abbrev n : ℕ
   n = length c.parts.assignment.current
 
@@ -136,7 +136,7 @@ module _ (c c' : Search) (globals : List ℕ) (gs : List Given) (count : ℕ) (h
   others : (v : ℕ) → v < length c.globals.items → (HasGiven gs v → ⊥) → get_or c'.globals.items v 0 ≡ get_or c.globals.items v 0
   others v lt out = renamed.others v out ∙ front v lt
 
-  module _ (s t : Session) (x : SearchInvariant s c) (g : GivesNames globals gs (length c.globals.items) s t) where
+  module _ (s t : Session) (x : SearchInvariant s c) (g : GivesIndicesInSession globals gs (length c.globals.items) s t) where
     -- a variable that had a solver name keeps it
     old_stays : (v : ℕ) → s.solver_names (global_in c v) ≡ Some v → (global_in c' v ≡ global_in c v) × (t.solver_names (global_in c' v) ≡ Some v)
     old_stays v own =
@@ -150,12 +150,12 @@ module _ (c c' : Search) (globals : List ℕ) (gs : List Given) (count : ℕ) (h
     grown_fits : SessionMatchesParts p s (global_in c)
     grown_fits = fits_grown c.parts p count s (global_in c) holds (omega (arith, next, more)) grown x.valid.fits
 
-    names : TrueLitsHaveNames c.parts.assignment.current s (global_in c)
+    names : TrueLitsHaveIndices c.parts.assignment.current s (global_in c)
     names = ready_names s c x.ready
 
     -- earlier units are over variables that had solver names
     unit_named : (l : ℕ) → IsUnitLit (state p) l → s.solver_names (global_in c (variable l)) ≡ Some (variable l)
-    unit_named l u = names l (unit_true (state c.parts) l holds.below.asks.agrees (grown.units l u)).0
+    unit_named l u = names l (unit_true (state c.parts) l holds.below.propagation.agrees (grown.units l u)).0
 
     moved_lit : (l : ℕ) → global_in c' (variable l) ≡ global_in c (variable l) → with_var (global_in c') l ≡ with_var (global_in c) l
     moved_lit l e = ap (λ v. 2 * v + l % 2) e
@@ -218,7 +218,7 @@ module _ (c c' : Search) (globals : List ℕ) (gs : List Given) (count : ℕ) (h
         contains_at (l ∷ ls) zero lt = (0, omega arith, refl)
         contains_at (l ∷ ls) (suc k) lt = let y = contains_at ls k (omega arith) in (suc y.0, omega (arith, y.1), y.2)
 
-    free : IsFree c'
+    free : HasClearFlags c'
     free = record {
       names = omega (arith, globals_size, size);
       size = flags ∙ sym size;
@@ -230,7 +230,7 @@ module _ (c c' : Search) (globals : List ℕ) (gs : List Given) (count : ℕ) (h
     bottom_stays : (l : ℕ) → IsTrueLit c.parts.assignment.current l → level (state c.parts) l ≡ 0 → IsTrueLit c'.parts.assignment.current l × (level (state c'.parts) l ≡ 0)
     bottom_stays l true_before z = (let k = (grown.keeps 0).low l true_before (omega (arith, z)) in takes.kept l k.0 (k.1 ∙ z))
 
-    placed : ArePlaced c'.assumptions (state c'.parts)
+    placed : PlacesAreCorrect c'.assumptions (state c'.parts)
     placed = rw assumptions (placed_bottom c.assumptions.lits.items c.assumptions.below.items c.assumptions.place (state c.parts) (state c'.parts) bottom takes.bottom bottom_stays x.ready.placed)
 
     still : SearchInvariant t c'
@@ -307,7 +307,7 @@ front_kept xs zs count m x le e v lt = ap (λ ws. get_or ws v 0) e ∙ ap (λ ws
 -- NO INDICES
 
 -- if only variables without an index got names, the search still agrees with the session
-none_given : (globals : List ℕ) (count : ℕ) (s t : Session) (c : Search) → SearchInvariant s c → GivesNames globals [] count s t → SearchInvariant t c
+none_given : (globals : List ℕ) (count : ℕ) (s t : Session) (c : Search) → SearchInvariant s c → GivesIndicesInSession globals [] count s t → SearchInvariant t c
 none_given globals count s t c x g = record {
   valid = record {
     holds = x.valid.holds;
@@ -366,5 +366,5 @@ restarted_indexed gs ks hs js c m c' same_globals same_given back i =
       lits = i.lits ∙ back.moved.lits;
       bottom = i.bottom;
       holds = i.holds;
-      search = λ s t x g. i.search s t (back.search s x) (subst (λ n. GivesNames gs hs n s t) (sym kept) g);
+      search = λ s t x g. i.search s t (back.search s x) (subst (λ n. GivesIndicesInSession gs hs n s t) (sym kept) g);
     }))

@@ -13,7 +13,7 @@ use Rattle.sat_parts.specs.parts.Whole.{state, SearchStateInvariant}
 use Rattle.sat_parts.specs.parts.Frame.{SameClauses, SameState, GainsUnit, IsUnitLit}
 use Rattle.sat_solver.specs.variables.Search.{HasGiven}
 use Rattle.sat_solver.specs.declared.variables.solver_vars.Given.{Given}
-use Rattle.sat_solver.specs.variables.Initialized.{GivesLit, IsVacant, ActivatesIndices, Renames}
+use Rattle.sat_solver.specs.variables.Initialized.{GivesLit, IsVacant, ActivatesIndices, SetsVariablesOfIndices}
 
 pub given_or_not : (gs : List Given) (v : ℕ) → HasGiven gs v ⊎ (HasGiven gs v → ⊥)
 given_or_not [] v = inr (λ x. x)
@@ -122,10 +122,10 @@ module _ (p m p' : SearchState) (g : Given) (bottom : p.trail.starts ≡ []) (va
 
 -- NAMES OF INDICES
 
-pub renames_none : (globals xs : List ℕ) → Renames [] globals xs xs
+pub renames_none : (globals xs : List ℕ) → SetsVariablesOfIndices [] globals xs xs
 renames_none globals xs = record { size = refl; named = λ v h. absurd h; others = λ v n. refl }
 
-pub renames_cons : (g : Given) (gs : List Given) (globals xs ys : List ℕ) → g.solver < length xs → AllByRecursion (λ h. h.solver ≢ g.solver) gs → Renames gs globals (set xs g.solver (get_or globals g.solver 0)) ys → Renames (g ∷ gs) globals xs ys
+pub renames_cons : (g : Given) (gs : List Given) (globals xs ys : List ℕ) → g.solver < length xs → AllByRecursion (λ h. h.solver ≢ g.solver) gs → SetsVariablesOfIndices gs globals (set xs g.solver (get_or globals g.solver 0)) ys → SetsVariablesOfIndices (g ∷ gs) globals xs ys
 renames_cons g gs globals xs ys lt apart r = record {
   size = r.size ∙ length-set xs g.solver (get_or globals g.solver 0);
   named = λ v h. elim h [

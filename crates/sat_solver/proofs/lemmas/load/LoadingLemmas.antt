@@ -5,7 +5,7 @@ use Rattle.sat_base.specs.steps.Steps.{Step, AddClause, AtClause, DeleteClause, 
 use Rattle.sat_base.specs.device.Device.{Writer}
 use Rattle.sat_store.specs.declared.clause.alloc.StoreError.{StoreError}
 use Rattle.sat_store.specs.declared.clause.alloc.StoreError.TheVariants as stores
-use Rattle.sat_solver.specs.Recovery.{buffer_failure}
+use Rattle.sat_solver.specs.Recovery.{error_of_buffer}
 use Rattle.sat_solver.specs.declared.proof.Proof.{Proof}
 use Rattle.sat_solver.specs.proof.ProofView.{HasAllowedSteps}
 use Rattle.sat_solver.proofs.lemmas.session.ProofLemmas.{adds_none}
@@ -25,8 +25,8 @@ use Rattle.sat_solver.specs.session.Session.{Session, IsAllowedStep, after, sess
 use Rattle.sat_solver.proofs.lemmas.session.Changes.{with_live_clause, knowing_literals, session_if}
 use Rattle.sat_solver.specs.session.AllowedSteps.{IsLastAdded}
 use Rattle.sat_solver.specs.session.LiveClauses.{with_var}
-use Rattle.sat_solver.specs.session.Fits.{SessionMatchesParts}
-use Rattle.sat_solver.specs.session.Loads.{LoadFits}
+use Rattle.sat_solver.specs.session.Matching.{SessionMatchesParts}
+use Rattle.sat_solver.specs.session.Loads.{LoadMatches}
 use Rattle.sat_solver.proofs.lemmas.fits.FitLemmas.{canonical_shuffled}
 use Rattle.sat_solver.proofs.lemmas.fits.LearnedLemmas.{fits_undone}
 use Rattle.sat_solver.proofs.lemmas.fits.LoadedParts.{fits_loaded}
@@ -47,7 +47,7 @@ use Rattle.sat_solver.proofs.lemmas.fits.FramedParts.{bottom_unit}
 use Rattle.sat_solver.proofs.lemmas.fits.AddedLemmas.{unit_true}
 use Rattle.sat_solver.proofs.lemmas.load.BottomLemmas.{mention_named}
 use Rattle.sat_solver.proofs.lemmas.load.GivenLemmas.{placed_bottom}
-use Rattle.sat_parts.specs.parts.Assumed.{ArePlaced}
+use Rattle.sat_parts.specs.parts.Assumed.{PlacesAreCorrect}
 
 -- adding a clause leaves the assumptions unchanged
 pub asked_added : (ks : List ℕ) (earlier : List Step) → (session_after earlier).unsat ≡ false → (session_after (AddClause ks ∷ earlier)).assumed ≡ (session_after earlier).assumed
@@ -66,7 +66,7 @@ leaves_added ks earlier consistent = record {
 pub few_lits : (c : Search) (ls : List ℕ) → SearchStateInvariant c.parts → CanLoad c ls → length ls < 2 ^ 32
 few_lits c ls holds may =
     let n : length ls ≤ 2 * length c.parts.assignment.current = fits_below ls (2 * length c.parts.assignment.current) may.differ may.below in
-    let a : StateIsConsistent (state c.parts) = holds.below.asks.agrees in
+    let a : StateIsConsistent (state c.parts) = holds.below.propagation.agrees in
     omega (arith, n, a.room, a.trail.small)
 
 mentions_at : (ls : List ℕ) (k : ℕ) → k < length ls → mentions ls (variable (get_or ls k 0)) ≡ true
@@ -78,7 +78,7 @@ leaves_both : (s t u : Session) → SameAssumedAndNames s t → SameAssumedAndNa
 leaves_both s t u x y = record { assumed = y.assumed ∙ x.assumed; names = λ v. y.names v ∙ x.names v }
 
 -- nothing was written, and then the clause buffer returned an error
-pub goes_unstored : {A W L full : Type 0} {G : Ghosts L} (seen : W → Writer) (e : StoreError) (p : Proof W L G) (P : A → List Step → Type 0) → HasAllowedSteps p → (e ≡ stores.StoreFull → full) → EmitsStepsOr full seen (Err (buffer_failure e)) p p P
+pub goes_unstored : {A W L full : Type 0} {G : Ghosts L} (seen : W → Writer) (e : StoreError) (p : Proof W L G) (P : A → List Step → Type 0) → HasAllowedSteps p → (e ≡ stores.StoreFull → full) → EmitsStepsOr full seen (Err (error_of_buffer e)) p p P
 goes_unstored seen stores.StoreFull p P keeps f = record { steps = []; went = adds_none seen p; searched = tt; quiet = tt; keeps = keeps; kept = tt; loss = refl; ends = f refl }
 goes_unstored seen stores.OutOfMemory p P keeps f = record { steps = []; went = adds_none seen p; searched = tt; quiet = tt; keeps = keeps; kept = tt; loss = inl refl; ends = tt }
 
@@ -111,7 +111,7 @@ module _ (c : Search) (ls : List ℕ) (steps : List Step) (added : IsAdded steps
   fits1 : SessionMatchesParts p1 s (global_in c)
   fits1 = fits_undone c.parts p1 s (global_in c) ready.0 (carries_same c.parts p1 ready.1) added.search.valid.fits
 
-  fits2 : (r : Loaded) → LoadEffect r p1 p2 ms → LoadFits r p2 s (global_in c) ls ms
+  fits2 : (r : Loaded) → LoadEffect r p1 p2 ms → LoadMatches r p2 s (global_in c) ls ms
   fits2 r says =
       fits_loaded p1 p2 s (global_in c) holds1 fits1 (rw ready.1.2 may.bottom) ls ms (shuffled_last p1.assignment.current ls) may.differ (rw same_values may.below) may.plain added.named r says
 
@@ -128,7 +128,7 @@ module _ (c : Search) (ls : List ℕ) (steps : List Step) (added : IsAdded steps
       | inl none ↦ none
       | inr x ↦ absurd (elim (says_units r p1 p2 ms says x.0 (bottom_unit p2 x.0 holds2 kept.1 x.1.1)) [
         | inl u ↦
-            let t : IsTrueLit p1.assignment.current x.0 = (unit_true (state p1) x.0 holds1.below.asks.agrees u).0 in
+            let t : IsTrueLit p1.assignment.current x.0 = (unit_true (state p1) x.0 holds1.below.propagation.agrees u).0 in
             none_some _ (sym idle.0 ∙ ap (λ a. value_of a.current v) (sym same_values) ∙ ap (value_of p1.assignment.current) (sym x.1.0) ∙ t)
         | inr y ↦
             let order = shuffled_last p1.assignment.current ls in
@@ -149,7 +149,7 @@ module _ (c : Search) (ls : List ℕ) (steps : List Step) (added : IsAdded steps
     ]
   ]
 
-  placed2 : (r : Loaded) → LoadEffect r p1 p2 ms → ArePlaced c.assumptions (state p2)
+  placed2 : (r : Loaded) → LoadEffect r p1 p2 ms → PlacesAreCorrect c.assumptions (state p2)
   placed2 r says =
       placed_bottom c.assumptions.lits.items c.assumptions.below.items c.assumptions.place (state c.parts) (state p2) may.bottom kept.1
       (λ l t z. (let k = (carries_same c.parts p1 ready.1).bottom l t z in says_bottom r p1 p2 ms says l k.0 k.1)) added.search.ready.placed

@@ -12,7 +12,7 @@ use Rattle.sat_solver.specs.declared.variables.solver_vars.Given.{Given}
 use Rattle.sat_solver.specs.declared.variables.Variables.{Variables}
 use Rattle.sat_solver.specs.declared.context.Search.{Search}
 use Rattle.sat_solver.specs.cdcl.Joint.{global_in, SearchInvariant}
-use Rattle.sat_solver.specs.variables.Initialized.{AreVacant, IsGivenTo, GivesNames, GivesSearchIndices}
+use Rattle.sat_solver.specs.variables.Initialized.{AreVacant, IsGivenTo, GivesIndicesInSession, GivesSearchIndices}
 use Rattle.sat_solver.specs.variables.Shared.{SharesIndices}
 use Rattle.sat_solver.proofs.lemmas.load.GivenLemmas.{are_vacant}
 use Rattle.sat_solver.proofs.lemmas.load.IndexLemmas.{given_or_not}
@@ -41,7 +41,7 @@ module _ (old new : Variables) (s t : Session) (gs : List Given) (tidy : Variabl
 
   module _ (c : Search) (shares : SharesIndices old c) where
     -- the session before and after the steps is as the search requires, so that it may take the indices
-    pub gives_names : GivesNames new.globals.items gs (length c.globals.items) s t
+    pub gives_names : GivesIndicesInSession new.globals.items gs (length c.globals.items) s t
     gives_names = record {
       keeps = keeps;
       each = all_given gs gives.each;

@@ -11,7 +11,7 @@ use Rattle.sat_parts.specs.clause.Orders.{AreDistinct}
 use Rattle.sat_solver.specs.session.Session.{Session, session_after, after}
 use Rattle.sat_solver.proofs.lemmas.session.Changes.{with_live_clause, knowing_literals, session_if}
 use Rattle.sat_solver.proofs.lemmas.fits.FitLemmas.{among_at, all_at}
-use Rattle.sat_solver.specs.load.Literals.{MapsClause, Images, Image}
+use Rattle.sat_solver.specs.load.Literals.{MapsClause, AreImages, IsImage}
 use Rattle.sat_solver.specs.declared.variables.Variables.{Variables}
 use Rattle.sat_solver.specs.declared.load.literals.MappedLits.{MappedLits}
 use Rattle.sat_solver.specs.declared.context.Search.{Search}
@@ -46,9 +46,9 @@ all_members P ls (m ∷ ms) h f =
     (member P ls m h (f m (or_left (eqb m m) (is_among ms m) (eq-eqb m m refl))), all_members P ls ms h (λ k t. f k (or_right (eqb m k) (is_among ms k) t)))
 
 -- every literal is over an index
-pub images_over : (n : Variables) (user ls : List ℕ) → VariablesInvariant n → Images n user ls → AreOver n ls
+pub images_over : (n : Variables) (user ls : List ℕ) → VariablesInvariant n → AreImages n user ls → AreOver n ls
 images_over n user ls tidy i = all_at (λ l. (v : ℕ) × (global_at n (variable l) ≡ Some v)) ls (λ k lt.
-    let x : Image n (get_or user k 0) (get_or ls k 0) = i.each k (omega (arith, i.count)) in
+    let x : IsImage n (get_or user k 0) (get_or ls k 0) = i.each k (omega (arith, i.count)) in
     let half : variable (get_or ls k 0) ≡ x.index_is = ap variable x.is ∙ coded_half x.index_is (is_positive (get_or user k 0)) in
     (x.variable_is, ap (global_at n) half ∙ tidy.solvers.back x.variable_is x.index_is x.indexed))
 
@@ -65,7 +65,7 @@ added_names ks s v = ap (λ f. f v) (go s.unsat)
 
 -- THE CLAUSE OF A CALL
 
-module _ (new : Variables) (t : MappedLits) (user : List ℕ) (between to : List Step) (c : Search) (tidy : VariablesInvariant new) (images : Images new user t.order.items) (maps : MapsClause new t) (shares : SharesIndices new c) where
+module _ (new : Variables) (t : MappedLits) (user : List ℕ) (between to : List Step) (c : Search) (tidy : VariablesInvariant new) (images : AreImages new user t.order.items) (maps : MapsClause new t) (shares : SharesIndices new c) where
   over : AreOver new t.lits.items
   over = subst (λ ls. AreOver new ls) (sym maps.lits) (set_over new t.order.items (images_over new user t.order.items tidy images))
 

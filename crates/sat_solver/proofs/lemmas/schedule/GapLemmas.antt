@@ -3,9 +3,9 @@ use Rattle.std.proofs.Common.{◌≡◌, ◌≢◌, ℕ, zero, suc, ◌+◌, ◌
 use Rattle.std.specs.Bool.{◌==◌}
 use Rattle.std.proofs.lemmas.Bool.{cases_lt}
 use Rattle.std.proofs.lemmas.Bool.Decides.{nat_tests}
-use Rattle.sat_store.specs.schedule.Luby.{luby, wrapped_number}
+use Rattle.sat_store.specs.schedule.Luby.{luby, wrapped_term_number}
 use Rattle.sat_store.proofs.lemmas.schedule.LubyLemmas.{luby_last, luby_rest}
-use Rattle.sat_solver.specs.schedule.Gaps.{given_after}
+use Rattle.sat_solver.specs.schedule.Gaps.{term_number_after}
 
 pub pow_double : (n : ℕ) → 2 ^ suc n ≡ 2 * 2 ^ n
 pow_double n = grind arith
@@ -57,21 +57,21 @@ window_below (suc n) j s h p =
 pub window : (j s : ℕ) → 0 < s → (t : ℕ) × ((s ≤ t) × (t + 1 < s + 2 ^ suc j) × (2 ^ j ≤ luby t))
 window j s p = window_below s j s (omega arith) p
 
-after_less : (t : ℕ) → t ≢ 2 ^ 64 - 1 → wrapped_number t ≡ t
+after_less : (t : ℕ) → t ≢ 2 ^ 64 - 1 → wrapped_term_number t ≡ t
 after_less t d = let e : (t == 2 ^ 64 - 1) ≡ false = grind (arith, nat_tests) in rw e refl
 
 -- terms are numbered in turn until the counter wraps
-given_in_turn : (d t : ℕ) → ((i : ℕ) → i < d → t + i + 1 ≢ 2 ^ 64 - 1) → given_after d t ≡ t + d
+given_in_turn : (d t : ℕ) → ((i : ℕ) → i < d → t + i + 1 ≢ 2 ^ 64 - 1) → term_number_after d t ≡ t + d
 given_in_turn zero t h = omega arith
 given_in_turn (suc d) t h =
-    let e : wrapped_number (t + 1) ≡ t + 1 = after_less (t + 1) (λ q. h 0 (omega arith) (omega arith)) in
-    ap (λ z. given_after d z) e ∙ given_in_turn d (t + 1) (λ i b q. h (i + 1) (omega arith) (omega arith)) ∙ omega arith
+    let e : wrapped_term_number (t + 1) ≡ t + 1 = after_less (t + 1) (λ q. h 0 (omega arith) (omega arith)) in
+    ap (λ z. term_number_after d z) e ∙ given_in_turn d (t + 1) (λ i b q. h (i + 1) (omega arith) (omega arith)) ∙ omega arith
 
 -- after any number of terms, one of the next 2^(j+1) - 1 is at least 2^j, even if the counter wraps
-pub long_ahead : (j given : ℕ) → j < 64 → (d : ℕ) × ((d + 1 < 2 ^ suc j) × (2 ^ j ≤ luby (given_after d given + 1)))
+pub long_ahead : (j given : ℕ) → j < 64 → (d : ℕ) × ((d + 1 < 2 ^ suc j) × (2 ^ j ≤ luby (term_number_after d given + 1)))
 long_ahead j given few =
     let w : (t : ℕ) × ((given + 1 ≤ t) × (t + 1 < given + 1 + 2 ^ suc j) × (2 ^ j ≤ luby t)) = window j (given + 1) (omega arith) in
-    let found : (d : ℕ) → given_after d given ≡ given + d → (u : ℕ) → u ≡ given + d + 1 → 2 ^ j ≤ luby u → 2 ^ j ≤ luby (given_after d given + 1) = λ d e u is h.
+    let found : (d : ℕ) → term_number_after d given ≡ given + d → (u : ℕ) → u ≡ given + d + 1 → 2 ^ j ≤ luby u → 2 ^ j ≤ luby (term_number_after d given + 1) = λ d e u is h.
     subst (λ (z : ℕ). 2 ^ j ≤ luby z) (is ∙ ap (λ z. z + 1) (sym e)) h in
     let at : w.0 ≡ given + (w.0 - given - 1) + 1 = omega (arith, w.1.0) in
     elim (cases_lt (2 ^ 64 - 1) (given + 1)) [

@@ -2,11 +2,11 @@
 use Rattle.std.proofs.Common.{◌≡◌, ℕ, zero, suc, ◌+◌, ◌-◌, ◌*◌, ◌^◌, ◌<◌, ◌≤◌, ◌⊎◌, inl, inr, List, arith, sym, ap, ◌∙◌, subst, min}
 use Rattle.std.proofs.lemmas.Bool.{cases_lt}
 use Rattle.sat_parts.specs.prop.TrailWord.{Letter}
-use Rattle.sat_store.specs.schedule.Luby.{luby, wrapped_number}
+use Rattle.sat_store.specs.schedule.Luby.{luby, wrapped_term_number}
 use Rattle.sat_solver.specs.schedule.Ranks.{word_rank}
-use Rattle.sat_solver.specs.schedule.Gaps.{given_after, gap_end}
-use Rattle.sat_solver.specs.schedule.Progress.{IsComing, IsLong, AskProgress}
-use Rattle.sat_solver.specs.schedule.Climbing.{ExtendsEachWord, Climbs, StartsAnew, AskReachesRound}
+use Rattle.sat_solver.specs.schedule.Gaps.{term_number_after, gap_end}
+use Rattle.sat_solver.specs.schedule.Progress.{LongTermIsAhead, GapIsLong, AskProgress}
+use Rattle.sat_solver.specs.schedule.Climbing.{ExtendsEachWord, RaisesEachWord, StartsAnew, AskReachesRound}
 use Rattle.sat_solver.proofs.lemmas.schedule.RankLemmas.{rank_below, rank_begins, rank_rises}
 use Rattle.sat_solver.proofs.lemmas.schedule.GapLemmas.{long_ahead, pow_double, pow_mono}
 
@@ -37,7 +37,7 @@ times_mono g a b h = grind arith
 -- an ask begins
 pub progress_begins : (n round next given : ℕ) (w : List Letter) → n < 63 → AskProgress n round round next given w
 progress_begins n round next given w few =
-    let l : (d : ℕ) × ((d + 1 < 2 ^ suc (n + 1)) × (2 ^ (n + 1) ≤ luby (given_after d given + 1))) = long_ahead (n + 1) given (omega arith) in
+    let l : (d : ℕ) × ((d + 1 < 2 ^ suc (n + 1)) × (2 ^ (n + 1) ≤ luby (term_number_after d given + 1))) = long_ahead (n + 1) given (omega arith) in
     record {
       gaps = 0;
       base = round;
@@ -68,10 +68,10 @@ long_begun n round term scale some h = elim (cases_lt (round + term * scale) (2 
 
 -- the search restarts
 pub progress_restarts : (n start round next given scale : ℕ) (w v : List Letter) → round < 2 ^ 64 - 1 → next ≤ round → 0 < scale → AskProgress n start round next given w →
-    AskProgress n start round (gap_end round (luby (given + 1)) scale) (wrapped_number (given + 1)) v
+    AskProgress n start round (gap_end round (luby (given + 1)) scale) (wrapped_term_number (given + 1)) v
 progress_restarts n start round next given scale w v counts over some p =
     let spent : round + 2 * (p.gaps + 1) ≤ start + (p.gaps + 1) * 2 ^ (n + 1) = omega (arith, p.spent, p.risen, rank_few n w, times_next p.gaps (2 ^ (n + 1))) in
-    let Next : Type 0 = IsComing n (p.gaps + 1) (wrapped_number (given + 1)) ⊎ IsLong n (p.gaps + 1) round (gap_end round (luby (given + 1)) scale) in
+    let Next : Type 0 = LongTermIsAhead n (p.gaps + 1) (wrapped_term_number (given + 1)) ⊎ GapIsLong n (p.gaps + 1) round (gap_end round (luby (given + 1)) scale) in
     let due : Next = elim p.due [
       | inl x ↦ coming x.ahead x.few x.long
       | inr x ↦ absurd (elim x.long [
@@ -81,8 +81,8 @@ progress_restarts n start round next given scale w v counts over some p =
     ] in
     record { gaps = p.gaps + 1; base = round; spent = spent; risen = omega arith; due = due }
   where
-    coming : (d : ℕ) → p.gaps + d + 2 ≤ 2 ^ (n + 2) → 2 ^ (n + 1) ≤ luby (given_after d given + 1) →
-        IsComing n (p.gaps + 1) (wrapped_number (given + 1)) ⊎ IsLong n (p.gaps + 1) round (gap_end round (luby (given + 1)) scale)
+    coming : (d : ℕ) → p.gaps + d + 2 ≤ 2 ^ (n + 2) → 2 ^ (n + 1) ≤ luby (term_number_after d given + 1) →
+        LongTermIsAhead n (p.gaps + 1) (wrapped_term_number (given + 1)) ⊎ GapIsLong n (p.gaps + 1) round (gap_end round (luby (given + 1)) scale)
     coming zero few long = inr (record { few = omega arith; long = long_begun n round (luby (given + 1)) scale some long })
     coming (suc d) few long = inl (record { ahead = d; few = omega arith; long = long })
 
@@ -96,7 +96,7 @@ pub progress_keeps : (n start round next given : ℕ) (w v : List Letter) → wo
 progress_keeps n start round next given w v le p =
     record { gaps = p.gaps; base = p.base; spent = p.spent; risen = omega (arith, p.risen); due = p.due }
 
-pub come_climbs : {A : Type 0} (words : A → List Letter → Type 0) (s t : A) (n start round next given : ℕ) → Climbs words n s t →
+pub come_climbs : {A : Type 0} (words : A → List Letter → Type 0) (s t : A) (n start round next given : ℕ) → RaisesEachWord words n s t →
     AskReachesRound words s n start round next given → AskReachesRound words t n start (round + 1) next given
 come_climbs words s t n start round next given c h =
     let x = c h.0 h.1.0 in
@@ -110,7 +110,7 @@ come_keeps words s t n start round next given c h =
 
 pub come_restarts : {A : Type 0} (words : A → List Letter → Type 0) (s t : A) (n start round next given scale : ℕ) → StartsAnew words s t →
     round < 2 ^ 64 - 1 → next ≤ round → 0 < scale →
-    AskReachesRound words s n start round next given → AskReachesRound words t n start round (gap_end round (luby (given + 1)) scale) (wrapped_number (given + 1))
+    AskReachesRound words s n start round next given → AskReachesRound words t n start round (gap_end round (luby (given + 1)) scale) (wrapped_term_number (given + 1))
 come_restarts words s t n start round next given scale c counts over some h =
     let x = c h.0 h.1.0 in
     (x.0, (x.1, progress_restarts n start round next given scale h.0 x.0 counts over some h.1.1))

@@ -8,14 +8,14 @@ use Rattle.sat_checker.specs.LiteralSets.{is_among, mentions, canonical}
 use Rattle.sat_checker.specs.Propagation.{tautology, unit_true}
 use Rattle.sat_checker.specs.Stored.{StoredClause, Stored, unit_literals}
 use Rattle.sat_checker.specs.Storing.{clause_with, with_unit, last_literals}
-use Rattle.sat_checker.specs.Accepts.{PassesByHashes, PassInTurn, IsStrictSubset, Accepts}
+use Rattle.sat_checker.specs.Accepts.{PassesByHashes, UnitsPassInTurn, IsStrictSubset, Accepts}
 use Rattle.sat_checker.specs.Contents.{count_in}
-use Rattle.sat_checker.specs.Invariants.{EachCounted}
-use Rattle.sat_checker.specs.Leading as stored
+use Rattle.sat_checker.specs.Invariants.{HaveCounts}
+use Rattle.sat_checker.specs.ConflictPropagation as stored
 use Rattle.sat_checker.proofs.lemmas.contents.Counts.{found}
 use Rattle.sat_checker.proofs.lemmas.invariants.Counted.{TidyClauses}
 use Rattle.sat_checker.proofs.lemmas.leading.Named.{leading_passes}
-use Rattle.sat_solver.specs.session.Session.{AreLiveByHash, MayDerive, MayWriteCore, by_signs, by_derivation, by_unit, by_clauses, MayWriteUnits, MayDeleteVar, MayWriteModel, MayDeleteSimplified, IsAllowedStep}
+use Rattle.sat_solver.specs.session.Session.{AreLiveByHash, CanDerive, CanWriteCore, by_signs, by_derivation, by_unit, by_clauses, CanWriteUnits, CanDeleteVar, CanWriteModel, CanDeleteSimplified, IsAllowedStep}
 use Rattle.sat_solver.proofs.lemmas.session.Views.{view, view_unit}
 use Rattle.sat_solver.proofs.lemmas.session.LastLemmas.{LastIs}
 
@@ -35,19 +35,19 @@ module _ (f : Stored) (last : Option (List ℕ)) where
   are_named (c ∷ cs) (k ∷ ks) h = (record { once = h.0.once; stored = counted_some (clause_with (canonical c) f.clauses) h.0.counted; hash = h.1 }, are_named cs ks h.2)
 
   -- a clause that may be derived passes the check
-  pub passes : (clause hashes : List ℕ) → MayDerive (view last f) clause hashes → PassesByHashes f clause hashes
+  pub passes : (clause hashes : List ℕ) → CanDerive (view last f) clause hashes → PassesByHashes f clause hashes
   passes clause hashes (by_unit t) = unit_true t
   passes clause hashes (by_clauses named n lead) = leading_passes f clause hashes named (are_named named hashes n) lead
 
   -- the negation of a core that may be written passes the check
-  pub core_passes : (core hashes : List ℕ) → MayWriteCore (view last f) core hashes → PassesByHashes f (map negated core) hashes
+  pub core_passes : (core hashes : List ℕ) → CanWriteCore (view last f) core hashes → PassesByHashes f (map negated core) hashes
   core_passes core hashes (by_signs t) = tautology t
   core_passes core hashes (by_derivation d) = passes (map negated core) hashes d
 
 -- units that may be written pass the checks in turn
-pub pass_in_turn : (us : List (ℕ × ℕ)) (last : Option (List ℕ)) (f : Stored) → MayWriteUnits (view last f) us → PassInTurn f us
+pub pass_in_turn : (us : List (ℕ × ℕ)) (last : Option (List ℕ)) (f : Stored) → CanWriteUnits (view last f) us → UnitsPassInTurn f us
 pass_in_turn [] last f h = tt
-pass_in_turn (u ∷ us) last f h = (passes f last (u.0 ∷ []) (u.1 ∷ []) h.0, pass_in_turn us last (with_unit u.0 f) (subst (λ s. MayWriteUnits s us) (sym (view_unit last u.0 f)) h.1))
+pass_in_turn (u ∷ us) last f h = (passes f last (u.0 ∷ []) (u.1 ∷ []) h.0, pass_in_turn us last (with_unit u.0 f) (subst (λ s. CanWriteUnits s us) (sym (view_unit last u.0 f)) h.1))
 
 -- every stored clause counts in the session
 module _ (f : Stored) (last : Option (List ℕ)) where
@@ -56,7 +56,7 @@ module _ (f : Stored) (last : Option (List ℕ)) where
   is_counted r c e n = subst (λ o. 0 < count_in r o) (sym e) n
 
   -- a variable that may be deleted is in no stored clause
-  unused_by : (v : ℕ) → MayDeleteVar (view last f) v → (cs : List StoredClause) → AllByRecursion (λ c. clause_with c.literals f.clauses ≡ Some c) cs → EachCounted cs → list_any (λ c. mentions c.literals v) cs ≡ false
+  unused_by : (v : ℕ) → CanDeleteVar (view last f) v → (cs : List StoredClause) → AllByRecursion (λ c. clause_with c.literals f.clauses ≡ Some c) cs → HaveCounts cs → list_any (λ c. mentions c.literals v) cs ≡ false
   unused_by v m [] e n = refl
   unused_by v m (c ∷ cs) e n =
       let here : mentions c.literals v ≡ false = elim (eq-zero-or-pos c.irredundant) [
@@ -66,7 +66,7 @@ module _ (f : Stored) (last : Option (List ℕ)) where
       ap (λ b. b || list_any (λ c. mentions c.literals v) cs) here ∙ unused_by v m cs e.1 n.1
 
   -- a model that may be written satisfies every irredundant stored clause
-  modelled : (ls : List ℕ) → MayWriteModel (view last f) ls → (cs : List StoredClause) → AllByRecursion (λ c. clause_with c.literals f.clauses ≡ Some c) cs → AllByRecursion (λ c. (c.irredundant ≡ 0) ⊎ (list_any (is_among ls) c.literals ≡ true)) cs
+  modelled : (ls : List ℕ) → CanWriteModel (view last f) ls → (cs : List StoredClause) → AllByRecursion (λ c. clause_with c.literals f.clauses ≡ Some c) cs → AllByRecursion (λ c. (c.irredundant ≡ 0) ⊎ (list_any (is_among ls) c.literals ≡ true)) cs
   modelled ls m [] e = tt
   modelled ls m (c ∷ cs) e = (elim (eq-zero-or-pos c.irredundant) [ inl z ↦ inl z | inr p ↦ inr (m.clauses c.literals (is_counted false c e.0 p)) ], modelled ls m cs e.1)
 
@@ -76,7 +76,7 @@ each_member P [] h = tt
 each_member P (u ∷ us) h = (h u (or_left (eqb u u) (is_among us u) (eq-eqb u u refl)), each_member P us (λ l k. h l (or_right (eqb u l) (is_among us l) k)))
 
 -- the clause that was derived last is a strict subset of one that it may replace
-strict_by : (last : Option (List ℕ)) (f : Stored) (clause : List ℕ) → LastIs last f → MayDeleteSimplified (view last f) clause → IsStrictSubset (last_literals f.last f) clause
+strict_by : (last : Option (List ℕ)) (f : Stored) (clause : List ℕ) → LastIs last f → CanDeleteSimplified (view last f) clause → IsStrictSubset (last_literals f.last f) clause
 strict_by last f clause h m = subst (λ o. IsStrictSubset o clause) (sym (h m.part m.last)) (m.within, m.strict)
 
 -- the checker accepts a step that its view may write

@@ -4,7 +4,7 @@ use Rattle.std.proofs.lemmas.Bool.{true≢false}
 use Rattle.sat_base.specs.device.Device.{Writer}
 use Rattle.sat_base.specs.steps.Steps.{Step, SolverVarName, UserVarName, DeleteVar, ChangeSamplingMode, AddClause, AtClause, UnitClauses, DeleteClause, ChangeHashBits, Model, Assumptions, FailedAssumptions, End}
 use Rattle.sat_solver.specs.proof.Checked.{has_begun}
-use Rattle.sat_solver.specs.proof.ProofTexts.{TookAcceptedSteps, TookSince}
+use Rattle.sat_solver.specs.proof.ProofTexts.{ReceivedAcceptedSteps, ReceivedTextSince}
 use Rattle.sat_solver.specs.session.Session.{IsAllowedStep, AreAllowedSteps, empty_session, after, session_after}
 use Rattle.sat_solver.specs.declared.proof.format.ProofFormat.{ProofFormat}
 use Rattle.sat_solver.proofs.lemmas.session.CutsLemmas.{cuts_are_free}
@@ -37,7 +37,7 @@ module _ (before : List Step) (none : session_after before ≡ empty_session) wh
   may_after [] h = tt
   may_after (step ∷ steps) h = (may_after steps h.0, subst (λ s. IsAllowedStep s step) (session_following steps) h.1)
 
-pub is_certificate : (f : ProofFormat) (from given : Writer) (before now : List Step) → has_begun before ≡ false → AreAllowedSteps now → TookSince f from given before now → TookAcceptedSteps f from given before now
+pub is_certificate : (f : ProofFormat) (from given : Writer) (before now : List Step) → has_begun before ≡ false → AreAllowedSteps now → ReceivedTextSince f from given before now → ReceivedAcceptedSteps f from given before now
 is_certificate f from given before now e may since =
     let written = cuts_are_free since.steps since.took.written since.took.counting since.took.cuts (may_after before (none_begun before e) since.steps (subst AreAllowedSteps since.following may)) in
     record { since = since; accepted = (valid since.took.written written.may).0 }

@@ -3,7 +3,7 @@ use Rattle.std.proofs.Common.{◌≡◌, ◌∙◌, Bool, true, false, List, [],
 use Rattle.std.proofs.lemmas.Bool.{true≢false}
 use Rattle.sat_base.specs.steps.Steps.{Step}
 use Rattle.sat_solver.specs.session.Session.{session_after}
-use Rattle.sat_solver.specs.session.AllowedSteps.{EachIsAllowed, OnlyAllowedSteps, EndsAtUnsat}
+use Rattle.sat_solver.specs.session.AllowedSteps.{EachIsAllowed, OnlyAllowedSteps, OnlyWidthAfterUnsat}
 use Rattle.sat_solver.proofs.lemmas.session.PlainLemmas.{unsat_stays}
 
 module _ (IsAllowedStep : List Step → Step → Type 0) where
@@ -40,17 +40,17 @@ not_before step earlier e = go (session_after earlier).unsat refl
     go true u = absurd (true≢false (sym (unsat_stays step (session_after earlier) u) ∙ e))
     go false u = u
 
-each_ends : (earlier steps : List Step) → (session_after (steps ++ earlier)).unsat ≡ false → EachIsAllowed EndsAtUnsat earlier steps
+each_ends : (earlier steps : List Step) → (session_after (steps ++ earlier)).unsat ≡ false → EachIsAllowed OnlyWidthAfterUnsat earlier steps
 each_ends earlier [] e = tt
 each_ends earlier (step ∷ steps) e =
     let before = not_before step (steps ++ earlier) e in
     (each_ends earlier steps before, λ u. absurd (true≢false (sym u ∙ before)))
 
--- steps after which unsat isn't recorded are allowed by `EndsAtUnsat`
-pub comes_open : (from to steps : List Step) → to ≡ steps ++ from → (session_after to).unsat ≡ false → OnlyAllowedSteps EndsAtUnsat from to
+-- steps after which unsat isn't recorded are allowed by `OnlyWidthAfterUnsat`
+pub comes_open : (from to steps : List Step) → to ≡ steps ++ from → (session_after to).unsat ≡ false → OnlyAllowedSteps OnlyWidthAfterUnsat from to
 comes_open from to steps e open_still = record { steps = steps; following = e; each = each_ends from steps (subst (λ ss. (session_after ss).unsat ≡ false) e open_still) }
 
 -- so is one more step, which may record unsat
-pub comes_last : (from mids to steps : List Step) (step : Step) → mids ≡ steps ++ from → (session_after mids).unsat ≡ false → to ≡ step ∷ mids → OnlyAllowedSteps EndsAtUnsat from to
+pub comes_last : (from mids to steps : List Step) (step : Step) → mids ≡ steps ++ from → (session_after mids).unsat ≡ false → to ≡ step ∷ mids → OnlyAllowedSteps OnlyWidthAfterUnsat from to
 comes_last from mids to steps step e open_still last =
-    comes_both EndsAtUnsat from mids to (comes_open from mids steps e open_still) (comes_one EndsAtUnsat mids to step last (λ u. absurd (true≢false (sym u ∙ open_still))))
+    comes_both OnlyWidthAfterUnsat from mids to (comes_open from mids steps e open_still) (comes_one OnlyWidthAfterUnsat mids to step last (λ u. absurd (true≢false (sym u ∙ open_still))))

@@ -2,7 +2,7 @@
 use Rattle.std.proofs.Common.{ℕ, ◌≡◌, Bool, true, false, cond, eqb, List, [], ◌∷◌, ◌++◌, refl, sym, subst}
 use Rattle.std.proofs.lemmas.Bool.{eqb-true}
 use Rattle.sat_base.specs.steps.Steps.{Step, ChangeHashBits}
-use Rattle.sat_solver.specs.proof.Counting.{nothing_counted, width_change, counted, TruncatesHashes, none_made, ask_begun, one_made}
+use Rattle.sat_solver.specs.proof.Counting.{nothing_counted, width_change, counting_after, TruncatesHashes, none_made, ask_begun, one_made}
 use Rattle.sat_solver.specs.proof.ProofTexts.{TruncationsAreAllowed}
 use Rattle.sat_solver.specs.proof.Widths.{IsNarrowedTo, none_yet, width_changes, one_more}
 use Rattle.sat_solver.specs.declared.proof.hash_bits.Counting.{Counting}
@@ -20,7 +20,7 @@ width_changed {made} {written} before now w = go (eqb before now) refl
 pub is_written : {c d : Counting} {made written : List Step} → c ≡ nothing_counted → TruncatesHashes c made written d → IsNarrowedTo made written d.bits
 is_written e none_made = subst (λ (x : Counting). IsNarrowedTo [] [] x.bits) (sym e) none_yet
 is_written e (ask_begun p) = is_written e p
-is_written e (one_made {d = d} step k p) = one_more step k (width_changed d.bits (counted step d).bits (is_written e p))
+is_written e (one_made {d = d} step k p) = one_more step k (width_changed d.bits (counting_after step d).bits (is_written e p))
 
 pub cuts_are_free : TruncationsAreAllowed
 cuts_are_free made written c p m = widths_are_free made written c.bits (is_written refl p) m

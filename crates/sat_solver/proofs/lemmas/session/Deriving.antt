@@ -4,10 +4,10 @@ use Rattle.std.proofs.lemmas.Bool.{or_left, or_right, eq-eqb}
 use Rattle.std.specs.List.{AllByRecursion}
 use Rattle.sat_base.specs.values.Literals.{negated}
 use Rattle.sat_checker.specs.LiteralSets.{is_among}
-use Rattle.sat_solver.specs.session.Session.{Session, IsLive, rup_assumptions, hash_in, MayDerive, by_clauses}
+use Rattle.sat_solver.specs.session.Session.{Session, IsLive, rup_assumptions, hash_in, CanDerive, by_clauses}
 
 -- a unit may be derived from a live clause if all its other literals are false by units
-pub proves : (s : Session) (l hash : ℕ) (c : List ℕ) → IsLive s c → hash ≡ hash_in s c → AllByRecursion (λ m. (m ≡ l) ⊎ (s.units (negated m) ≡ true)) c → MayDerive s (l ∷ []) (hash ∷ [])
+pub proves : (s : Session) (l hash : ℕ) (c : List ℕ) → IsLive s c → hash ≡ hash_in s c → AllByRecursion (λ m. (m ≡ l) ⊎ (s.units (negated m) ≡ true)) c → CanDerive s (l ∷ []) (hash ∷ [])
 proves s l hash c live e h = by_clauses (c ∷ []) (live, e, tt) (all c h)
   where
     all : (ms : List ℕ) → AllByRecursion (λ m. (m ≡ l) ⊎ (s.units (negated m) ≡ true)) ms → AllByRecursion (λ m. rup_assumptions s (l ∷ []) (negated m) ≡ true) ms

@@ -8,72 +8,72 @@ use Rattle.sat_checker.specs.LiteralSets.{is_among, canonical, same_literals}
 use Rattle.sat_checker.specs.Propagation.{IsFalsified, IsUnit, UnitInTurn}
 use Rattle.sat_checker.proofs.lemmas.sets.Canonical.{canonical_among}
 use Rattle.sat_checker.proofs.lemmas.sets.Members.{canonical_each}
-use Rattle.sat_solver.specs.proof.Drat.{times, without_set, RefutesByUnits}
-use Rattle.sat_checker.specs.Leading.{PropagatesToConflict}
-use Rattle.sat_checker.specs.Contents.{more_if}
+use Rattle.sat_solver.specs.proof.Drat.{multiplicity, without_set, RefutesByUnits}
+use Rattle.sat_checker.specs.ConflictPropagation.{PropagatesToConflict}
+use Rattle.sat_checker.specs.Contents.{plus_one_if}
 
 -- COUNTS
 
-more_or : (b : Bool) (n : ℕ) → n ≤ more_if b n
+more_or : (b : Bool) (n : ℕ) → n ≤ plus_one_if b n
 more_or true n = omega arith
 more_or false n = omega arith
 
 -- adding a clause lowers no count
-pub times_after : (set c : List ℕ) (cs : List (List ℕ)) → times set cs ≤ times set (c ∷ cs)
-times_after set c cs = more_or (same_literals c set) (times set cs)
+pub times_after : (set c : List ℕ) (cs : List (List ℕ)) → multiplicity set cs ≤ multiplicity set (c ∷ cs)
+times_after set c cs = more_or (same_literals c set) (multiplicity set cs)
 
 -- a clause equals itself
 same_itself : (xs : List ℕ) → same_literals xs xs ≡ true
 same_itself [] = refl
 same_itself (x ∷ xs) = ap (λ b. b && same_literals xs xs) (eq-eqb x x refl) ∙ same_itself xs
 
-pub times_itself : (set : List ℕ) (cs : List (List ℕ)) → times set (set ∷ cs) ≡ times set cs + 1
-times_itself set cs = ap (λ b. more_if b (times set cs)) (same_itself set)
+pub times_itself : (set : List ℕ) (cs : List (List ℕ)) → multiplicity set (set ∷ cs) ≡ multiplicity set cs + 1
+times_itself set cs = ap (λ b. plus_one_if b (multiplicity set cs)) (same_itself set)
 
 -- removing a clause leaves the counts of other clauses unchanged
-pub times_left : (set out : List ℕ) (cs : List (List ℕ)) → same_literals out set ≡ false → times set cs ≤ times set (without_set out cs)
+pub times_left : (set out : List ℕ) (cs : List (List ℕ)) → same_literals out set ≡ false → multiplicity set cs ≤ multiplicity set (without_set out cs)
 times_left set out [] e = omega arith
 times_left set out (c ∷ cs) e = go (times_left set out cs e) (same_literals c out) refl
   where
-    wider : times set cs ≤ times set (without_set out cs) → (b : Bool) → more_if b (times set cs) ≤ more_if b (times set (without_set out cs))
+    wider : multiplicity set cs ≤ multiplicity set (without_set out cs) → (b : Bool) → plus_one_if b (multiplicity set cs) ≤ plus_one_if b (multiplicity set (without_set out cs))
     wider ih true = omega (arith, ih)
     wider ih false = ih
 
-    go : times set cs ≤ times set (without_set out cs) → (b : Bool) → same_literals c out ≡ b → times set (c ∷ cs) ≤ times set (cond b cs (c ∷ without_set out cs))
+    go : multiplicity set cs ≤ multiplicity set (without_set out cs) → (b : Bool) → same_literals c out ≡ b → multiplicity set (c ∷ cs) ≤ multiplicity set (cond b cs (c ∷ without_set out cs))
     go ih true s =
         let other : same_literals c set ≡ false = subst (λ x. same_literals x set ≡ false) (sym (same_text c out (sym s))) e in
-        let is : times set (c ∷ cs) ≡ times set cs = ap (λ b. more_if b (times set cs)) other in
+        let is : multiplicity set (c ∷ cs) ≡ multiplicity set cs = ap (λ b. plus_one_if b (multiplicity set cs)) other in
         omega (arith, is)
     go ih false s = wider ih (same_literals c set)
 
 -- removing a clause lowers a count by at most 1
-pub times_less : (set out : List ℕ) (cs : List (List ℕ)) → times set cs ≤ times set (without_set out cs) + 1
+pub times_less : (set out : List ℕ) (cs : List (List ℕ)) → multiplicity set cs ≤ multiplicity set (without_set out cs) + 1
 times_less set out [] = omega arith
 times_less set out (c ∷ cs) = go (times_less set out cs) (same_literals c out)
   where
-    one : (b : Bool) → more_if b (times set cs) ≤ times set cs + 1
+    one : (b : Bool) → plus_one_if b (multiplicity set cs) ≤ multiplicity set cs + 1
     one true = omega arith
     one false = omega arith
 
-    wider : times set cs ≤ times set (without_set out cs) + 1 → (b : Bool) → more_if b (times set cs) ≤ more_if b (times set (without_set out cs)) + 1
+    wider : multiplicity set cs ≤ multiplicity set (without_set out cs) + 1 → (b : Bool) → plus_one_if b (multiplicity set cs) ≤ plus_one_if b (multiplicity set (without_set out cs)) + 1
     wider ih true = omega (arith, ih)
     wider ih false = ih
 
-    go : times set cs ≤ times set (without_set out cs) + 1 → (b : Bool) → times set (c ∷ cs) ≤ times set (cond b cs (c ∷ without_set out cs)) + 1
+    go : multiplicity set cs ≤ multiplicity set (without_set out cs) + 1 → (b : Bool) → multiplicity set (c ∷ cs) ≤ multiplicity set (cond b cs (c ∷ without_set out cs)) + 1
     go ih true = one (same_literals c set)
     go ih false = wider ih (same_literals c set)
 
 -- REFUTATIONS
 
 -- one clause is falsified
-pub refutes_one : (cs : List (List ℕ)) (known c : List ℕ) → 0 < times c cs → IsFalsified known c → RefutesByUnits cs known
+pub refutes_one : (cs : List (List ℕ)) (known c : List ℕ) → 0 < multiplicity c cs → IsFalsified known c → RefutesByUnits cs known
 refutes_one cs known c p f = record { named = c ∷ []; are_present = (p, tt); turns = f }
 
 -- one clause is unit, and with its literal the rest is refuted
-pub refutes_unit : (cs : List (List ℕ)) (known c : List ℕ) (o : ℕ) → 0 < times c cs → IsUnit known c o → RefutesByUnits cs (o ∷ known) → RefutesByUnits cs known
+pub refutes_unit : (cs : List (List ℕ)) (known c : List ℕ) (o : ℕ) → 0 < multiplicity c cs → IsUnit known c o → RefutesByUnits cs (o ∷ known) → RefutesByUnits cs known
 refutes_unit cs known c o p u r = go r.named r.are_present r.turns
   where
-    go : (named : List (List ℕ)) → AllByRecursion (λ c. 0 < times c cs) named → UnitInTurn (o ∷ known) named → RefutesByUnits cs known
+    go : (named : List (List ℕ)) → AllByRecursion (λ c. 0 < multiplicity c cs) named → UnitInTurn (o ∷ known) named → RefutesByUnits cs known
     go [] a t = absurd t
     go (d ∷ ds) a t = record { named = c ∷ d ∷ ds; are_present = (p, a); turns = (o, u, t) }
 
@@ -101,7 +101,7 @@ all_falsified known o f [] a = tt
 all_falsified known o f (l ∷ ls) a = (elim a.0 [ inl e ↦ subst (λ x. is_among known (negated x) ≡ true) (sym e) f | inr t ↦ t ], all_falsified known o f ls a.1)
 
 -- Present clauses that lead to a conflict refute what is known: those that aren't unit in turn are left out.
-pub leads_refute : (ps cs : List (List ℕ)) (known : List ℕ) (q : ℕ → Bool) → AllByRecursion (λ c. 0 < times (canonical c) ps) cs → Has known q → PropagatesToConflict q cs → RefutesByUnits ps known
+pub leads_refute : (ps cs : List (List ℕ)) (known : List ℕ) (q : ℕ → Bool) → AllByRecursion (λ c. 0 < multiplicity (canonical c) ps) cs → Has known q → PropagatesToConflict q cs → RefutesByUnits ps known
 leads_refute ps [] known q p h l = absurd l
 leads_refute ps (c ∷ []) known q p h l = refutes_one ps known (canonical c) p.0 (canonical_each (λ m. is_among known (negated m) ≡ true) c (each_falsified known q h c l))
 leads_refute ps (c ∷ d ∷ cs) known q p h l = go (λ k r a b. leads_refute ps (d ∷ cs) k r p.1 a b) (is_among known l.0) refl (is_among known (negated l.0)) refl
@@ -123,7 +123,7 @@ leads_refute ps (c ∷ d ∷ cs) known q p h l = go (λ k r a b. leads_refute ps
 -- UNITS
 
 -- present units may be used first
-pub units_first : (ps : List (List ℕ)) (us known : List ℕ) (q : ℕ → Bool) → AllByRecursion (λ u. 0 < times (u ∷ []) ps) us → Has known q → ((k : List ℕ) → Has k (λ l. is_among us l || q l) → RefutesByUnits ps k) → RefutesByUnits ps known
+pub units_first : (ps : List (List ℕ)) (us known : List ℕ) (q : ℕ → Bool) → AllByRecursion (λ u. 0 < multiplicity (u ∷ []) ps) us → Has known q → ((k : List ℕ) → Has k (λ l. is_among us l || q l) → RefutesByUnits ps k) → RefutesByUnits ps known
 units_first ps [] known q p h f = f known h
 units_first ps (u ∷ us) known q p h f = go (λ k r a b. units_first ps us k r p.1 a b) (is_among known u) refl (is_among known (negated u)) refl
   where

@@ -3,11 +3,11 @@ use Rattle.std.proofs.Common.{ℕ, ◌≡◌, List, [], ◌∷◌, map, refl, ap
 use Rattle.sat_base.specs.steps.Steps.{Step, UserVarName, AddClause, Model, Assumptions, FailedAssumptions, End}
 use Rattle.sat_checker.specs.matching.Checking.{is_ordered}
 use Rattle.sat_solver.specs.proof.Widths.{narrowed, IsNarrowedTo, none_yet, width_changes, one_more}
-use Rattle.sat_solver.specs.session.Due.{kept_if, ordered_of, without_hashes, WidthsKeepOrder}
+use Rattle.sat_solver.specs.session.OrderedSteps.{prepend_if, ordered_of, without_hashes, WidthsKeepOrder}
 
 -- one more step on top of the earlier ones
 one_kept : (w : ℕ) (step : Step) (xs ys : List Step) → map without_hashes xs ≡ map without_hashes ys
-    → map without_hashes (kept_if (is_ordered (narrowed w step)) (narrowed w step) xs) ≡ map without_hashes (kept_if (is_ordered step) step ys)
+    → map without_hashes (prepend_if (is_ordered (narrowed w step)) (narrowed w step) xs) ≡ map without_hashes (prepend_if (is_ordered step) step ys)
 one_kept w (UserVarName v name) xs ys e = ap (λ z. UserVarName v name ∷ z) e
 one_kept w (AddClause clause) xs ys e = ap (λ z. AddClause clause ∷ z) e
 one_kept w (Model ls) xs ys e = ap (λ z. Model ls ∷ z) e

@@ -3,7 +3,7 @@ use Rattle.std.proofs.Common.{ℕ, ◌≡◌, Option, None, Some, List, [], ◌�
 use Rattle.sat_base.specs.values.Literals.{negated}
 use Rattle.sat_base.specs.steps.Steps.{Simplified, Step, SolverVarName, UserVarName, DeleteVar, AtClause, UnitClauses, DeleteClause, ChangeHashBits, Model, Assumptions, FailedAssumptions, End}
 use Rattle.sat_checker.specs.Contents.{state_after}
-use Rattle.sat_solver.specs.session.Session.{Session, proof_state, session_with, with_fact, last_after, after, session_after, AreLiveByHash, MayDerive, MayWriteCore, by_signs, by_derivation, by_unit, by_clauses, MayWriteUnits, IsAllowedStep, AreAllowedSteps}
+use Rattle.sat_solver.specs.session.Session.{Session, proof_state, session_with, with_unit_added, last_after, after, session_after, AreLiveByHash, CanDerive, CanWriteCore, by_signs, by_derivation, by_unit, by_clauses, CanWriteUnits, IsAllowedStep, AreAllowedSteps}
 use Rattle.sat_solver.specs.proof.Checked.{unended}
 
 -- the session with another clause derived last
@@ -17,18 +17,18 @@ named_at o s [] (k ∷ ks) h = absurd h
 named_at o s (c ∷ cs) [] h = absurd h
 named_at o s (c ∷ cs) (k ∷ ks) h = (record { once = h.0.once; counted = h.0.counted }, h.1, named_at o s cs ks h.2)
 
-derive_at : (o : Option (List ℕ)) (s : Session) (clause hashes : List ℕ) → MayDerive s clause hashes → MayDerive (at o s) clause hashes
+derive_at : (o : Option (List ℕ)) (s : Session) (clause hashes : List ℕ) → CanDerive s clause hashes → CanDerive (at o s) clause hashes
 derive_at o s clause hashes (by_unit t) = by_unit t
 derive_at o s clause hashes (by_clauses named n lead) = by_clauses named (named_at o s named hashes n) lead
 
-fail_at : (o : Option (List ℕ)) (s : Session) (core hashes : List ℕ) → MayWriteCore s core hashes → MayWriteCore (at o s) core hashes
+fail_at : (o : Option (List ℕ)) (s : Session) (core hashes : List ℕ) → CanWriteCore s core hashes → CanWriteCore (at o s) core hashes
 fail_at o s core hashes (by_signs t) = by_signs t
 fail_at o s core hashes (by_derivation d) = by_derivation (derive_at o s (map negated core) hashes d)
 
 -- units may still be derived
-prove_at : (o : Option (List ℕ)) (us : List (ℕ × ℕ)) (s : Session) → MayWriteUnits s us → MayWriteUnits (at o s) us
+prove_at : (o : Option (List ℕ)) (us : List (ℕ × ℕ)) (s : Session) → CanWriteUnits s us → CanWriteUnits (at o s) us
 prove_at o [] s h = tt
-prove_at o (u ∷ us) s h = (derive_at o s (u.0 ∷ []) (u.1 ∷ []) h.0, prove_at o us (with_fact u.0 s) h.1)
+prove_at o (u ∷ us) s h = (derive_at o s (u.0 ∷ []) (u.1 ∷ []) h.0, prove_at o us (with_unit_added u.0 s) h.1)
 
 -- the second has the clause of the first, if that one has a clause
 abbrev Longer : Option (List ℕ) → Option (List ℕ) → Type 0

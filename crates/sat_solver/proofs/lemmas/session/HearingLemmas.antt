@@ -4,12 +4,12 @@ use Rattle.std.proofs.lemmas.Bool.{true≢false}
 use Rattle.anyhow.specs.declared.error.Error.{Error}
 use Rattle.sat_base.specs.steps.Steps.{Step, ChangeHashBits}
 use Rattle.sat_checker.specs.Accepts.{stored_after}
-use Rattle.sat_checker.specs.CheckerView.{CheckerView, HasAccepted, BreaksAt, RunsOutOfMemoryAt, AnswersStep, AnswersDelayed, has_failed}
-use Rattle.sat_checker.specs.KernelView.{KernelIsSettled}
+use Rattle.sat_checker.specs.CheckerView.{CheckerView, HasAccepted, ListenerFailsAtStep, RunsOutOfMemoryAt, StepResultAfter, SettlingResultAfter, checker_has_failed}
+use Rattle.sat_checker.specs.KernelView.{KernelHasNoPendingConflict}
 use Rattle.sat_checker.specs.Stored.{Stored}
 use Rattle.sat_checker.specs.Storing.{with_conflict_settled, settled_by}
-use Rattle.sat_checker.specs.announcements.Announcements.{Notice, notices_after, notices_over, delayed, delayed_by}
-use Rattle.sat_checker.specs.listeners.Hearing.{HearsSince, notices_by}
+use Rattle.sat_checker.specs.announcements.Announcements.{Notice, notices_after, notices_of, delayed_announcement, delayed_empty_clause}
+use Rattle.sat_checker.specs.listeners.Receiving.{ReceivesSince, notices_made}
 use Rattle.sat_checker.specs.declared.error.CheckerError.{CheckerError}
 use Rattle.sat_checker.specs.declared.error.CheckerError.TheVariants as errors
 use Rattle.sat_checker.specs.declared.processing.Nobody.{Nobody}
@@ -18,8 +18,8 @@ use Rattle.sat_checker.specs.declared.processing.ProcessingError.{ProcessingErro
 use Rattle.sat_checker.specs.declared.processing.ProcessingError.TheVariants as faults
 use Rattle.sat_solver.specs.declared.proof.emitted.CheckFault.{CheckFault}
 use Rattle.sat_solver.specs.declared.proof.emitted.CheckFault.TheVariants as checks
-use Rattle.sat_solver.specs.proof.Checked.{OkOrCause}
-use Rattle.sat_solver.specs.proof.Listening.{Hears, HeardAll, HeardUpTo, HasHeard, FailedOf}
+use Rattle.sat_solver.specs.proof.Checked.{OkOrCheckerFailure}
+use Rattle.sat_solver.specs.proof.Listening.{Receives, HeardAll, HeardUpTo, HasHeard, CheckerFailedBecause}
 use Rattle.sat_solver.specs.session.Session.{AreAllowedSteps}
 use Rattle.sat_solver.specs.proof.Widths.{IsNarrowedTo, none_yet, width_changes, one_more}
 use Rattle.sat_solver.proofs.lemmas.session.StepLemmas.{sessions_are_accepted}
@@ -32,8 +32,8 @@ pub record Quiet (written : List Step) : Type 0 where
 still : (f : Stored) → f.conflict ≡ None → (with_conflict_settled f).conflict ≡ None
 still f e = ap (λ c. (settled_by c f).conflict) e ∙ e
 
-shown : (written : List Step) (f : Stored) → f.conflict ≡ None → notices_after written ≡ [] → notices_after written ++ notices_over f (delayed f) ++ [] ≡ []
-shown written f e t = ap (λ ts. ts ++ notices_over f (delayed f) ++ []) t ∙ ap (λ c. notices_over f (delayed_by f.next_id c) ++ []) e
+shown : (written : List Step) (f : Stored) → f.conflict ≡ None → notices_after written ≡ [] → notices_after written ++ notices_of f (delayed_announcement f) ++ [] ≡ []
+shown written f e t = ap (λ ts. ts ++ notices_of f (delayed_announcement f) ++ []) t ∙ ap (λ c. notices_of f (delayed_empty_clause f.next_id c) ++ []) e
 
 width_quiet : (bits : ℕ) (written : List Step) → Quiet written → Quiet (ChangeHashBits bits ∷ written)
 width_quiet bits written q = record {
@@ -47,28 +47,28 @@ widths_quiet wide e (width_changes bits h) = width_quiet bits _ (widths_quiet wi
 widths_quiet wide e (one_more step k h) = cc
 
 -- so there is nothing to report
-pub none_reported : (written : List Step) → Quiet written → (conflict : Option (ℕ × ℕ)) → notices_by conflict written ≡ []
+pub none_reported : (written : List Step) → Quiet written → (conflict : Option (ℕ × ℕ)) → notices_made conflict written ≡ []
 none_reported written q (Some c) = q.no_notices
-none_reported written q None = ap (λ ts. ts ++ notices_over (stored_after written) (delayed (stored_after written))) q.no_notices ∙ ap (λ c. notices_over (stored_after written) (delayed_by (stored_after written).next_id c)) q.conflict
+none_reported written q None = ap (λ ts. ts ++ notices_of (stored_after written) (delayed_announcement (stored_after written))) q.no_notices ∙ ap (λ c. notices_of (stored_after written) (delayed_empty_clause (stored_after written).next_id c)) q.conflict
 
 module _ {L : Type 0} (takes : L → Notice → Result Unit Error → L → Type 0) (begun : Processing L Nobody) where
   -- listeners have heard everything as long as the checker does not fail
-  pub heard_all : (now : Processing L Nobody) (written : List Step) (conflict : Option (ℕ × ℕ)) → HearsSince (Hears takes) [] (notices_by conflict written) begun now → HeardAll takes begun now written
+  pub heard_all : (now : Processing L Nobody) (written : List Step) (conflict : Option (ℕ × ℕ)) → ReceivesSince (Receives takes) [] (notices_made conflict written) begun now → HeardAll takes begun now written
   heard_all now written (Some c) h = inl h
   heard_all now written None h = inr h
 
   -- what listeners have heard when the checker failed
-  pub has_heard : (now : Processing L Nobody) (written : List Step) (in_hand : Option Step) (fault : CheckFault) → FailedOf takes begun now written in_hand fault → HasHeard takes begun now written
+  pub has_heard : (now : Processing L Nobody) (written : List Step) (in_hand : Option Step) (fault : CheckFault) → CheckerFailedBecause takes begun now written in_hand fault → HasHeard takes begun now written
   has_heard now written in_hand checks.OutOfMemory h = elim h [ inl a ↦ inl a | inr b ↦ inr (faults.OutOfMemory, b) ]
   has_heard now written in_hand checks.CounterEnd h = inl h.1
   has_heard now written in_hand (checks.Processor cause) h = inr (faults.ProofProcessorError cause, h)
 
-  module _ (old new : CheckerView (Processing L Nobody)) (written : List Step) (going : has_failed old ≡ false) where
+  module _ (old new : CheckerView (Processing L Nobody)) (written : List Step) (going : checker_has_failed old ≡ false) where
     -- the checker failed before it announced the step, or while it did
     abbrev pub Broke : Step → CheckFault → Type 0
-    Broke step fault = FailedOf takes begun new.listeners written (Some step) fault ⊎ FailedOf takes begun new.listeners (step ∷ written) None fault
+    Broke step fault = CheckerFailedBecause takes begun new.listeners written (Some step) fault ⊎ CheckerFailedBecause takes begun new.listeners (step ∷ written) None fault
 
-    up_to : (step : Step) (e : ProcessingError) → BreaksAt (Hears takes) [] begun e new step written → HeardUpTo takes begun new.listeners written e ⊎ HeardUpTo takes begun new.listeners (step ∷ written) e
+    up_to : (step : Step) (e : ProcessingError) → ListenerFailsAtStep (Receives takes) [] begun e new step written → HeardUpTo takes begun new.listeners written e ⊎ HeardUpTo takes begun new.listeners (step ∷ written) e
     up_to step e (inl b) = inl (inr b.1.heard)
     up_to step e (inr b) = inr (inl b.1.heard)
 
@@ -76,13 +76,13 @@ module _ {L : Type 0} (takes : L → Notice → Result Unit Error → L → Type
     starved step (inl h) = inl (inr h)
     starved step (inr h) = inr (inr h)
 
-    starved_at : (step : Step) → RunsOutOfMemoryAt (Hears takes) [] begun new step written → Broke step checks.OutOfMemory
+    starved_at : (step : Step) → RunsOutOfMemoryAt (Receives takes) [] begun new step written → Broke step checks.OutOfMemory
     starved_at step (inl s) = inl (inl s.1.heard)
     starved_at step (inr b) = starved step (up_to step faults.OutOfMemory b)
 
     -- the checker's answer to an allowed step
-    pub answered : (r : Result (Unit {0}) CheckerError) (step : Step) → AreAllowedSteps (step ∷ written) → AnswersStep (Hears takes) [] begun r old step new written
-        → OkOrCause r (HasAccepted (Hears takes) [] begun new (step ∷ written) × (has_failed new ≡ false)) (Broke step)
+    pub answered : (r : Result (Unit {0}) CheckerError) (step : Step) → AreAllowedSteps (step ∷ written) → StepResultAfter (Receives takes) [] begun r old step new written
+        → OkOrCheckerFailure r (HasAccepted (Receives takes) [] begun new (step ∷ written) × (checker_has_failed new ≡ false)) (Broke step)
     answered (Ok x) step may a = (a.1.valid, a.1.goes_on)
     answered (Err errors.OutOfMemory) step may a = (tt, starved_at step a.1)
     answered (Err errors.CounterEnd) step may a = (tt, inl (a.1, a.2.heard))
@@ -92,8 +92,8 @@ module _ {L : Type 0} (takes : L → Notice → Result Unit Error → L → Type
     answered (Err e) step may a = absurd a
 
     -- the checker's answer when it reports a pending unit conflict
-    pub answered_delayed : (r : Result (Unit {0}) CheckerError) → AnswersDelayed (Hears takes) [] begun r old new written
-        → OkOrCause r (HasAccepted (Hears takes) [] begun new written × (has_failed new ≡ false) × KernelIsSettled new.kernel) (FailedOf takes begun new.listeners written None)
+    pub answered_delayed : (r : Result (Unit {0}) CheckerError) → SettlingResultAfter (Receives takes) [] begun r old new written
+        → OkOrCheckerFailure r (HasAccepted (Receives takes) [] begun new written × (checker_has_failed new ≡ false) × KernelHasNoPendingConflict new.kernel) (CheckerFailedBecause takes begun new.listeners written None)
     answered_delayed (Ok x) a = (a.2, a.3, a.4)
     answered_delayed (Err errors.OutOfMemory) a = (tt, inr (inr a.3.heard))
     answered_delayed (Err errors.CounterEnd) a = (tt, (a.2, a.3.heard))

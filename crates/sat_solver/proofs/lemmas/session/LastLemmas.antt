@@ -5,7 +5,7 @@ use Rattle.sat_checker.specs.LiteralSets.{is_tautology, canonical}
 use Rattle.sat_checker.specs.Stored.{Stored}
 use Rattle.sat_checker.specs.Storing.{with_conflict_settled, with_canonical, with_literals_known, last_literals}
 use Rattle.sat_checker.specs.Accepts.{effect}
-use Rattle.sat_checker.proofs.lemmas.meaning.Orderly.{Orderly}
+use Rattle.sat_checker.proofs.lemmas.meaning.Orderly.{OrderInvariant}
 use Rattle.sat_checker.proofs.lemmas.invariants.Last.{derived_last, last_stays, last_is_settled}
 use Rattle.sat_solver.specs.session.Session.{last_long, last_after}
 
@@ -18,14 +18,14 @@ pub no_last : (set : List ℕ) → None ≡ Some set → ⊥
 no_last set e = cc
 
 -- a derived irredundant clause is the last one
-last_derived : (b : Bool) (set : List ℕ) (g : Stored) → Orderly (cond b g (with_canonical false set g)) → LastIs (cond b None (last_long false set)) (cond b g (with_canonical false set g))
+last_derived : (b : Bool) (set : List ℕ) (g : Stored) → OrderInvariant (cond b g (with_canonical false set g)) → LastIs (cond b None (last_long false set)) (cond b g (with_canonical false set g))
 last_derived true set g o want e = absurd (no_last want e)
 last_derived false [] g o want e = absurd (no_last want e)
 last_derived false (l ∷ []) g o want e = absurd (no_last want e)
 last_derived false (l ∷ m ∷ ls) g o want e = derived_last (l ∷ m ∷ ls) g (omega arith) o ∙ e
 
 -- the last clause after a step
-pub last_kept : (step : Step) (last : Option (List ℕ)) (f : Stored) → Orderly (effect step f) → LastIs last f → LastIs (last_after step last) (effect step f)
+pub last_kept : (step : Step) (last : Option (List ℕ)) (f : Stored) → OrderInvariant (effect step f) → LastIs last f → LastIs (last_after step last) (effect step f)
 last_kept (AtClause true clause hashes) last f o h want e = absurd (go (is_tautology clause) e)
   where
     go : (b : Bool) → cond b None (last_long true (canonical clause)) ≡ Some want → ⊥

@@ -7,29 +7,29 @@ use Rattle.sat_checker.specs.Stored.{solver_literal}
 use Rattle.sat_checker.proofs.lemmas.meaning.Clauses.{same, same_from}
 use Rattle.sat_checker.proofs.lemmas.sets.Canonical.{canonical_among}
 use Rattle.sat_checker.proofs.lemmas.sets.Subsets.{any_true, some_of, any_canonical}
-use Rattle.sat_checker.specs.Contents.{same_side, more_if}
+use Rattle.sat_checker.specs.Contents.{same_flag, plus_one_if}
 use Rattle.sat_solver.specs.session.LiveClauses.{LiveClause, live_count_of, IsIn, with_var, AreMapped}
 
 -- two clauses are counted in either order
-more_more : (a b : Bool) (n : ℕ) → more_if a (more_if b n) ≡ more_if b (more_if a n)
+more_more : (a b : Bool) (n : ℕ) → plus_one_if a (plus_one_if b n) ≡ plus_one_if b (plus_one_if a n)
 more_more true true n = refl
 more_more true false n = refl
 more_more false b n = refl
 
 -- one more clause at any position
-pub count_between : (xs ys : List LiveClause) (c : LiveClause) (r : Bool) (set : List ℕ) → live_count_of (xs ++ c ∷ ys) r set ≡ more_if (same_side c.redundant r && same_literals (canonical c.literals) set) (live_count_of (xs ++ ys) r set)
+pub count_between : (xs ys : List LiveClause) (c : LiveClause) (r : Bool) (set : List ℕ) → live_count_of (xs ++ c ∷ ys) r set ≡ plus_one_if (same_flag c.redundant r && same_literals (canonical c.literals) set) (live_count_of (xs ++ ys) r set)
 count_between [] ys c r set = refl
 count_between (x ∷ xs) ys c r set =
-    ap (more_if (same_side x.redundant r && same_literals (canonical x.literals) set)) (count_between xs ys c r set)
-    ∙ more_more (same_side x.redundant r && same_literals (canonical x.literals) set) (same_side c.redundant r && same_literals (canonical c.literals) set) (live_count_of (xs ++ ys) r set)
+    ap (plus_one_if (same_flag x.redundant r && same_literals (canonical x.literals) set)) (count_between xs ys c r set)
+    ∙ more_more (same_flag x.redundant r && same_literals (canonical x.literals) set) (same_flag c.redundant r && same_literals (canonical c.literals) set) (live_count_of (xs ++ ys) r set)
 
--- `same_side` holds for equal sides
-its_side : (r : Bool) → same_side r r ≡ true
+-- `same_flag` holds for equal sides
+its_side : (r : Bool) → same_flag r r ≡ true
 its_side true = refl
 its_side false = refl
 
 -- a positive count stays positive
-more_positive : (b : Bool) (n : ℕ) → 0 < n → 0 < more_if b n
+more_positive : (b : Bool) (n : ℕ) → 0 < n → 0 < plus_one_if b n
 more_positive true n h = omega arith
 more_positive false n h = h
 
@@ -38,9 +38,9 @@ pub in_counts : (cs : List LiveClause) (c : LiveClause) → IsIn c cs → 0 < li
 in_counts [] c h = absurd h
 in_counts (d ∷ ds) c h = elim h [
   | inl e ↦
-      let t : (same_side d.redundant c.redundant && same_literals (canonical d.literals) (canonical c.literals)) ≡ true = subst (λ x. (same_side x.redundant c.redundant && same_literals (canonical x.literals) (canonical c.literals)) ≡ true) e (ap (λ b. b && same_literals (canonical c.literals) (canonical c.literals)) (its_side c.redundant) ∙ same_from (canonical c.literals) (canonical c.literals) refl) in
-      subst (λ b. 0 < more_if b (live_count_of ds c.redundant (canonical c.literals))) (sym t) (omega arith)
-  | inr k ↦ more_positive (same_side d.redundant c.redundant && same_literals (canonical d.literals) (canonical c.literals)) (live_count_of ds c.redundant (canonical c.literals)) (in_counts ds c k)
+      let t : (same_flag d.redundant c.redundant && same_literals (canonical d.literals) (canonical c.literals)) ≡ true = subst (λ x. (same_flag x.redundant c.redundant && same_literals (canonical x.literals) (canonical c.literals)) ≡ true) e (ap (λ b. b && same_literals (canonical c.literals) (canonical c.literals)) (its_side c.redundant) ∙ same_from (canonical c.literals) (canonical c.literals) refl) in
+      subst (λ b. 0 < plus_one_if b (live_count_of ds c.redundant (canonical c.literals))) (sym t) (omega arith)
+  | inr k ↦ more_positive (same_flag d.redundant c.redundant && same_literals (canonical d.literals) (canonical c.literals)) (live_count_of ds c.redundant (canonical c.literals)) (in_counts ds c k)
 ]
 
 -- a clause of the list that has this side and set
@@ -50,8 +50,8 @@ pub record SomeIn (cs : List LiveClause) (r : Bool) (set : List ℕ) : Type 0 wh
   pub side : clause.redundant ≡ r
   pub its : canonical clause.literals ≡ set
 
--- `same_side` holds for equal sides only
-side_is : (a b : Bool) → same_side a b ≡ true → a ≡ b
+-- `same_flag` holds for equal sides only
+side_is : (a b : Bool) → same_flag a b ≡ true → a ≡ b
 side_is true true e = refl
 side_is true false e = absurd cc
 side_is false true e = absurd cc
@@ -60,12 +60,12 @@ side_is false false e = refl
 -- a set with a positive count belongs to a clause in the list
 pub counts_in : (cs : List LiveClause) (r : Bool) (set : List ℕ) → 0 < live_count_of cs r set → SomeIn cs r set
 counts_in [] r set n = absurd (omega arith)
-counts_in (c ∷ cs) r set n = go (counts_in cs r set) (same_side c.redundant r) refl (same_literals (canonical c.literals) set) refl n
+counts_in (c ∷ cs) r set n = go (counts_in cs r set) (same_flag c.redundant r) refl (same_literals (canonical c.literals) set) refl n
   where
     later : SomeIn cs r set → SomeIn (c ∷ cs) r set
     later s = record { clause = s.clause; within = inr s.within; side = s.side; its = s.its }
 
-    go : (0 < live_count_of cs r set → SomeIn cs r set) → (a : Bool) → same_side c.redundant r ≡ a → (b : Bool) → same_literals (canonical c.literals) set ≡ b → 0 < more_if (a && b) (live_count_of cs r set) → SomeIn (c ∷ cs) r set
+    go : (0 < live_count_of cs r set → SomeIn cs r set) → (a : Bool) → same_flag c.redundant r ≡ a → (b : Bool) → same_literals (canonical c.literals) set ≡ b → 0 < plus_one_if (a && b) (live_count_of cs r set) → SomeIn (c ∷ cs) r set
     go ih true x true y k = record { clause = c; within = inl refl; side = side_is c.redundant r x; its = same (canonical c.literals) set y }
     go ih true x false y k = later (ih k)
     go ih false x b y k = later (ih k)

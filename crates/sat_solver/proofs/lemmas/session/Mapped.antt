@@ -5,7 +5,7 @@ use Rattle.std.specs.List.{AllByRecursion}
 use Rattle.sat_base.specs.values.Literals.{variable, negated}
 use Rattle.sat_checker.specs.LiteralSets.{is_among}
 use Rattle.sat_checker.specs.SortedSets.{NoRepeats}
-use Rattle.sat_checker.specs.Leading.{PropagatesToConflict}
+use Rattle.sat_checker.specs.ConflictPropagation.{PropagatesToConflict}
 use Rattle.sat_solver.specs.session.Session.{Session, rup_assumptions}
 use Rattle.sat_solver.specs.session.LiveClauses.{with_var, AreMapped}
 

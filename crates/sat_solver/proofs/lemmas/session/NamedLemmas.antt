@@ -3,7 +3,7 @@ use Rattle.std.proofs.Common.{ℕ, ◌+◌, ◌*◌, ◌/◌, ◌%◌, ◌<◌, 
 use Rattle.std.proofs.lemmas.Bool.{or_cases, or_left, or_right, true≢false}
 use Rattle.std.specs.List.{AllByRecursion}
 use Rattle.sat_base.specs.values.Literals.{mk_lit, variable}
-use Rattle.sat_base.specs.values.Clauses.{Valuation, literal_true, clause_true, EachTrue, EachHolds}
+use Rattle.sat_base.specs.values.Clauses.{Valuation, literal_true, clause_true, AllLitsTrue, AllClausesTrue}
 use Rattle.sat_base.specs.script.Script.{Literal, Among}
 use Rattle.sat_base.specs.script.ScriptState.{ScriptState, identity_of, identity_lit}
 use Rattle.sat_base.specs.steps.Steps.{Step, SolverVarName, UserVarName, DeleteVar, ChangeSamplingMode, AddClause, AtClause, UnitClauses, DeleteClause, ChangeHashBits, Model, Assumptions, FailedAssumptions, End}
@@ -12,7 +12,7 @@ use Rattle.sat_checker.proofs.lemmas.meaning.Answers.{unsat_means_none, models_e
 use Rattle.sat_solver.specs.session.Session.{session_after}
 use Rattle.sat_solver.specs.session.LiveClauses.{with_var}
 use Rattle.sat_solver.specs.session.Promises.{added}
-use Rattle.sat_solver.specs.session.NamedMeaning.{AgreeOn, IsReadAs, AllFrom, NamedModelsAreRight, NamedCoresAreRight, NamedUnsatIsRight, SameLits, DeletesNoVar, NoneHiddenMeans}
+use Rattle.sat_solver.specs.session.NamedMeaning.{AgreeOn, IsRepresentedBy, AllRepresent, NamedModelsAreRight, NamedCoresAreRight, NamedUnsatIsRight, SameLits, DeletesNoVar, NeverHiddenMeans}
 use Rattle.sat_solver.proofs.lemmas.session.PromiseLemmas.{added_hold}
 use Rattle.sat_solver.proofs.lemmas.session.StepLemmas.{sessions_are_accepted}
 
@@ -67,7 +67,7 @@ some_true a (y ∷ ys) t = elim (or_cases (literal_true a y) (clause_true a ys) 
 ]
 
 -- a literal over a name has the value of the literal over its proof variable
-pub read_value : (j : ScriptState) (variable_of : ℕ → Option ℕ) (a b : Valuation) → AgreeOn j variable_of a b → (l : Literal) (code : ℕ) → IsReadAs j variable_of l code → literal_true a code ≡ literal_true b (identity_lit j l)
+pub read_value : (j : ScriptState) (variable_of : ℕ → Option ℕ) (a b : Valuation) → AgreeOn j variable_of a b → (l : Literal) (code : ℕ) → IsRepresentedBy j variable_of l code → literal_true a code ≡ literal_true b (identity_lit j l)
 read_value j variable_of a b agree l code r =
     let e : a r.var ≡ b r.identity = agree l.name r.identity r.var r.in_use r.named in
     let o : identity_lit j l ≡ mk_lit r.identity l.positive = ap (λ x. mk_lit (unwrap_or x 0) l.positive) r.in_use in
@@ -83,7 +83,7 @@ named_models_are_right j variable_of steps codes ask line means may names read a
     let a : Valuation = m.1.0 in
     let held : Holds steps a = m.0 a m.1.1 m.1.2 in
     let k = means.to a held in
-    let each : AllByRecursion (λ l. literal_true k.0 (identity_lit j l) ≡ true) line = all_from (λ l. literal_true k.0 (identity_lit j l) ≡ true) line (λ l i. let r = all_at (λ x. (code : ℕ) × IsReadAs j variable_of x code × Among code codes) l line read i in
+    let each : AllByRecursion (λ l. literal_true k.0 (identity_lit j l) ≡ true) line = all_from (λ l. literal_true k.0 (identity_lit j l) ≡ true) line (λ l i. let r = all_at (λ x. (code : ℕ) × IsRepresentedBy j variable_of x code × Among code codes) l line read i in
     sym (read_value j variable_of a k.0 k.1 l r.0 r.1) ∙ all_at (λ x. literal_true a x ≡ true) r.0 codes m.1.1 r.2) in
     record {
       names = names;
@@ -94,9 +94,9 @@ named_models_are_right j variable_of steps codes ask line means may names read a
     }
 
 -- if all literals of a core are true, so are those over proof variables
-core_true : (j : ScriptState) (variable_of : ℕ → Option ℕ) (a b : Valuation) (codes : List ℕ) (core : List Literal) → AgreeOn j variable_of a b → AllFrom j variable_of codes core → EachTrue b (map (identity_lit j) core) → EachTrue a codes
+core_true : (j : ScriptState) (variable_of : ℕ → Option ℕ) (a b : Valuation) (codes : List ℕ) (core : List Literal) → AgreeOn j variable_of a b → AllRepresent j variable_of codes core → AllLitsTrue b (map (identity_lit j) core) → AllLitsTrue a codes
 core_true j variable_of a b codes core agree from t = all_from (λ x. literal_true a x ≡ true) codes (λ x i.
-    let r = all_at (λ code. (l : Literal) × IsReadAs j variable_of l code × Among l core) x codes from i in
+    let r = all_at (λ code. (l : Literal) × IsRepresentedBy j variable_of l code × Among l core) x codes from i in
     read_value j variable_of a b agree r.0 x r.1 ∙ all_at (λ y. literal_true b y ≡ true) (identity_lit j r.0) (map (identity_lit j) core) t (among_images (identity_lit j) r.0 core r.2))
 
 -- a failed core that may be written is a right core over names
@@ -122,7 +122,7 @@ named_unsat_is_right j variable_of steps ask means may unsat =
 -- IF NO NAME WAS EVER HIDDEN
 
 -- if no variable was deleted, every valuation that the steps admit satisfies all added clauses
-pub holds_added : (steps : List Step) (a : Valuation) → AllByRecursion DeletesNoVar steps → Holds steps a → EachHolds a (added steps)
+pub holds_added : (steps : List Step) (a : Valuation) → AllByRecursion DeletesNoVar steps → Holds steps a → AllClausesTrue a (added steps)
 holds_added [] a k h = tt
 holds_added (AddClause clause ∷ earlier) a k h = (h.1, holds_added earlier a k.1 h.0)
 holds_added (DeleteVar v ∷ earlier) a k h = absurd k.0
@@ -161,7 +161,7 @@ clause_back global a b c d same within t =
     (mapped_value global a b x.0 (all_at (λ l. a (global (variable l)) ≡ b (variable l)) x.0 d same x.1) ∙ x.2)
 
 -- if no name was ever hidden, steps and accepted clauses admit the same valuations
-pub none_hidden_means : NoneHiddenMeans
+pub none_hidden_means : NeverHiddenMeans
 none_hidden_means j variable_of steps may n = record {
   to = λ a h. ((λ i. a (n.global i)), agree a, satisfied a h n.all_added);
   back = λ b h. ((λ v. b (n.identity v)), agree_back b, added_hold steps (λ v. b (n.identity v)) (all_from (λ c. clause_true (λ v. b (n.identity v)) c ≡ true) (added steps) (λ c i. put b h c i)));
@@ -176,13 +176,13 @@ none_hidden_means j variable_of steps may n = record {
     agree_back : (b : Valuation) → AgreeOn j variable_of (λ v. b (n.identity v)) b
     agree_back b name i v e f = ap (λ x. b (n.identity x)) (same_var name i v e f) ∙ ap b (n.back i (n.below name i e))
 
-    satisfied : (a : Valuation) → Holds steps a → ((session_after steps).unsat ≡ true) ⊎ AllByRecursion (λ d. (c : List ℕ) × Among c (added steps) × SameLits c (map (with_var n.global) d)) j.clauses → EachHolds (λ i. a (n.global i)) j.clauses
+    satisfied : (a : Valuation) → Holds steps a → ((session_after steps).unsat ≡ true) ⊎ AllByRecursion (λ d. (c : List ℕ) × Among c (added steps) × SameLits c (map (with_var n.global) d)) j.clauses → AllClausesTrue (λ i. a (n.global i)) j.clauses
     satisfied a h (inl u) = let s = sessions_are_accepted steps may in absurd (unsat_means_none steps a s.0 (s.1.unsat ∙ u) h)
     satisfied a h (inr all) = all_from (λ d. clause_true (λ i. a (n.global i)) d ≡ true) j.clauses (λ d m.
         let r = all_at (λ d. (c : List ℕ) × Among c (added steps) × SameLits c (map (with_var n.global) d)) d j.clauses all m in
         clause_to n.global a r.0 d r.2.0 (all_at (λ c. clause_true a c ≡ true) r.0 (added steps) (holds_added steps a n.kept h) r.1))
 
-    put : (b : Valuation) → EachHolds b j.clauses → (c : List ℕ) → Among c (added steps) → clause_true (λ v. b (n.identity v)) c ≡ true
+    put : (b : Valuation) → AllClausesTrue b j.clauses → (c : List ℕ) → Among c (added steps) → clause_true (λ v. b (n.identity v)) c ≡ true
     put b h c m =
         let r = all_at (λ c. (d : List ℕ) × Among d j.clauses × SameLits c (map (with_var n.global) d)) c (added steps) n.added_from m in
         clause_back n.global (λ v. b (n.identity v)) b c r.0

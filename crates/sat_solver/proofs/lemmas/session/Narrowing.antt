@@ -4,8 +4,8 @@ use Rattle.sat_base.specs.values.Literals.{negated}
 use Rattle.sat_base.specs.values.Hashes.{hash_of}
 use Rattle.sat_base.specs.steps.Steps.{Simplified, Step, SolverVarName, UserVarName, DeleteVar, AtClause, UnitClauses, DeleteClause, ChangeHashBits, Model, Assumptions, FailedAssumptions, End}
 use Rattle.sat_checker.specs.Stored.{solver_literal}
-use Rattle.sat_solver.specs.session.Session.{Session, proof_state, session_with, with_fact, last_after, after, session_after, AreLiveByHash, MayDerive, MayWriteCore, by_signs, by_derivation, by_unit, by_clauses, MayWriteUnits, IsAllowedStep, AreAllowedSteps}
-use Rattle.sat_solver.specs.proof.Widths.{kept_bits, narrowed, KeepsWidth, IsNarrowedTo, none_yet, width_changes, one_more, MayAt, WidthsAreFree}
+use Rattle.sat_solver.specs.session.Session.{Session, proof_state, session_with, with_unit_added, last_after, after, session_after, AreLiveByHash, CanDerive, CanWriteCore, by_signs, by_derivation, by_unit, by_clauses, CanWriteUnits, IsAllowedStep, AreAllowedSteps}
+use Rattle.sat_solver.specs.proof.Widths.{kept_bits, narrowed, KeepsWidth, IsNarrowedTo, none_yet, width_changes, one_more, IsAllowedAtWidth, WidthsAreFree}
 use Rattle.sat_solver.proofs.lemmas.session.WidthLemmas.{after_wide, fact_wide, fact_width, step_width}
 
 -- the session at another width
@@ -28,21 +28,21 @@ named_at w s e (c ∷ cs) (k ∷ ks) h = (
 )
 
 -- a derivation is still one at another width
-pub derive_at : (w : ℕ) (s : Session) → s.width ≡ 64 → (clause hashes : List ℕ) → MayDerive s clause hashes → MayDerive (at w s) clause (map (kept_bits w) hashes)
+pub derive_at : (w : ℕ) (s : Session) → s.width ≡ 64 → (clause hashes : List ℕ) → CanDerive s clause hashes → CanDerive (at w s) clause (map (kept_bits w) hashes)
 derive_at w s e clause hashes (by_unit t) = by_unit t
 derive_at w s e clause hashes (by_clauses named n lead) = by_clauses named (named_at w s e named hashes n) lead
 
 -- so is the derivation of a core
-fail_at : (w : ℕ) (s : Session) → s.width ≡ 64 → (core hashes : List ℕ) → MayWriteCore s core hashes → MayWriteCore (at w s) core (map (kept_bits w) hashes)
+fail_at : (w : ℕ) (s : Session) → s.width ≡ 64 → (core hashes : List ℕ) → CanWriteCore s core hashes → CanWriteCore (at w s) core (map (kept_bits w) hashes)
 fail_at w s e core hashes (by_signs t) = by_signs t
 fail_at w s e core hashes (by_derivation d) = by_derivation (derive_at w s e (map negated core) hashes d)
 
 -- units that may be written may be written at another width
-pub prove_at : (w : ℕ) (us : List (ℕ × ℕ)) (s : Session) → s.width ≡ 64 → MayWriteUnits s us → MayWriteUnits (at w s) (map (λ u. (u.0, kept_bits w u.1)) us)
+pub prove_at : (w : ℕ) (us : List (ℕ × ℕ)) (s : Session) → s.width ≡ 64 → CanWriteUnits s us → CanWriteUnits (at w s) (map (λ u. (u.0, kept_bits w u.1)) us)
 prove_at w [] s e h = tt
 prove_at w (u ∷ us) s e h = (
   derive_at w s e (u.0 ∷ []) (u.1 ∷ []) h.0,
-  subst (λ x. MayWriteUnits x (map (λ v. (v.0, kept_bits w v.1)) us)) (sym (ap (session_with s.last) (fact_wide u.0 w (proof_state s)))) (prove_at w us (with_fact u.0 s) (fact_width u.0 (proof_state s) ∙ e) h.1),
+  subst (λ x. CanWriteUnits x (map (λ v. (v.0, kept_bits w v.1)) us)) (sym (ap (session_with s.last) (fact_wide u.0 w (proof_state s)))) (prove_at w us (with_unit_added u.0 s) (fact_width u.0 (proof_state s) ∙ e) h.1),
 )
 
 -- the clause derived last does not depend on hashes
@@ -70,7 +70,7 @@ may_at w End s e m = tt
 may_at w step s e m = m
 
 -- what is written for allowed steps is allowed, and the steps themselves have width 64
-written_may : {wide written : List Step} {width : ℕ} → IsNarrowedTo wide written width → AreAllowedSteps wide → MayAt wide written width × (session_after wide).width ≡ 64
+written_may : {wide written : List Step} {width : ℕ} → IsNarrowedTo wide written width → AreAllowedSteps wide → IsAllowedAtWidth wide written width × (session_after wide).width ≡ 64
 written_may none_yet h = (record { may = tt; session = refl }, refl)
 written_may (width_changes {wide = wide} {written = written} {width = width} bits w) h =
     let ih = written_may w h in

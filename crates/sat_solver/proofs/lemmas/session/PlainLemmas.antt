@@ -3,13 +3,13 @@ use Rattle.std.proofs.Common.{ℕ, ◌≡◌, Bool, true, false, ◌||◌, eqb, 
 use Rattle.sat_base.specs.values.Literals.{negated}
 use Rattle.sat_base.specs.steps.Steps.{Redundant, Step, SolverVarName, UserVarName, AddClause, AtClause, UnitClauses, DeleteClause}
 use Rattle.sat_checker.specs.LiteralSets.{is_tautology, canonical}
-use Rattle.sat_solver.specs.session.Session.{Session, with_fact, after}
+use Rattle.sat_solver.specs.session.Session.{Session, with_unit_added, after}
 use Rattle.sat_solver.proofs.lemmas.session.Changes.{with_facts, with_sorted, with_live_clause, knowing_literals, session_if}
 
 -- RECORDED UNSAT IS NEVER LOST
 
 -- after a unit
-fact_unsat : (l : ℕ) (s : Session) → s.unsat ≡ true → (with_fact l s).unsat ≡ true
+fact_unsat : (l : ℕ) (s : Session) → s.unsat ≡ true → (with_unit_added l s).unsat ≡ true
 fact_unsat l s u = go (s.units l) (s.units (negated l))
   where
     go : (b d : Bool) → (session_if b s (session_if d (record s { unsat = true }) (record s { units = λ m. eqb l m || s.units m }))).unsat ≡ true
@@ -20,7 +20,7 @@ fact_unsat l s u = go (s.units l) (s.units (negated l))
 -- after units
 facts_unsat : (ls : List ℕ) (s : Session) → s.unsat ≡ true → (with_facts ls s).unsat ≡ true
 facts_unsat [] s u = u
-facts_unsat (l ∷ ls) s u = facts_unsat ls (with_fact l s) (fact_unsat l s u)
+facts_unsat (l ∷ ls) s u = facts_unsat ls (with_unit_added l s) (fact_unsat l s u)
 
 -- after a sorted clause
 sorted_unsat : (r : Bool) (set : List ℕ) (s : Session) → s.unsat ≡ true → (with_sorted r set s).unsat ≡ true

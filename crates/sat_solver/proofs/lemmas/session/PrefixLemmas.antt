@@ -8,8 +8,8 @@ use Rattle.sat_base.specs.steps.Steps.{Step, SolverVarName, UserVarName, DeleteV
 use Rattle.sat_checker.specs.declared.processing.ProofProcessor.{Ghosts}
 use Rattle.sat_solver.specs.proof.Checked.{has_begun}
 use Rattle.sat_solver.specs.proof.Counting.{nothing_counted}
-use Rattle.sat_solver.specs.proof.Prefixes.{PrefixText, TargetTakesPrefix, MakesSteps, PrefixesAreAccepted}
-use Rattle.sat_solver.specs.proof.ProofView.{Target, Closed, Open, Broken as Faulty, TargetTakes, TargetFails, GivesWriter, target_of, steps_of, EmitsExactly, FailsToEmit}
+use Rattle.sat_solver.specs.proof.Prefixes.{PrefixText, TargetReceivesPrefix, ProofReachesBySteps, PrefixesAreAccepted}
+use Rattle.sat_solver.specs.proof.ProofView.{Target, Closed, Open, Broken as Faulty, TargetReceives, TargetFails, ReturnsWriter, target_of, steps_of, EmitsExactly, FailsToEmit}
 use Rattle.sat_solver.specs.session.Session.{empty_session, IsAllowedStep, AreAllowedSteps, after, session_after}
 use Rattle.sat_solver.specs.declared.proof.format.ProofFormat.{ProofFormat}
 use Rattle.sat_solver.specs.declared.proof.Proof.{Proof}
@@ -55,9 +55,9 @@ may_first (step ∷ later) first m = may_first later first m.0
 
 module _ (f : ProofFormat) (from given : Writer) where
   -- the target received the text of these steps
-  carried_front : (steps : List Step) (now : Target) → AreAllowedSteps steps → TargetTakes (Open f nothing_counted (empty_sink from)) steps now → GivesWriter now (Some given) → PrefixText f from given steps
+  carried_front : (steps : List Step) (now : Target) → AreAllowedSteps steps → TargetReceives (Open f nothing_counted (empty_sink from)) steps now → ReturnsWriter now (Some given) → PrefixText f from given steps
   carried_front steps now m h g =
-      let q : Some given ≡ Some h.1.writer = subst (λ (z : Target). GivesWriter z (Some given)) h.2 g in
+      let q : Some given ≡ Some h.1.writer = subst (λ (z : Target). ReturnsWriter z (Some given)) h.2 g in
       let same : h.1.writer ≡ given = cc in
       let may = (cuts_are_free steps h.3.written h.0 h.3.cuts m).may in
       record {
@@ -74,9 +74,9 @@ module _ (f : ProofFormat) (from given : Writer) where
       }
 
   -- a call failed while their text was written
-  stopped_front : (steps : List Step) (now : Target) → AreAllowedSteps steps → TargetFails (Open f nothing_counted (empty_sink from)) steps now → GivesWriter now (Some given) → PrefixText f from given steps
+  stopped_front : (steps : List Step) (now : Target) → AreAllowedSteps steps → TargetFails (Open f nothing_counted (empty_sink from)) steps now → ReturnsWriter now (Some given) → PrefixText f from given steps
   stopped_front steps now m h g =
-      let q : Some given ≡ Some h.0 = subst (λ (z : Target). GivesWriter z (Some given)) h.1 g in
+      let q : Some given ≡ Some h.0 = subst (λ (z : Target). ReturnsWriter z (Some given)) h.1 g in
       let same : h.0 ≡ given = cc in
       let may = (cuts_are_free steps h.2.written h.2.counting h.2.cuts m).may in
       record {
@@ -108,11 +108,11 @@ fronts_are_accepted f from given before steps now b m follows g =
 -- FROM STEP TO STEP
 
 -- a target that failed receives nothing more
-broken_follows : (w : Writer) (ys : List Step) (c : Target) → TargetTakesPrefix (Faulty w) ys c → c ≡ Faulty w
+broken_follows : (w : Writer) (ys : List Step) (c : Target) → TargetReceivesPrefix (Faulty w) ys c → c ≡ Faulty w
 broken_follows w ys c h = elim h [ inl k ↦ k | inr k ↦ absurd k.3 ]
 
 -- steps, and then later ones
-pub follows_more : (a b c : Target) (xs ys : List Step) → TargetTakesPrefix a xs b → TargetTakesPrefix b ys c → TargetTakesPrefix a (ys ++ xs) c
+pub follows_more : (a b c : Target) (xs ys : List Step) → TargetReceivesPrefix a xs b → TargetReceivesPrefix b ys c → TargetReceivesPrefix a (ys ++ xs) c
 follows_more a b c xs ys p q = elim p [
   | inl k ↦ elim q [
     | inl l ↦ inl (carries_more a b c xs ys k l)
@@ -121,18 +121,18 @@ follows_more a b c xs ys p q = elim p [
   | inr k ↦ inr (ys ++ k.0, k.1, ap (λ (z : List Step). ys ++ z) k.2 ∙ sym (append_assoc ys k.0 k.1), stays a k.1 k.3 q)
 ]
   where
-    stays : (t : Target) (first : List Step) → TargetFails t first b → TargetTakesPrefix b ys c → TargetFails t first c
+    stays : (t : Target) (first : List Step) → TargetFails t first b → TargetReceivesPrefix b ys c → TargetFails t first c
     stays (Closed n) first s r = absurd s
     stays (Open f n z) first s r =
-        let e : c ≡ Faulty s.0 = broken_follows s.0 ys c (subst (λ (z : Target). TargetTakesPrefix z ys c) s.1 r) in
+        let e : c ≡ Faulty s.0 = broken_follows s.0 ys c (subst (λ (z : Target). TargetReceivesPrefix z ys c) s.1 r) in
         (s.0, e, s.2)
     stays (Faulty w) first s n = absurd s
 
 -- a flush writes no step
-pub went_none : {W L : Type 0} {G : Ghosts L} (seen : W → Writer) (p : Proof W L G) → MakesSteps seen p p
+pub went_none : {W L : Type 0} {G : Ghosts L} (seen : W → Writer) (p : Proof W L G) → ProofReachesBySteps seen p p
 went_none seen p = record { steps = []; history = refl; target = inl (carries_none (target_of seen p)) }
 
-pub went_more : {W L : Type 0} {G : Ghosts L} (seen : W → Writer) (a b c : Proof W L G) → MakesSteps seen a b → MakesSteps seen b c → MakesSteps seen a c
+pub went_more : {W L : Type 0} {G : Ghosts L} (seen : W → Writer) (a b c : Proof W L G) → ProofReachesBySteps seen a b → ProofReachesBySteps seen b c → ProofReachesBySteps seen a c
 went_more seen a b c p q = record {
   steps = q.steps ++ p.steps;
   history = q.history ∙ ap (λ z. q.steps ++ z) p.history ∙ sym (append_assoc q.steps p.steps (steps_of a));
@@ -140,9 +140,9 @@ went_more seen a b c p q = record {
 }
 
 -- steps were made, and their text was written
-pub went_added : {W L : Type 0} {G : Ghosts L} (seen : W → Writer) (steps : List Step) (a b : Proof W L G) → EmitsExactly seen steps a b → MakesSteps seen a b
+pub went_added : {W L : Type 0} {G : Ghosts L} (seen : W → Writer) (steps : List Step) (a b : Proof W L G) → EmitsExactly seen steps a b → ProofReachesBySteps seen a b
 went_added seen steps a b h = record { steps = steps; history = h.history; target = inl h.target }
 
 -- steps were made, and a call failed while their text was written
-pub went_failed : {W L : Type 0} {G : Ghosts L} (seen : W → Writer) (steps : List Step) (a b : Proof W L G) → FailsToEmit seen steps a b → MakesSteps seen a b
+pub went_failed : {W L : Type 0} {G : Ghosts L} (seen : W → Writer) (steps : List Step) (a b : Proof W L G) → FailsToEmit seen steps a b → ProofReachesBySteps seen a b
 went_failed seen steps a b h = record { steps = steps; history = h.history; target = inr ([], steps, refl, h.target) }

@@ -1,6 +1,6 @@
 -- What sessions guarantee.
 use Rattle.std.proofs.Common.{◌≡◌, true, List, [], ◌∷◌, sym, ◌∙◌, inl}
-use Rattle.sat_base.specs.values.Clauses.{Valuation, literal_true, EachHolds}
+use Rattle.sat_base.specs.values.Clauses.{Valuation, literal_true, AllClausesTrue}
 use Rattle.sat_base.specs.steps.Steps.{Step, SolverVarName, UserVarName, DeleteVar, ChangeSamplingMode, AddClause, AtClause, UnitClauses, DeleteClause, ChangeHashBits, Model, Assumptions, FailedAssumptions, End}
 use Rattle.sat_checker.specs.Fold.{Holds}
 use Rattle.sat_checker.specs.Stored.{unit_literals}
@@ -11,7 +11,7 @@ use Rattle.sat_solver.proofs.lemmas.session.AcceptLemmas.{each_member}
 use Rattle.sat_solver.proofs.lemmas.session.StepLemmas.{sessions_are_accepted}
 
 -- a valuation that satisfies all added clauses is admitted by the steps, whatever was deleted
-pub added_hold : (steps : List Step) (a : Valuation) → EachHolds a (added steps) → Holds steps a
+pub added_hold : (steps : List Step) (a : Valuation) → AllClausesTrue a (added steps) → Holds steps a
 added_hold [] a h = tt
 added_hold (AddClause clause ∷ earlier) a h = (added_hold earlier a h.1, h.0)
 added_hold (DeleteVar v ∷ earlier) a h = inl (added_hold earlier a h)

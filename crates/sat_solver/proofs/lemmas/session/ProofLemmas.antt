@@ -12,13 +12,13 @@ use Rattle.sat_base.specs.steps.StepText.{SpellsStep, SpellsSteps}
 use Rattle.sat_base.proofs.lemmas.device.Sending.{sent_none, sent_more}
 use Rattle.sat_base.proofs.lemmas.device.Writes.{took_more as took_both, breaks_later}
 use Rattle.sat_checker.specs.declared.processing.ProofProcessor.{Ghosts}
-use Rattle.sat_solver.specs.proof.Counting.{TruncatesHashes, none_made, ask_begun, one_made, written_for, counted, CountsSteps}
-use Rattle.sat_solver.specs.proof.ProofTexts.{ClosedIsText, BrokenIsPrefix, WroteSince, TookSince}
-use Rattle.sat_solver.specs.proof.OutputView.{step_text, text_in, AreSpeltInFormat, SendsSteps}
-use Rattle.sat_solver.specs.proof.ProofView.{IsAtWidth, Target, Closed, Open, Broken as Faulty, is_open, Carried, TargetTakes, TargetFails, Flushed, TakesAll, ClosesAfter, IsTakenFrom, GivesWriter, target_of, steps_of, has_asked, EmitsExactly, EmitsChecked, FailsToEmit, FailsCheck, CheckerFailed, is_checked, has_missed_step, EmitsAsAnswered, Drains, FlushesAndNotifies, FlushesOrFails, ClosesTarget, ClosesOne, ReturnsTarget}
+use Rattle.sat_solver.specs.proof.Counting.{TruncatesHashes, none_made, ask_begun, one_made, written_for, counting_after, CountsSteps}
+use Rattle.sat_solver.specs.proof.ProofTexts.{ClosedIsText, BrokenIsPrefix, WroteSince, ReceivedTextSince}
+use Rattle.sat_solver.specs.proof.OutputView.{step_text, text_in, AreSpeltInFormat, SinkReceivesSteps}
+use Rattle.sat_solver.specs.proof.ProofView.{IsAtWidth, Target, Closed, Open, Broken as Faulty, is_open, SinkReceivesWritten, TargetReceives, TargetFails, TargetFlushed, TargetReceivesAll, TargetClosesAfter, TargetIsRemoved, ReturnsWriter, target_of, steps_of, has_asked, EmitsExactly, EmitsChecked, FailsToEmit, FailsCheck, CheckerFailed, is_checked, has_missed_step, EmitResult, FlushesOnlyTarget, FlushesAndNotifies, FlushesOrFails, ClosesTarget, ClosesOpenTarget, ReturnsTarget}
 use Rattle.sat_solver.specs.proof.ListenerErrors.{IsListenerError}
 use Rattle.sat_solver.specs.proof.EmittedView as mades
-use Rattle.sat_solver.specs.session.Making.{ComesByCheckedSteps}
+use Rattle.sat_solver.specs.session.Emitting.{EmitsSomeChecked}
 use Rattle.sat_solver.specs.declared.proof.emitted.CheckFault.{CheckFault}
 use Rattle.sat_solver.specs.declared.proof.checker.Checked.{Checked}
 use Rattle.sat_solver.specs.declared.proof.emitted.EmittedSteps.{EmittedSteps}
@@ -58,11 +58,11 @@ module _ (f : ProofFormat) where
   -- SINKS
 
   -- nothing was written
-  pub wrote_none : (s : Sink) → SendsSteps f [] s s
+  pub wrote_none : (s : Sink) → SinkReceivesSteps f [] s s
   wrote_none s = record { spelt = tt; sent = sent_none s }
 
   -- steps were written, and then later ones
-  pub wrote_more : (s t u : Sink) (xs ys : List Step) → SendsSteps f xs s t → SendsSteps f ys t u → SendsSteps f (ys ++ xs) s u
+  pub wrote_more : (s t u : Sink) (xs ys : List Step) → SinkReceivesSteps f xs s t → SinkReceivesSteps f ys t u → SinkReceivesSteps f (ys ++ xs) s u
   wrote_more s t u xs ys p q = record {
     spelt = spelt_append ys xs q.spelt p.spelt;
     sent = subst (AddsToSink s u) (sym (text_append ys xs)) (sent_more s t u (text_in f xs) (text_in f ys) p.sent q.sent);
@@ -75,7 +75,7 @@ module _ (f : ProofFormat) where
       ∙ ap (λ (z : List ℕ). s.waiting ++ z) (sym (text_append ys xs))
 
   -- steps were written, and a call failed while later ones were written
-  pub breaks_after : (s t : Sink) (w : Writer) (xs ys : List Step) → SendsSteps f xs s t → WriterFails t.writer w (t.waiting ++ text_in f ys) → WriterFails s.writer w (s.waiting ++ text_in f (ys ++ xs))
+  pub breaks_after : (s t : Sink) (w : Writer) (xs ys : List Step) → SinkReceivesSteps f xs s t → WriterFails t.writer w (t.waiting ++ text_in f ys) → WriterFails s.writer w (s.waiting ++ text_in f (ys ++ xs))
   breaks_after s t w xs ys p q =
       subst (WriterFails s.writer w) (rest_text s t p.sent.fresh xs ys p.sent.flows) (breaks_later s.writer t.writer w p.sent.fresh (t.waiting ++ text_in f ys) p.sent.takes q)
 
@@ -86,11 +86,11 @@ pub cuts_more : {c d e : Counting} {xs ys ws vs : List Step} → TruncatesHashes
 cuts_more p none_made = p
 cuts_more p (ask_begun q) = ask_begun (cuts_more p q)
 cuts_more {c = c} {xs = xs} {ws = ws} p (one_made {d = d} {made = made} {written = written} step k q) =
-    subst (λ (z : List Step). TruncatesHashes c (step ∷ (made ++ xs)) z (counted step d)) (sym (append_assoc (written_for d.bits (counted step d).bits step) written ws)) (one_made step k (cuts_more p q))
+    subst (λ (z : List Step). TruncatesHashes c (step ∷ (made ++ xs)) z (counting_after step d)) (sym (append_assoc (written_for d.bits (counting_after step d).bits step) written ws)) (one_made step k (cuts_more p q))
 
 -- one step
-pub cuts_one : (c : Counting) (step : Step) → KeepsWidth step → TruncatesHashes c (step ∷ []) (written_for c.bits (counted step c).bits step) (counted step c)
-cuts_one c step k = subst (λ (z : List Step). TruncatesHashes c (step ∷ []) z (counted step c)) (append-nil (written_for c.bits (counted step c).bits step)) (one_made step k none_made)
+pub cuts_one : (c : Counting) (step : Step) → KeepsWidth step → TruncatesHashes c (step ∷ []) (written_for c.bits (counting_after step c).bits step) (counting_after step c)
+cuts_one c step k = subst (λ (z : List Step). TruncatesHashes c (step ∷ []) z (counting_after step c)) (append-nil (written_for c.bits (counting_after step c).bits step)) (one_made step k none_made)
 
 -- TARGETS
 
@@ -99,27 +99,27 @@ counts_none : (c : Counting) → CountsSteps c [] c
 counts_none c = record { written = []; cuts = none_made }
 
 -- no step
-pub carries_none : (t : Target) → TargetTakes t [] t
+pub carries_none : (t : Target) → TargetReceives t [] t
 carries_none (Closed c) = (c, refl, counts_none c)
 carries_none (Open f c s) = (c, s, refl, record { written = []; cuts = none_made; wrote = wrote_none f s })
 carries_none (Faulty w) = refl
 
 -- the text of steps was written, then that of later ones
-pub carried_more : (f : ProofFormat) (c d e : Counting) (s t u : Sink) (xs ys : List Step) → Carried f c s xs d t → Carried f d t ys e u → Carried f c s (ys ++ xs) e u
+pub carried_more : (f : ProofFormat) (c d e : Counting) (s t u : Sink) (xs ys : List Step) → SinkReceivesWritten f c s xs d t → SinkReceivesWritten f d t ys e u → SinkReceivesWritten f c s (ys ++ xs) e u
 carried_more f c d e s t u xs ys p q = record { written = q.written ++ p.written; cuts = cuts_more p.cuts q.cuts; wrote = wrote_more f s t u p.written q.written p.wrote q.wrote }
 
 -- steps, and then later ones
-pub carries_more : (a b c : Target) (xs ys : List Step) → TargetTakes a xs b → TargetTakes b ys c → TargetTakes a (ys ++ xs) c
+pub carries_more : (a b c : Target) (xs ys : List Step) → TargetReceives a xs b → TargetReceives b ys c → TargetReceives a (ys ++ xs) c
 carries_more (Closed n) b c xs ys p q =
-    let k = subst (λ (z : Target). TargetTakes z ys c) p.1 q in
+    let k = subst (λ (z : Target). TargetReceives z ys c) p.1 q in
     (k.0, k.1, record { written = k.2.written ++ p.2.written; cuts = cuts_more p.2.cuts k.2.cuts })
 carries_more (Open f n s) b c xs ys p q =
-    let k = subst (λ (z : Target). TargetTakes z ys c) p.2 q in
+    let k = subst (λ (z : Target). TargetReceives z ys c) p.2 q in
     (k.0, k.1, k.2, carried_more f n p.0 k.0 s p.1 k.1 xs ys p.3 k.3)
-carries_more (Faulty w) b c xs ys p q = subst (λ (z : Target). TargetTakes z ys c) p q
+carries_more (Faulty w) b c xs ys p q = subst (λ (z : Target). TargetReceives z ys c) p q
 
 -- steps were written, and a call failed at later ones
-pub stops_later : (a b c : Target) (xs ys : List Step) → TargetTakes a xs b → TargetFails b ys c → TargetFails a (ys ++ xs) c
+pub stops_later : (a b c : Target) (xs ys : List Step) → TargetReceives a xs b → TargetFails b ys c → TargetFails a (ys ++ xs) c
 stops_later (Closed n) b c xs ys p q = absurd (subst (λ (z : Target). TargetFails z ys c) p.1 q)
 stops_later (Open f n s) b c xs ys p q =
     let k = subst (λ (z : Target). TargetFails z ys c) p.2 q in (
@@ -135,17 +135,17 @@ stops_later (Open f n s) b c xs ys p q =
 stops_later (Faulty w) b c xs ys p q = subst (λ (z : Target). TargetFails z ys c) p q
 
 -- a flush writes no step
-pub flushed_carries : (a b : Target) → Flushed a b → TargetTakes a [] b
+pub flushed_carries : (a b : Target) → TargetFlushed a b → TargetReceives a [] b
 flushed_carries (Closed c) b h = (c, h, counts_none c)
 flushed_carries (Open f c s) b h = (c, h.0, h.1, record { written = []; cuts = none_made; wrote = record { spelt = tt; sent = h.2.sent } })
 flushed_carries (Faulty w) b h = h
 
 -- steps were written and flushed, and the target is returned
-pub takes_all : (a b c : Target) (given : Option Writer) (w : Writer) (xs : List Step) → is_open a ≡ true → TargetTakes a xs b → Flushed b c → GivesWriter c given → given ≡ Some w → TakesAll a xs w
+pub takes_all : (a b c : Target) (given : Option Writer) (w : Writer) (xs : List Step) → is_open a ≡ true → TargetReceives a xs b → TargetFlushed b c → ReturnsWriter c given → given ≡ Some w → TargetReceivesAll a xs w
 takes_all (Closed n) b c given w xs o p f g e = cc
 takes_all (Open a n s) b c given w xs o p f g e =
-    let k = subst (λ (z : Target). Flushed z c) p.2 f in
-    let q = subst (λ (z : Target). GivesWriter z given) k.1 g in
+    let k = subst (λ (z : Target). TargetFlushed z c) p.2 f in
+    let q = subst (λ (z : Target). ReturnsWriter z given) k.1 g in
     let is : k.0.writer ≡ w = cc in
     let text = text_in a p.3.written in
     let sent : AddsToSink s k.0 text = subst (AddsToSink s k.0) (append-nil text) (sent_more s p.1 k.0 text [] p.3.wrote.sent k.2.sent) in
@@ -162,11 +162,11 @@ takes_all (Open a n s) b c given w xs o p f g e =
 takes_all (Faulty w) b c given v xs o p f g e = cc
 
 -- steps were written and flushed, and the target is closed
-closes_after : (a b c d : Target) (xs : List Step) → is_open a ≡ true → TargetTakes a xs b → Flushed b c → IsTakenFrom c d → ClosesAfter a xs d
+closes_after : (a b c d : Target) (xs : List Step) → is_open a ≡ true → TargetReceives a xs b → TargetFlushed b c → TargetIsRemoved c d → TargetClosesAfter a xs d
 closes_after (Closed n) b c d xs o p f g = absurd (true≢false (sym o))
 closes_after (Open a n s) b c d xs o p f g =
-    let k = subst (λ (z : Target). Flushed z c) p.2 f in
-    (p.0, subst (λ (z : Target). IsTakenFrom z d) k.1 g, record { written = p.3.written; cuts = p.3.cuts })
+    let k = subst (λ (z : Target). TargetFlushed z c) p.2 f in
+    (p.0, subst (λ (z : Target). TargetIsRemoved z d) k.1 g, record { written = p.3.written; cuts = p.3.cuts })
 closes_after (Faulty w) b c d xs o p f g = absurd (true≢false (sym o))
 
 -- the bytes encode the steps
@@ -176,7 +176,7 @@ spells f steps h e = subst (λ (z : ProofFormat). SpellsSteps (reverse steps) (t
 -- What a target received from the opening of a proof to its end.
 pub closed_is_text : ClosedIsText
 closed_is_text f from given steps last t p q =
-    let k = subst (λ (z : Target). TakesAll z (last ∷ []) given) p.2 q in
+    let k = subst (λ (z : Target). TargetReceivesAll z (last ∷ []) given) p.2 q in
     let s = p.1 in
     let whole : p.3.wrote.sent.fresh ++ (s.waiting ++ text_in f k.written) ≡ text_in f (k.written ++ p.3.written) = rest_text f (empty_sink from) s p.3.wrote.sent.fresh p.3.written k.written p.3.wrote.sent.flows in
     record {
@@ -191,7 +191,7 @@ closed_is_text f from given steps last t p q =
 -- What a target that failed received since the opening of a proof: a prefix of the text. No later call was made.
 pub broken_is_front : BrokenIsPrefix
 broken_is_front f from given steps t p g =
-    let q = subst (λ (z : Target). GivesWriter z (Some given)) p.1 g in
+    let q = subst (λ (z : Target). ReturnsWriter z (Some given)) p.1 g in
     let same : p.0 ≡ given = cc in
     record { written = p.2.written; counting = p.2.counting; cuts = p.2.cuts; breaks = subst (λ (z : Writer). WriterFails from z (text_in f p.2.written)) same p.2.breaks }
 
@@ -214,7 +214,7 @@ pub gains_none : {W L : Type 0} {G : Ghosts L} (seen : W → Writer) (p : Proof 
 gains_none seen p = record { history = refl; listening = refl; taking = refl; asked = refl; width = λ h. elim h [ inl w ↦ w | inr n ↦ absurd (n refl) ]; target = carries_none (target_of seen p) }
 
 -- no step was made
-pub gains_kept : {W L : Type 0} {G : Ghosts L} (seen : W → Writer) (p q : Proof W L G) → q.made ≡ p.made → q.counting ≡ p.counting → has_asked q ≡ has_asked p → TargetTakes (target_of seen p) [] (target_of seen q) → EmitsChecked seen [] p q
+pub gains_kept : {W L : Type 0} {G : Ghosts L} (seen : W → Writer) (p q : Proof W L G) → q.made ≡ p.made → q.counting ≡ p.counting → has_asked q ≡ has_asked p → TargetReceives (target_of seen p) [] (target_of seen q) → EmitsChecked seen [] p q
 gains_kept {W} {L} {G} seen p q made counting asked target = record {
   history = ap (λ (m : EmittedSteps L G). m.history.steps) made;
   listening = ap (λ (m : EmittedSteps L G). mades.emitted_listeners m) made;
@@ -237,7 +237,7 @@ gains_more seen xs ys a b c p q =
     record { history = both.history; listening = both.listening; taking = q.taking ∙ p.taking; asked = q.asked ∙ p.asked; width = width_more xs ys a b c p.width q.width; target = both.target }
 
 -- if steps were made, the checker is at the width of the target's text
-pub gained_width : {W L : Type 0} {G : Ghosts L} (seen : W → Writer) (a b : Proof W L G) → ComesByCheckedSteps seen a b → (steps_of b ≡ steps_of a → ⊥) → IsAtWidth b
+pub gained_width : {W L : Type 0} {G : Ghosts L} (seen : W → Writer) (a b : Proof W L G) → EmitsSomeChecked seen a b → (steps_of b ≡ steps_of a → ⊥) → IsAtWidth b
 gained_width seen a b t n = t.1.width (inr (λ e. n (t.1.history ∙ ap (λ xs. xs ++ steps_of a) e)))
 
 -- steps were written, and a call failed at later ones
@@ -261,7 +261,7 @@ pub check_later : {W L : Type 0} {G : Ghosts L} {fault : CheckFault} (seen : W �
 check_later seen xs ys a b c p q = record { adds = adds_more seen xs ys a b c p q.adds; why = q.why }
 
 -- a flush of the target makes no step
-drained : {W L : Type 0} {G : Ghosts L} (seen : W → Writer) (a b : Proof W L G) → Drains seen a b → EmitsExactly seen [] a b
+drained : {W L : Type 0} {G : Ghosts L} (seen : W → Writer) (a b : Proof W L G) → FlushesOnlyTarget seen a b → EmitsExactly seen [] a b
 drained seen a b h = record { history = h.history; listening = h.listening; target = flushed_carries (target_of seen a) (target_of seen b) h.target }
 
 -- if no step was lost before, the checker has failed just now
@@ -269,14 +269,14 @@ pub complains_now : {W L : Type 0} {G : Ghosts L} (fault : CheckFault) (p : Proo
 complains_now fault p lost taking h = elim h [ inl k ↦ k | inr k ↦ absurd (true≢false (sym k.0 ∙ taking)) ]
 
 -- flushing and notifying the listeners makes no step
-pub flush_records : {W L : Type 0} {G : Ghosts L} (seen : W → Writer) (r : Result (Unit {0}) ProofError) (a b : Proof W L G) → has_missed_step a ≡ false → FlushesOrFails seen r a b → EmitsAsAnswered seen r [] a b
+pub flush_records : {W L : Type 0} {G : Ghosts L} (seen : W → Writer) (r : Result (Unit {0}) ProofError) (a b : Proof W L G) → has_missed_step a ≡ false → FlushesOrFails seen r a b → EmitResult seen r [] a b
 flush_records seen (Ok x) a b taking h = record { history = h.history; listening = h.listening; taking = h.taking; asked = h.asked; width = λ k. elim k [ inl w ↦ h.width w | inr n ↦ absurd (n refl) ]; target = flushed_carries (target_of seen a) (target_of seen b) h.target }
 flush_records seen (Err (Write e)) a b taking h = h
 flush_records seen (Err OutOfMemory) a b taking h = absurd h
 flush_records seen (Err (Check fault)) a b taking h = (let k = complains_now fault b (has_missed_step a) taking h.1 in (record { adds = drained seen a b h.0; why = k.0 }, k.1))
 
 -- writing or checking the last step failed
-pub close_stops : {W L : Type 0} {G : Ghosts L} (T : Type 0) (seen : W → Writer) (e : ProofError) (a b : Proof W L G) → EmitsAsAnswered {T = T} seen (Err e) (End ∷ []) a b → ClosesTarget seen (Err e) a b
+pub close_stops : {W L : Type 0} {G : Ghosts L} (T : Type 0) (seen : W → Writer) (e : ProofError) (a b : Proof W L G) → EmitResult {T = T} seen (Err e) (End ∷ []) a b → ClosesTarget seen (Err e) a b
 close_stops T seen (Write e) a b h = h
 close_stops T seen OutOfMemory a b h = h
 close_stops T seen (Check fault) a b h = (h.0.adds, inl (h.0.why, h.1))
@@ -294,11 +294,11 @@ close_fails seen (Write e) a b c p q = (
 close_fails seen OutOfMemory a b c p q = absurd q
 close_fails seen (Check fault) a b c p q = (adds_more seen (End ∷ []) [] a b c (gains_adds seen (End ∷ []) a b p) (drained seen b c q.0), elim q.1 [ inl k ↦ inl k | inr k ↦ inr (sym p.taking ∙ k.0, k.1) ])
 
-gives_none : (a b c : Target) (xs : List Step) → is_open a ≡ true → TargetTakes a xs b → Flushed b c → GivesWriter c None → ⊥
+gives_none : (a b c : Target) (xs : List Step) → is_open a ≡ true → TargetReceives a xs b → TargetFlushed b c → ReturnsWriter c None → ⊥
 gives_none (Closed n) b c xs o p f g = absurd (true≢false (sym o))
 gives_none (Open a n s) b c xs o p f g =
-    let k = subst (λ (z : Target). Flushed z c) p.2 f in
-    let q : None ≡ Some k.0.writer = subst (λ (z : Target). GivesWriter z None) k.1 g in
+    let k = subst (λ (z : Target). TargetFlushed z c) p.2 f in
+    let q : None ≡ Some k.0.writer = subst (λ (z : Target). ReturnsWriter z None) k.1 g in
     cc
 gives_none (Faulty w) b c xs o p f g = absurd (true≢false (sym o))
 
@@ -318,7 +318,7 @@ close_gives seen (Some w) a b c d open_yet p q h = record {
 -- SINCE THE OPENING
 
 -- a proof was closed
-pub since_closed : {W L : Type 0} {G : Ghosts L} (seen : W → Writer) (f : ProofFormat) (from : Writer) (before : List Step) (given : W) (p q : Proof W L G) → WroteSince seen f from before p → ClosesOne seen given p q → TookSince f from (seen given) before (steps_of q)
+pub since_closed : {W L : Type 0} {G : Ghosts L} (seen : W → Writer) (f : ProofFormat) (from : Writer) (before : List Step) (given : W) (p q : Proof W L G) → WroteSince seen f from before p → ClosesOpenTarget seen given p q → ReceivedTextSince f from (seen given) before (steps_of q)
 since_closed seen f from before given p q w c = record {
   steps = End ∷ w.steps;
   following = c.history ∙ ap (λ z. End ∷ z) w.following;

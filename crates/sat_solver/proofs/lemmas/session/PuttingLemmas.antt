@@ -10,9 +10,9 @@ use Rattle.sat_base.specs.steps.StepText.{SpellsStep}
 use Rattle.sat_solver.specs.declared.proof.format.ProofFormat.TheVariants.{Varisat}
 use Rattle.sat_base.proofs.lemmas.device.Writes.{breaks_within}
 use Rattle.sat_checker.specs.declared.processing.ProofProcessor.{Ghosts}
-use Rattle.sat_solver.specs.proof.Counting.{width_change, written_for, counted, CountsSteps}
-use Rattle.sat_solver.specs.proof.OutputView.{step_text, SpellsIn, text_in, SendsSteps, PutsSteps, output_format, output_sink}
-use Rattle.sat_solver.specs.proof.ProofView.{TargetTakes, TargetFails, Closed, Open, Broken as Faulty, IsTakenFrom, is_open, with_fault, target_in, target_of, EmitsExactly, FailsToEmit}
+use Rattle.sat_solver.specs.proof.Counting.{width_change, written_for, counting_after, CountsSteps}
+use Rattle.sat_solver.specs.proof.OutputView.{step_text, SpellsIn, text_in, SinkReceivesSteps, WritesToSink, output_format, output_sink}
+use Rattle.sat_solver.specs.proof.ProofView.{TargetReceives, TargetFails, Closed, Open, Broken as Faulty, TargetIsRemoved, is_open, open_or_broken, target_of_output, target_of, EmitsExactly, FailsToEmit}
 use Rattle.sat_solver.specs.proof.Widths.{narrowed, KeepsWidth}
 use Rattle.sat_solver.specs.declared.proof.hash_bits.Counting.{Counting}
 use Rattle.sat_solver.specs.declared.proof.output.ProofOutput.{ProofOutput}
@@ -24,47 +24,47 @@ use Rattle.sat_solver.specs.declared.proof.output.OutputError.TheVariants.{Write
 use Rattle.sat_solver.proofs.lemmas.session.ProofLemmas.{wrote_none, breaks_after, cuts_one, carries_none}
 
 -- one step was written
-pub wrote_one : (f : ProofFormat) (step : Step) (s t : Sink) → AddsToSink s t (step_text f step) → SpellsIn f step → SendsSteps f (step ∷ []) s t
+pub wrote_one : (f : ProofFormat) (step : Step) (s t : Sink) → AddsToSink s t (step_text f step) → SpellsIn f step → SinkReceivesSteps f (step ∷ []) s t
 wrote_one f step s t h k = record { spelt = (k, tt); sent = h }
 
 -- one step at an unchanged width was buffered
-pub waits_at : (step : Step) (before now : ℕ) (s t : Sink) → before ≡ now → AddsToSink s t (step_bytes step) → SpellsStep step (step_bytes step) → SendsSteps Varisat (step ∷ width_change before now) s t
-waits_at step before now s t e sent spells = subst (λ xs. SendsSteps Varisat (step ∷ xs) s t) (sym (ap (λ b. cond b [] (ChangeHashBits now ∷ [])) (eq-eqb before now e))) (wrote_one Varisat step s t sent spells)
+pub waits_at : (step : Step) (before now : ℕ) (s t : Sink) → before ≡ now → AddsToSink s t (step_bytes step) → SpellsStep step (step_bytes step) → SinkReceivesSteps Varisat (step ∷ width_change before now) s t
+waits_at step before now s t e sent spells = subst (λ xs. SinkReceivesSteps Varisat (step ∷ xs) s t) (sym (ap (λ b. cond b [] (ChangeHashBits now ∷ [])) (eq-eqb before now e))) (wrote_one Varisat step s t sent spells)
 
 -- steps were written, and a call failed at one more step
-pub puts_after : (f : ProofFormat) (step : Step) (xs : List Step) (s t u : Sink) → SendsSteps f xs s t → WriterFails t.writer u.writer (t.waiting ++ step_text f step) → WriterFails s.writer u.writer (s.waiting ++ text_in f (step ∷ xs))
+pub puts_after : (f : ProofFormat) (step : Step) (xs : List Step) (s t u : Sink) → SinkReceivesSteps f xs s t → WriterFails t.writer u.writer (t.waiting ++ step_text f step) → WriterFails s.writer u.writer (s.waiting ++ text_in f (step ∷ xs))
 puts_after f step xs s t u p q = breaks_after f s t u.writer xs (step ∷ []) p q
 
 -- a fault while steps are written is also one for a longer list
-pub puts_short : (f : ProofFormat) (e : OutputError) (step : Step) (xs : List Step) (s t : Sink) → PutsSteps f (Err e) xs s t → PutsSteps f (Err e) (step ∷ xs) s t
+pub puts_short : (f : ProofFormat) (e : OutputError) (step : Step) (xs : List Step) (s t : Sink) → WritesToSink f (Err e) xs s t → WritesToSink f (Err e) (step ∷ xs) s t
 puts_short f (Write e) step xs s t h =
     subst (WriterFails s.writer t.writer) (append_assoc s.waiting (text_in f xs) (step_text f step)) (breaks_within s.writer t.writer (s.waiting ++ text_in f xs) (step_text f step) h)
 puts_short f OutOfMemory step xs s t h = h
 
 -- a step was written
-pub carries_step : (f : ProofFormat) (c : Counting) (s t : Sink) (step : Step) → KeepsWidth step → SendsSteps f (written_for c.bits (counted step c).bits step) s t → TargetTakes (Open f c s) (step ∷ []) (Open f (counted step c) t)
-carries_step f c s t step k w = (counted step c, t, refl, record { written = written_for c.bits (counted step c).bits step; cuts = cuts_one c step k; wrote = w })
+pub carries_step : (f : ProofFormat) (c : Counting) (s t : Sink) (step : Step) → KeepsWidth step → SinkReceivesSteps f (written_for c.bits (counting_after step c).bits step) s t → TargetReceives (Open f c s) (step ∷ []) (Open f (counting_after step c) t)
+carries_step f c s t step k w = (counting_after step c, t, refl, record { written = written_for c.bits (counting_after step c).bits step; cuts = cuts_one c step k; wrote = w })
 
 -- a call failed while its text was written
-pub stops_step : (f : ProofFormat) (c : Counting) (s t : Sink) (step : Step) → KeepsWidth step → WriterFails s.writer t.writer (s.waiting ++ text_in f (written_for c.bits (counted step c).bits step)) → TargetFails (Open f c s) (step ∷ []) (Faulty t.writer)
-stops_step f c s t step k b = (t.writer, refl, record { written = written_for c.bits (counted step c).bits step; counting = counted step c; cuts = cuts_one c step k; breaks = b })
+pub stops_step : (f : ProofFormat) (c : Counting) (s t : Sink) (step : Step) → KeepsWidth step → WriterFails s.writer t.writer (s.waiting ++ text_in f (written_for c.bits (counting_after step c).bits step)) → TargetFails (Open f c s) (step ∷ []) (Faulty t.writer)
+stops_step f c s t step k b = (t.writer, refl, record { written = written_for c.bits (counting_after step c).bits step; counting = counting_after step c; cuts = cuts_one c step k; breaks = b })
 
 -- a step was counted, and nothing was written
-pub counts_one : {W : Type 0} (seen : W → Writer) (o : Option (ProofOutput W)) (b : Bool) (c d : Counting) (step : Step) → is_open (target_in seen o b c) ≡ false → KeepsWidth step → d ≡ counted step c → TargetTakes (target_in seen o b c) (step ∷ []) (target_in seen o b d)
-counts_one seen None b c d step e k is = (d, refl, subst (CountsSteps c (step ∷ [])) (sym is) (record { written = written_for c.bits (counted step c).bits step; cuts = cuts_one c step k }))
+pub counts_one : {W : Type 0} (seen : W → Writer) (o : Option (ProofOutput W)) (b : Bool) (c d : Counting) (step : Step) → is_open (target_of_output seen o b c) ≡ false → KeepsWidth step → d ≡ counting_after step c → TargetReceives (target_of_output seen o b c) (step ∷ []) (target_of_output seen o b d)
+counts_one seen None b c d step e k is = (d, refl, subst (CountsSteps c (step ∷ [])) (sym is) (record { written = written_for c.bits (counting_after step c).bits step; cuts = cuts_one c step k }))
 counts_one seen (Some o) false c d step e k is = absurd (true≢false e)
 counts_one seen (Some o) true c d step e k is = refl
 
 -- nothing is open without an output, or after a fault
-pub shut_none : {W : Type 0} (seen : W → Writer) (o : Option (ProofOutput W)) (b : Bool) (c : Counting) → o ≡ None → is_open (target_in seen o b c) ≡ false
-shut_none seen o b c e = ap (λ x. is_open (target_in seen x b c)) e
+pub shut_none : {W : Type 0} (seen : W → Writer) (o : Option (ProofOutput W)) (b : Bool) (c : Counting) → o ≡ None → is_open (target_of_output seen o b c) ≡ false
+shut_none seen o b c e = ap (λ x. is_open (target_of_output seen x b c)) e
 
-pub shut_broken : {W : Type 0} (seen : W → Writer) (o : Option (ProofOutput W)) (b : Bool) (c : Counting) → b ≡ true → is_open (target_in seen o b c) ≡ false
+pub shut_broken : {W : Type 0} (seen : W → Writer) (o : Option (ProofOutput W)) (b : Bool) (c : Counting) → b ≡ true → is_open (target_of_output seen o b c) ≡ false
 shut_broken seen None b c e = refl
-shut_broken seen (Some o) b c e = ap (λ x. is_open (with_fault x (output_format o) c (output_sink seen o))) e
+shut_broken seen (Some o) b c e = ap (λ x. is_open (open_or_broken x (output_format o) c (output_sink seen o))) e
 
 -- the output was taken, and the counts are unchanged
-pub taken_from : {W : Type 0} (seen : W → Writer) (o : Option (ProofOutput W)) (b : Bool) (c : Counting) → IsTakenFrom (target_in seen o b c) (Closed c)
+pub taken_from : {W : Type 0} (seen : W → Writer) (o : Option (ProofOutput W)) (b : Bool) (c : Counting) → TargetIsRemoved (target_of_output seen o b c) (Closed c)
 taken_from seen None b c = refl
 taken_from seen (Some o) false c = refl
 taken_from seen (Some o) true c = (c, refl)
@@ -77,14 +77,14 @@ module _ {W L : Type 0} {G : Ghosts L} (seen : W → Writer) (p : Proof W L G) w
   pub adds_begun : EmitsExactly seen [] p begun
   adds_begun = record { history = refl; listening = refl; target = go p.output p.broken }
     where
-      go : (o : Option (ProofOutput W)) (b : Bool) → TargetTakes (target_in seen o b p.counting) [] (target_in seen o b (record p.counting { solving = true }))
+      go : (o : Option (ProofOutput W)) (b : Bool) → TargetReceives (target_of_output seen o b p.counting) [] (target_of_output seen o b (record p.counting { solving = true }))
       go None b = (record p.counting { solving = true }, refl, record { written = []; cuts = ask_begun none_made })
       go (Some o) false = (record p.counting { solving = true }, output_sink seen o, refl, record { written = []; cuts = ask_begun none_made; wrote = wrote_none (output_format o) (output_sink seen o) })
       go (Some o) true = refl
 
   module _ (o u : ProofOutput W) (is : p.output ≡ Some o) (well : p.broken ≡ false) where
     was_open : Open (output_format o) p.counting (output_sink seen o) ≡ target_of seen p
-    was_open = sym (ap (λ x. target_in seen x p.broken p.counting) is ∙ ap (λ b. with_fault b (output_format o) p.counting (output_sink seen o)) well)
+    was_open = sym (ap (λ x. target_of_output seen x p.broken p.counting) is ∙ ap (λ b. open_or_broken b (output_format o) p.counting (output_sink seen o)) well)
 
     -- an unchanged output
     pub same_output : u ≡ o → record p { output = Some u } ≡ p
@@ -98,18 +98,18 @@ module _ {W L : Type 0} {G : Ghosts L} (seen : W → Writer) (p : Proof W L G) w
       target = subst (λ t. TargetFails t [] (Faulty (output_sink seen u).writer)) was_open ((output_sink seen u).writer, refl, record { written = []; counting = p.counting; cuts = none_made; breaks = b });
     }
 
-    module _ (step cut : Step) (keeps : KeepsWidth step) (d : Counting) (e : d ≡ counted step p.counting) (is_cut : cut ≡ narrowed d.bits step) where
+    module _ (step cut : Step) (keeps : KeepsWidth step) (d : Counting) (e : d ≡ counting_after step p.counting) (is_cut : cut ≡ narrowed d.bits step) where
       -- a step was written
-      pub carries_put : output_format u ≡ output_format o → SendsSteps (output_format o) (cut ∷ width_change p.counting.bits d.bits) (output_sink seen o) (output_sink seen u) →
-          TargetTakes (target_of seen p) (step ∷ []) (target_in seen (Some u) p.broken d)
-      carries_put same wrote = subst (λ b. TargetTakes (target_of seen p) (step ∷ []) (with_fault b (output_format u) d (output_sink seen u))) (sym well) carried
+      pub carries_put : output_format u ≡ output_format o → SinkReceivesSteps (output_format o) (cut ∷ width_change p.counting.bits d.bits) (output_sink seen o) (output_sink seen u) →
+          TargetReceives (target_of seen p) (step ∷ []) (target_of_output seen (Some u) p.broken d)
+      carries_put same wrote = subst (λ b. TargetReceives (target_of seen p) (step ∷ []) (open_or_broken b (output_format u) d (output_sink seen u))) (sym well) carried
         where
-          carried : TargetTakes (target_of seen p) (step ∷ []) (Open (output_format u) d (output_sink seen u))
-          carried = subst (λ f. TargetTakes (target_of seen p) (step ∷ []) (Open f d (output_sink seen u))) (sym same)
-              (subst (λ t. TargetTakes t (step ∷ []) (Open (output_format o) d (output_sink seen u))) was_open
-              (subst (λ x. TargetTakes (Open (output_format o) p.counting (output_sink seen o)) (step ∷ []) (Open (output_format o) x (output_sink seen u))) (sym e)
-              (carries_step (output_format o) p.counting (output_sink seen o) (output_sink seen u) step keeps (subst (λ x. SendsSteps (output_format o) (written_for p.counting.bits x.bits step) (output_sink seen o) (output_sink seen u)) e
-              (subst (λ x. SendsSteps (output_format o) (x ∷ width_change p.counting.bits d.bits) (output_sink seen o) (output_sink seen u)) is_cut wrote)))))
+          carried : TargetReceives (target_of seen p) (step ∷ []) (Open (output_format u) d (output_sink seen u))
+          carried = subst (λ f. TargetReceives (target_of seen p) (step ∷ []) (Open f d (output_sink seen u))) (sym same)
+              (subst (λ t. TargetReceives t (step ∷ []) (Open (output_format o) d (output_sink seen u))) was_open
+              (subst (λ x. TargetReceives (Open (output_format o) p.counting (output_sink seen o)) (step ∷ []) (Open (output_format o) x (output_sink seen u))) (sym e)
+              (carries_step (output_format o) p.counting (output_sink seen o) (output_sink seen u) step keeps (subst (λ x. SinkReceivesSteps (output_format o) (written_for p.counting.bits x.bits step) (output_sink seen o) (output_sink seen u)) e
+              (subst (λ x. SinkReceivesSteps (output_format o) (x ∷ width_change p.counting.bits d.bits) (output_sink seen o) (output_sink seen u)) is_cut wrote)))))
 
       -- a call failed while its text was written
       pub stops_put : WriterFails (output_sink seen o).writer (output_sink seen u).writer ((output_sink seen o).waiting ++ text_in (output_format o) (cut ∷ width_change p.counting.bits d.bits)) →
@@ -120,8 +120,8 @@ module _ {W L : Type 0} {G : Ghosts L} (seen : W → Writer) (p : Proof W L G) w
           (subst (λ x. WriterFails (output_sink seen o).writer (output_sink seen u).writer ((output_sink seen o).waiting ++ text_in (output_format o) (x ∷ width_change p.counting.bits d.bits))) is_cut b)))
 
     -- memory ran out before anything was written
-    pub carries_starved : output_format u ≡ output_format o → output_sink seen u ≡ output_sink seen o → TargetTakes (target_of seen p) [] (target_in seen (Some u) p.broken p.counting)
-    carries_starved same sent = subst (λ t. TargetTakes (target_of seen p) [] t) unchanged (carries_none (target_of seen p))
+    pub carries_starved : output_format u ≡ output_format o → output_sink seen u ≡ output_sink seen o → TargetReceives (target_of seen p) [] (target_of_output seen (Some u) p.broken p.counting)
+    carries_starved same sent = subst (λ t. TargetReceives (target_of seen p) [] t) unchanged (carries_none (target_of seen p))
       where
-        unchanged : target_of seen p ≡ target_in seen (Some u) p.broken p.counting
-        unchanged = ap (λ x. target_in seen x p.broken p.counting) is ∙ ap (λ f. with_fault p.broken f p.counting (output_sink seen o)) (sym same) ∙ ap (λ s. with_fault p.broken (output_format u) p.counting s) (sym sent)
+        unchanged : target_of seen p ≡ target_of_output seen (Some u) p.broken p.counting
+        unchanged = ap (λ x. target_of_output seen x p.broken p.counting) is ∙ ap (λ f. open_or_broken p.broken f p.counting (output_sink seen o)) (sym same) ∙ ap (λ s. open_or_broken p.broken (output_format u) p.counting s) (sym sent)

@@ -6,10 +6,10 @@ use Rattle.sat_base.specs.values.Literals.{variable}
 use Rattle.sat_base.specs.values.Hashes.{hash_of}
 use Rattle.sat_checker.specs.LiteralSets.{mentions, canonical, same_literals}
 use Rattle.sat_checker.specs.SortedSets.{NoRepeats}
-use Rattle.sat_checker.specs.Contents.{same_side, more_if, less_if}
+use Rattle.sat_checker.specs.Contents.{same_flag, plus_one_if, minus_one_if}
 use Rattle.sat_solver.specs.session.Session.{Session, IsLive, hash_in}
 use Rattle.sat_solver.proofs.lemmas.session.Changes.{with_live, without_live, session_with_name}
-use Rattle.sat_solver.specs.session.LiveClauses.{LiveClause, live_count_of, IsIn, with_var, mapped, AreMapped, AreOf}
+use Rattle.sat_solver.specs.session.LiveClauses.{LiveClause, live_count_of, IsIn, with_var, mapped, AreMapped, AreLiveClausesOf}
 use Rattle.sat_solver.proofs.lemmas.session.Lists.{count_between, in_counts, solver_hash}
 use Rattle.sat_solver.proofs.lemmas.session.Mapped.{once_mapped}
 
@@ -40,10 +40,10 @@ in_mapped f (d ∷ ds) c h = elim h [ inl e ↦ inl (ap f e) | inr k ↦ inr (in
 
 -- the count with one more clause
 counts_with : (global : ℕ → ℕ) (xs ys : List LiveClause) (c : LiveClause) (r : Bool) (set : List ℕ)
-    → live_count_of (map (mapped global) (xs ++ c ∷ ys)) r set ≡ more_if (same_side c.redundant r && same_literals (canonical (map (with_var global) c.literals)) set) (live_count_of (map (mapped global) (xs ++ ys)) r set)
+    → live_count_of (map (mapped global) (xs ++ c ∷ ys)) r set ≡ plus_one_if (same_flag c.redundant r && same_literals (canonical (map (with_var global) c.literals)) set) (live_count_of (map (mapped global) (xs ++ ys)) r set)
 counts_with global xs ys c r set =
     ap (λ zs. live_count_of zs r set) (map_between (mapped global) xs ys c) ∙ count_between (map (mapped global) xs) (map (mapped global) ys) (mapped global c) r set
-    ∙ ap (λ zs. more_if (same_side c.redundant r && same_literals (canonical (map (with_var global) c.literals)) set) (live_count_of zs r set)) (sym (map_both (mapped global) xs ys))
+    ∙ ap (λ zs. plus_one_if (same_flag c.redundant r && same_literals (canonical (map (with_var global) c.literals)) set) (live_count_of zs r set)) (sym (map_both (mapped global) xs ys))
 
 -- A live clause of the search is live in the session, and the search computes the hash that it has there.
 pub record Usable (s : Session) (global : ℕ → ℕ) (c : LiveClause) : Type 0 where
@@ -56,7 +56,7 @@ either_positive true s set h = omega arith
 either_positive false s set h = omega arith
 
 -- a clause of the search is usable in the session
-pub usable : (s : Session) (global : ℕ → ℕ) (cs : List LiveClause) (c : LiveClause) → AreOf s global cs → IsIn c cs → Usable s global c
+pub usable : (s : Session) (global : ℕ → ℕ) (cs : List LiveClause) (c : LiveClause) → AreLiveClausesOf s global cs → IsIn c cs → Usable s global c
 usable s global cs c h k =
     let w : List ℕ = map (with_var global) c.literals in
     let n : 0 < s.live c.redundant (canonical w) = subst (λ x. 0 < x) (sym (h.counts c.redundant (canonical w))) (in_counts (map (mapped global) cs) (mapped global c) (in_mapped (mapped global) cs c k)) in
@@ -66,29 +66,29 @@ usable s global cs c h k =
     }
 
 -- a clause is added
-pub comes_in : (s : Session) (global : ℕ → ℕ) (xs ys : List LiveClause) (c : LiveClause) → AreOf s global (xs ++ ys) → AreMapped global s.solver_names c.literals → NoRepeats c.literals
-    → AreOf (with_live c.redundant (canonical (map (with_var global) c.literals)) s) global (xs ++ c ∷ ys)
+pub comes_in : (s : Session) (global : ℕ → ℕ) (xs ys : List LiveClause) (c : LiveClause) → AreLiveClausesOf s global (xs ++ ys) → AreMapped global s.solver_names c.literals → NoRepeats c.literals
+    → AreLiveClausesOf (with_live c.redundant (canonical (map (with_var global) c.literals)) s) global (xs ++ c ∷ ys)
 comes_in s global xs ys c h n o = record {
   named = λ d k. elim (in_between xs ys c d k) [ inl e ↦ subst (λ x. AreMapped global s.solver_names x.literals) (sym e) n | inr j ↦ h.named d j ];
   once = λ d k. elim (in_between xs ys c d k) [ inl e ↦ subst (λ x. NoRepeats x.literals) (sym e) o | inr j ↦ h.once d j ];
   counts = λ r set.
-      ap (more_if (same_side c.redundant r && same_literals (canonical (map (with_var global) c.literals)) set)) (h.counts r set) ∙ sym (counts_with global xs ys c r set);
+      ap (plus_one_if (same_flag c.redundant r && same_literals (canonical (map (with_var global) c.literals)) set)) (h.counts r set) ∙ sym (counts_with global xs ys c r set);
 }
 
 -- adding 1 and subtracting 1 leaves a count unchanged
-less_more : (b : Bool) (n : ℕ) → less_if b (more_if b n) ≡ n
+less_more : (b : Bool) (n : ℕ) → minus_one_if b (plus_one_if b n) ≡ n
 less_more true n = omega arith
 less_more false n = refl
 
 -- a clause is deleted
-pub goes : (s : Session) (global : ℕ → ℕ) (xs ys : List LiveClause) (c : LiveClause) → AreOf s global (xs ++ c ∷ ys)
-    → AreOf (without_live c.redundant (canonical (map (with_var global) c.literals)) s) global (xs ++ ys)
+pub goes : (s : Session) (global : ℕ → ℕ) (xs ys : List LiveClause) (c : LiveClause) → AreLiveClausesOf s global (xs ++ c ∷ ys)
+    → AreLiveClausesOf (without_live c.redundant (canonical (map (with_var global) c.literals)) s) global (xs ++ ys)
 goes s global xs ys c h = record {
   named = λ d k. h.named d (in_longer xs ys c d k);
   once = λ d k. h.once d (in_longer xs ys c d k);
   counts = λ r set.
-      ap (less_if (same_side c.redundant r && same_literals (canonical (map (with_var global) c.literals)) set)) (h.counts r set ∙ counts_with global xs ys c r set)
-      ∙ less_more (same_side c.redundant r && same_literals (canonical (map (with_var global) c.literals)) set) (live_count_of (map (mapped global) (xs ++ ys)) r set);
+      ap (minus_one_if (same_flag c.redundant r && same_literals (canonical (map (with_var global) c.literals)) set)) (h.counts r set ∙ counts_with global xs ys c r set)
+      ∙ less_more (same_flag c.redundant r && same_literals (canonical (map (with_var global) c.literals)) set) (live_count_of (map (mapped global) (xs ++ ys)) r set);
 }
 
 -- SOLVER NAMES ARE ADDED AND REMOVED
@@ -112,7 +112,7 @@ renamed : (names : ℕ → Option ℕ) (v w : ℕ) (name o : Option ℕ) → w �
 renamed names v w name o n e = ap (λ b. cond b name (names w)) (ne_eqb w v n) ∙ e
 
 -- An index that is in no clause loses its proof variable.
-pub loses_name : (s : Session) (f : ℕ → ℕ) (v x : ℕ) (cs : List LiveClause) → AreOf s f cs → s.solver_names v ≡ Some x → ((c : LiveClause) → IsIn c cs → mentions c.literals x ≡ false) → AreOf (session_with_name v None s) f cs
+pub loses_name : (s : Session) (f : ℕ → ℕ) (v x : ℕ) (cs : List LiveClause) → AreLiveClausesOf s f cs → s.solver_names v ≡ Some x → ((c : LiveClause) → IsIn c cs → mentions c.literals x ≡ false) → AreLiveClausesOf (session_with_name v None s) f cs
 loses_name s f v x cs h its unused = record {
   named = λ c k. both_of (λ l. s.solver_names (f (variable l)) ≡ Some (variable l)) (λ l. variable l ≢ x) (λ l. cond (eqb (f (variable l)) v) None (s.solver_names (f (variable l))) ≡ Some (variable l)) c.literals
       (λ l p q. renamed s.solver_names v (f (variable l)) None (Some (variable l)) (λ e. q (some_same (variable l) x (sym p ∙ ap s.solver_names e ∙ its))) p)
@@ -122,7 +122,7 @@ loses_name s f v x cs h its unused = record {
 }
 
 -- the match is preserved if live clauses and solver names are unchanged
-pub still_of : (s t : Session) (f : ℕ → ℕ) (cs : List LiveClause) → ((r : Bool) (set : List ℕ) → t.live r set ≡ s.live r set) → t.solver_names ≡ s.solver_names → AreOf s f cs → AreOf t f cs
+pub still_of : (s t : Session) (f : ℕ → ℕ) (cs : List LiveClause) → ((r : Bool) (set : List ℕ) → t.live r set ≡ s.live r set) → t.solver_names ≡ s.solver_names → AreLiveClausesOf s f cs → AreLiveClausesOf t f cs
 still_of s t f cs e n h = record {
   named = λ c k. subst (λ names. AreMapped f names c.literals) (sym n) (h.named c k);
   once = h.once;

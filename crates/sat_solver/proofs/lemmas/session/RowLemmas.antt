@@ -3,11 +3,11 @@ use Rattle.std.proofs.Common.{ℕ, ◌+◌, ◌<◌, ◌≡◌, ◌≢◌, Bool,
 use Rattle.std.proofs.lemmas.Bool.{or_cases, both_ways, true≢false, eqb-true}
 use Rattle.sat_base.specs.values.Literals.{negated}
 use Rattle.sat_base.specs.steps.Steps.{SolverVarName, UserVarName, DeleteVar, AddClause, AtClause, UnitClauses, ChangeHashBits, Assumptions}
-use Rattle.sat_checker.specs.Stored.{Variable, Sample, Hide, unknown}
+use Rattle.sat_checker.specs.Stored.{Variable, Sample, Hide, initial_variable}
 use Rattle.sat_checker.specs.LiteralSets.{is_among, mentions, canonical}
 use Rattle.sat_checker.specs.SortedSets.{NoRepeats}
 use Rattle.sat_solver.specs.session.Session.{Session, IsLive, AreAllowedSteps, session_after, by_clauses}
-use Rattle.sat_solver.specs.session.SessionRows.{four, CollidingIsAllowed, HiddenIsAllowed}
+use Rattle.sat_solver.specs.session.SessionRows.{four_clauses, CollidingIsAllowed, HiddenIsAllowed}
 
 -- the mode Sample isn't Hide
 not_hidden : Sample ≢ Hide
@@ -36,14 +36,14 @@ free w = go (eqb 0 w) (eqb w 0)
     named : Variable
     named = record { known = true; mode = Sample; name = Some 0 }
 
-    go : (a b : Bool) → (cond (a || false) (record (cond b named unknown) { known = true }) (cond b named unknown)).name ≢ Some 1
+    go : (a b : Bool) → (cond (a || false) (record (cond b named initial_variable) { known = true }) (cond b named initial_variable)).name ≢ Some 1
     go true true e = other_name 0 1 (omega arith) e
     go true false e = no_name 1 e
     go false true e = other_name 0 1 (omega arith) e
     go false false e = no_name 1 e
 
 -- the names and the four clauses may be written
-four_may : AreAllowedSteps four
+four_may : AreAllowedSteps four_clauses
 four_may = ((
   (
     (
@@ -67,9 +67,9 @@ once s c n e = record { once = n; counted = omega (arith, e) }
 -- other two.
 pub colliding_may : CollidingIsAllowed
 colliding_may =
-    let learned : Session = session_after (ChangeHashBits 8 ∷ Assumptions [] ∷ four) in
-    let proved : Session = session_after (AtClause false (0 ∷ []) (0x44 ∷ 0xe6 ∷ []) ∷ ChangeHashBits 8 ∷ Assumptions [] ∷ four) in
-    let ended : Session = session_after (UnitClauses ((2, 0xe6) ∷ []) ∷ AtClause false (0 ∷ []) (0x44 ∷ 0xe6 ∷ []) ∷ ChangeHashBits 8 ∷ Assumptions [] ∷ four) in (
+    let learned : Session = session_after (ChangeHashBits 8 ∷ Assumptions [] ∷ four_clauses) in
+    let proved : Session = session_after (AtClause false (0 ∷ []) (0x44 ∷ 0xe6 ∷ []) ∷ ChangeHashBits 8 ∷ Assumptions [] ∷ four_clauses) in
+    let ended : Session = session_after (UnitClauses ((2, 0xe6) ∷ []) ∷ AtClause false (0 ∷ []) (0x44 ∷ 0xe6 ∷ []) ∷ ChangeHashBits 8 ∷ Assumptions [] ∷ four_clauses) in (
       (
         (
           (
@@ -104,7 +104,7 @@ no_zero w = go (eqb w 0) (eqb 0 w) refl refl
     gone : Variable
     gone = record { known = true; mode = Hide; name = None }
 
-    go : (b a : Bool) → eqb w 0 ≡ b → eqb 0 w ≡ a → (cond b gone (cond (a || false) (record (cond (a || false) (record (cond b named unknown) { known = true }) (cond b named unknown)) { known = true }) (cond (a || false) (record (cond b named unknown) { known = true }) (cond b named unknown)))).name ≢ Some 0
+    go : (b a : Bool) → eqb w 0 ≡ b → eqb 0 w ≡ a → (cond b gone (cond (a || false) (record (cond (a || false) (record (cond b named initial_variable) { known = true }) (cond b named initial_variable)) { known = true }) (cond (a || false) (record (cond b named initial_variable) { known = true }) (cond b named initial_variable)))).name ≢ Some 0
     go true a x y e = no_name 0 e
     go false true x y e = no_name 0 e
     go false false x y e = no_name 0 e

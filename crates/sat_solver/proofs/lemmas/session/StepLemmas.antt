@@ -6,10 +6,10 @@ use Rattle.sat_checker.specs.Storing.{with_conflict_settled}
 use Rattle.sat_checker.specs.Accepts.{Accepts, AcceptsAll, effect, stored_after, ready_after}
 use Rattle.sat_checker.specs.Contents.{count_in}
 use Rattle.sat_checker.proofs.lemmas.invariants.Counted.{TidyClauses, tidy_effect, tidy_settled}
-use Rattle.sat_checker.proofs.lemmas.meaning.Orderly.{Orderly, orderly_settled}
+use Rattle.sat_checker.proofs.lemmas.meaning.Orderly.{OrderInvariant, orderly_settled}
 use Rattle.sat_checker.proofs.lemmas.meaning.OrderlySteps.{orderly_effect, orderly}
 use Rattle.sat_solver.specs.session.Session.{Session, IsAllowedStep, AreAllowedSteps, after, session_after}
-use Rattle.sat_solver.specs.session.Agrees.{MatchesStored}
+use Rattle.sat_solver.specs.session.MatchesStored.{MatchesStored}
 use Rattle.sat_solver.specs.session.Promises.{AllowedIsAccepted, SessionsAreAccepted}
 use Rattle.sat_solver.proofs.lemmas.session.Views.{view, view_after, view_settled}
 use Rattle.sat_solver.proofs.lemmas.session.LastLemmas.{LastIs, no_last, last_kept, last_settled}
@@ -55,7 +55,7 @@ pub accepts_fit : (s : Session) (f : Stored) (step : Step) → Fits s f → IsAl
 accepts_fit s f step h m = accepts_view step s.last f h.tidy h.last (subst (λ x. IsAllowedStep x step) (sym h.same) m)
 
 -- an accepted step preserves `Fits`
-pub fits_after : (s : Session) (f : Stored) (step : Step) → Fits s f → Orderly f → Accepts f step → Fits (after step s) (effect step f)
+pub fits_after : (s : Session) (f : Stored) (step : Step) → Fits s f → OrderInvariant f → Accepts f step → Fits (after step s) (effect step f)
 fits_after s f step h o a = record {
   same = view_after s.last step f h.tidy.once ∙ ap (after step) h.same;
   tidy = tidy_effect step f h.tidy;

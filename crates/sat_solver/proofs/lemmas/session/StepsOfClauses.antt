@@ -6,9 +6,9 @@ use Rattle.sat_base.specs.steps.Steps.{AtClause, UnitClauses}
 use Rattle.sat_checker.specs.LiteralSets.{is_among, is_tautology, with_literal, canonical}
 use Rattle.sat_checker.specs.SortedSets.{NoRepeats}
 use Rattle.sat_checker.proofs.lemmas.sets.Canonical.{canonical_among}
-use Rattle.sat_solver.specs.session.Session.{Session, with_fact, after}
+use Rattle.sat_solver.specs.session.Session.{Session, with_unit_added, after}
 use Rattle.sat_solver.proofs.lemmas.session.Changes.{with_live, with_facts, with_sorted, with_live_clause, knowing_literals, session_if}
-use Rattle.sat_solver.specs.session.LiveClauses.{LiveClause, with_var, AreMapped, AreOf}
+use Rattle.sat_solver.specs.session.LiveClauses.{LiveClause, with_var, AreMapped, AreLiveClausesOf}
 use Rattle.sat_solver.proofs.lemmas.session.Mapped.{once_mapped}
 use Rattle.sat_solver.proofs.lemmas.session.Represented.{comes_in, still_of}
 
@@ -46,7 +46,7 @@ pub record Stays (s t : Session) : Type 0 where
   pub names : t.solver_names ≡ s.solver_names
 
 -- a unit changes neither live clauses nor solver names
-pub fact_stays : (l : ℕ) (s : Session) → Stays s (with_fact l s)
+pub fact_stays : (l : ℕ) (s : Session) → Stays s (with_unit_added l s)
 fact_stays l s = go (s.units l) (s.units (negated l))
   where
     go : (b d : Bool) → Stays s (session_if b s (session_if d (record s { unsat = true }) (record s { units = λ m. eqb l m || s.units m })))
@@ -57,10 +57,10 @@ fact_stays l s = go (s.units l) (s.units (negated l))
 -- nor do several units
 pub facts_stay : (ls : List ℕ) (s : Session) → Stays s (with_facts ls s)
 facts_stay [] s = record { live = refl; names = refl }
-facts_stay (l ∷ ls) s = let a = fact_stays l s in let b = facts_stay ls (with_fact l s) in record { live = b.live ∙ a.live; names = b.names ∙ a.names }
+facts_stay (l ∷ ls) s = let a = fact_stays l s in let b = facts_stay ls (with_unit_added l s) in record { live = b.live ∙ a.live; names = b.names ∙ a.names }
 
 -- the list still matches if live clauses and solver names are unchanged
-pub of_staying : (s t : Session) (global : ℕ → ℕ) (cs : List LiveClause) → Stays s t → AreOf s global cs → AreOf t global cs
+pub of_staying : (s t : Session) (global : ℕ → ℕ) (cs : List LiveClause) → Stays s t → AreLiveClausesOf s global cs → AreLiveClausesOf t global cs
 of_staying s t global cs k h = still_of s t global cs (λ r set. ap (λ f. f r set) k.live) k.names h
 
 -- a sorted set of two or more literals is added to the live clauses
@@ -84,8 +84,8 @@ clause_long r c s n l t =
 
 module _ (s : Session) (global : ℕ → ℕ) where
   -- a derived clause is added, redundant or not
-  pub derived_comes : (xs ys : List LiveClause) (c : LiveClause) (hashes : List ℕ) → AreOf s global (xs ++ ys) → AreMapped global s.solver_names c.literals → NoRepeats c.literals → 1 < length c.literals → is_tautology (map (with_var global) c.literals) ≡ false
-      → AreOf (after (AtClause c.redundant (map (with_var global) c.literals) hashes) s) global (xs ++ c ∷ ys)
+  pub derived_comes : (xs ys : List LiveClause) (c : LiveClause) (hashes : List ℕ) → AreLiveClausesOf s global (xs ++ ys) → AreMapped global s.solver_names c.literals → NoRepeats c.literals → 1 < length c.literals → is_tautology (map (with_var global) c.literals) ≡ false
+      → AreLiveClausesOf (after (AtClause c.redundant (map (with_var global) c.literals) hashes) s) global (xs ++ c ∷ ys)
   derived_comes xs ys c hashes h n o l t =
       let w : List ℕ = map (with_var global) c.literals in
       let long : 1 < length w = (let e : length w ≡ length c.literals = length_mapped (with_var global) c.literals in omega arith) in
@@ -93,13 +93,13 @@ module _ (s : Session) (global : ℕ → ℕ) where
       still_of (with_live c.redundant (canonical w) s) (after (AtClause c.redundant w hashes) s) global (xs ++ c ∷ ys) (λ r set. ap (λ x. x.live r set) same) (ap (λ x. x.solver_names) same) (comes_in s global xs ys c h n o)
 
   -- units leave the list unchanged
-  pub units_leave : (cs : List LiveClause) (us : List (ℕ × ℕ)) → AreOf s global cs → AreOf (after (UnitClauses us) s) global cs
+  pub units_leave : (cs : List LiveClause) (us : List (ℕ × ℕ)) → AreLiveClausesOf s global cs → AreLiveClausesOf (after (UnitClauses us) s) global cs
   units_leave cs us h =
       let ls : List ℕ = map (λ u. u.0) us in let k = facts_stay ls (knowing_literals ls s) in
       of_staying s (after (UnitClauses us) s) global cs (record { live = k.live; names = k.names }) h
 
   -- derived clauses of at most one literal leave it unchanged, too
-  pub short_leaves : (cs : List LiveClause) (r : Bool) (c hashes : List ℕ) → NoRepeats c → length c < 2 → is_tautology c ≡ false → AreOf s global cs → AreOf (after (AtClause r c hashes) s) global cs
+  pub short_leaves : (cs : List LiveClause) (r : Bool) (c hashes : List ℕ) → NoRepeats c → length c < 2 → is_tautology c ≡ false → AreLiveClausesOf s global cs → AreLiveClausesOf (after (AtClause r c hashes) s) global cs
   short_leaves cs r c hashes n l t h =
       let e : length (canonical c) ≡ length c = length_sorted c n in
       let k = sorted_short r (canonical c) (knowing_literals c s) (omega arith) in
@@ -107,8 +107,8 @@ module _ (s : Session) (global : ℕ → ℕ) where
       of_staying s (after (AtClause r c hashes) s) global cs (record { live = ap (λ x. x.live) same ∙ k.live; names = ap (λ x. x.solver_names) same ∙ k.names }) h
 
   -- the step may have the literals in another order than the list
-  pub derived_comes_as : (xs ys : List LiveClause) (c : LiveClause) (d hashes : List ℕ) → AreOf s global (xs ++ ys) → AreMapped global s.solver_names c.literals → NoRepeats c.literals → NoRepeats d → 1 < length d → is_tautology d ≡ false
-      → canonical d ≡ canonical (map (with_var global) c.literals) → AreOf (after (AtClause c.redundant d hashes) s) global (xs ++ c ∷ ys)
+  pub derived_comes_as : (xs ys : List LiveClause) (c : LiveClause) (d hashes : List ℕ) → AreLiveClausesOf s global (xs ++ ys) → AreMapped global s.solver_names c.literals → NoRepeats c.literals → NoRepeats d → 1 < length d → is_tautology d ≡ false
+      → canonical d ≡ canonical (map (with_var global) c.literals) → AreLiveClausesOf (after (AtClause c.redundant d hashes) s) global (xs ++ c ∷ ys)
   derived_comes_as xs ys c d hashes h n o m l t e =
       let w : List ℕ = map (with_var global) c.literals in
       let same : with_live_clause c.redundant d (knowing_literals d s) ≡ with_live c.redundant (canonical d) (knowing_literals d s) = clause_long c.redundant d (knowing_literals d s) m l t in

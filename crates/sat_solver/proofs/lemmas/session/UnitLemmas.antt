@@ -5,9 +5,9 @@ use Rattle.sat_base.specs.values.Literals.{variable, negated}
 use Rattle.sat_base.specs.steps.Steps.{Redundant, Step, SolverVarName, UserVarName, DeleteVar, AddClause, AtClause, UnitClauses, DeleteClause}
 use Rattle.sat_checker.specs.LiteralSets.{is_tautology, canonical}
 use Rattle.sat_parts.proofs.lemmas.prop.StateLemmas.{negated_twice}
-use Rattle.sat_solver.specs.session.Session.{Session, with_fact, after, session_after}
+use Rattle.sat_solver.specs.session.Session.{Session, with_unit_added, after, session_after}
 use Rattle.sat_solver.proofs.lemmas.session.Changes.{with_facts, with_sorted, with_live_clause, knowing_literals, session_if}
-use Rattle.sat_solver.specs.session.Advancing.{AreConsistent}
+use Rattle.sat_solver.specs.session.Empowering.{AreConsistent}
 
 negated_other : (l : ℕ) → negated l ≢ l
 negated_other l e = omega arith
@@ -28,7 +28,7 @@ more units l new other h m t = false_from_ne_true (eqb l (negated m) || units (n
   ]
 ])
 
-fact_consistent : (l : ℕ) (s : Session) → AreConsistent s.units → AreConsistent (with_fact l s).units
+fact_consistent : (l : ℕ) (s : Session) → AreConsistent s.units → AreConsistent (with_unit_added l s).units
 fact_consistent l s h = go (s.units l) (s.units (negated l)) refl refl
   where
     go : (b d : Bool) → s.units l ≡ b → s.units (negated l) ≡ d → AreConsistent (session_if b s (session_if d (record s { unsat = true }) (record s { units = λ m. eqb l m || s.units m }))).units
@@ -38,7 +38,7 @@ fact_consistent l s h = go (s.units l) (s.units (negated l)) refl refl
 
 facts_consistent : (ls : List ℕ) (s : Session) → AreConsistent s.units → AreConsistent (with_facts ls s).units
 facts_consistent [] s h = h
-facts_consistent (l ∷ ls) s h = facts_consistent ls (with_fact l s) (fact_consistent l s h)
+facts_consistent (l ∷ ls) s h = facts_consistent ls (with_unit_added l s) (fact_consistent l s h)
 
 sorted_consistent : (r : Bool) (set : List ℕ) (s : Session) → AreConsistent s.units → AreConsistent (with_sorted r set s).units
 sorted_consistent r [] s h = h

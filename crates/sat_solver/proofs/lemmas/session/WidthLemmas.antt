@@ -4,7 +4,7 @@ use Rattle.std.specs.Prelude.{if◌then◌else◌}
 use Rattle.sat_base.specs.values.Literals.{negated}
 use Rattle.sat_base.specs.steps.Steps.{Redundant, Step, SolverVarName, UserVarName, AddClause, AtClause, UnitClauses, DeleteClause, ChangeHashBits}
 use Rattle.sat_checker.specs.LiteralSets.{is_tautology, canonical}
-use Rattle.sat_checker.specs.Contents.{ProofState, unit_more, units_more, set_more, clause_more, literals_known, state_after}
+use Rattle.sat_checker.specs.Contents.{ProofState, with_unit_in_state, with_units_in_state, with_set_in_state, with_clause_in_state, with_literals_known_in_state, state_after}
 use Rattle.sat_solver.specs.proof.Widths.{kept_bits, narrowed, KeepsWidth}
 
 -- the state at another width
@@ -15,33 +15,33 @@ either_wide : (b : Bool) (x : ℕ) (p q r s : ProofState) → p ≡ wide x r →
 either_wide true x p q r s e f = e
 either_wide false x p q r s e f = f
 
-pub fact_wide : (l x : ℕ) (c : ProofState) → unit_more l (wide x c) ≡ wide x (unit_more l c)
+pub fact_wide : (l x : ℕ) (c : ProofState) → with_unit_in_state l (wide x c) ≡ wide x (with_unit_in_state l c)
 fact_wide l x c = either_wide (c.units l) x _ _ c _ refl (either_wide (c.units (negated l)) x _ _ (record c { unsat = true }) _ refl refl)
 
-facts_wide : (ls : List ℕ) (x : ℕ) (c : ProofState) → units_more ls (wide x c) ≡ wide x (units_more ls c)
+facts_wide : (ls : List ℕ) (x : ℕ) (c : ProofState) → with_units_in_state ls (wide x c) ≡ wide x (with_units_in_state ls c)
 facts_wide [] x c = refl
-facts_wide (l ∷ ls) x c = ap (units_more ls) (fact_wide l x c) ∙ facts_wide ls x (unit_more l c)
+facts_wide (l ∷ ls) x c = ap (with_units_in_state ls) (fact_wide l x c) ∙ facts_wide ls x (with_unit_in_state l c)
 
-set_wide : (r : Bool) (set : List ℕ) (x : ℕ) (c : ProofState) → set_more r set (wide x c) ≡ wide x (set_more r set c)
+set_wide : (r : Bool) (set : List ℕ) (x : ℕ) (c : ProofState) → with_set_in_state r set (wide x c) ≡ wide x (with_set_in_state r set c)
 set_wide r [] x c = refl
 set_wide r (l ∷ []) x c = fact_wide l x c
 set_wide r (l ∷ m ∷ ls) x c = refl
 
-clause_wide : (r : Bool) (clause : List ℕ) (x : ℕ) (c : ProofState) → clause_more r clause (wide x c) ≡ wide x (clause_more r clause c)
+clause_wide : (r : Bool) (clause : List ℕ) (x : ℕ) (c : ProofState) → with_clause_in_state r clause (wide x c) ≡ wide x (with_clause_in_state r clause c)
 clause_wide r clause x c = either_wide (is_tautology clause) x _ _ c _ refl (set_wide r (canonical clause) x c)
 
 step_wide : (step : Step) (x : ℕ) (c : ProofState) → KeepsWidth step → state_after step (wide x c) ≡ wide x (state_after step c)
 step_wide (SolverVarName v None) x c k = refl
 step_wide (UserVarName v (Some name)) x c k = refl
-step_wide (AddClause clause) x c k = either_wide c.unsat x _ _ c _ refl (clause_wide false clause x (literals_known clause c))
-step_wide (AtClause r clause hashes) x c k = clause_wide r clause x (literals_known clause c)
-step_wide (UnitClauses us) x c k = facts_wide (map (λ (u : ℕ × ℕ). u.0) us) x (literals_known (map (λ (u : ℕ × ℕ). u.0) us) c)
+step_wide (AddClause clause) x c k = either_wide c.unsat x _ _ c _ refl (clause_wide false clause x (with_literals_known_in_state clause c))
+step_wide (AtClause r clause hashes) x c k = clause_wide r clause x (with_literals_known_in_state clause c)
+step_wide (UnitClauses us) x c k = facts_wide (map (λ (u : ℕ × ℕ). u.0) us) x (with_literals_known_in_state (map (λ (u : ℕ × ℕ). u.0) us) c)
 step_wide (DeleteClause clause Redundant) x c k = refl
 step_wide (ChangeHashBits bits) x c k = absurd k
 step_wide step x c k = refl
 
 -- these changes preserve the width
-pub fact_width : (l : ℕ) (c : ProofState) → (unit_more l c).width ≡ c.width
+pub fact_width : (l : ℕ) (c : ProofState) → (with_unit_in_state l c).width ≡ c.width
 fact_width l c = ap (λ (d : ProofState). d.width) (fact_wide l c.width c)
 
 pub step_width : (step : Step) (c : ProofState) → KeepsWidth step → (state_after step c).width ≡ c.width
@@ -51,7 +51,7 @@ step_width step c k = ap (λ (d : ProofState). d.width) (step_wide step c.width 
 narrowed_same : (w : ℕ) (step : Step) (c : ProofState) → state_after (narrowed w step) c ≡ state_after step c
 narrowed_same w (SolverVarName v None) c = refl
 narrowed_same w (UserVarName v (Some name)) c = refl
-narrowed_same w (UnitClauses us) c = ap (λ (ls : List ℕ). units_more ls (literals_known ls c)) (firsts us)
+narrowed_same w (UnitClauses us) c = ap (λ (ls : List ℕ). with_units_in_state ls (with_literals_known_in_state ls c)) (firsts us)
   where
     firsts : (us : List (ℕ × ℕ)) → map (λ (u : ℕ × ℕ). u.0) (map (λ (u : ℕ × ℕ). (u.0, kept_bits w u.1)) us) ≡ map (λ (u : ℕ × ℕ). u.0) us
     firsts [] = refl

@@ -3,7 +3,7 @@ use Rattle.std.proofs.Common.{ℕ, ◌≤◌, ◌<◌, ◌≡◌, ◌∙◌, Boo
 use Rattle.std.proofs.lemmas.Bool.{leb-true, true≢false}
 use Rattle.std.specs.Prelude.{nat_le, unwrap_or}
 use Rattle.sat_checker.specs.declared.processing.ProofProcessor.{Ghosts}
-use Rattle.sat_solver.specs.Configs.{in_range, is_decay, passes, updated}
+use Rattle.sat_solver.specs.Configs.{is_update_in_range, is_decay, is_none_or, updated}
 use Rattle.sat_solver.specs.declared.config.SolverConfig.{SolverConfig}
 use Rattle.sat_solver.specs.declared.config.SolverConfigUpdate.{SolverConfigUpdate}
 use Rattle.sat_solver.specs.declared.variables.Variables.{Variables}
@@ -12,43 +12,43 @@ use Rattle.sat_solver.specs.declared.context.Context.{Context}
 use Rattle.sat_solver.specs.declared.context.Search.{Search}
 use Rattle.sat_solver.specs.proof.ProofView.{has_missed_step, session_of, steps_of}
 use Rattle.sat_solver.specs.variables.Calls.{HasScriptState, NamesInvariant}
-use Rattle.sat_solver.specs.clause.Activity.{AreDecays}
+use Rattle.sat_solver.specs.clause.Activity.{DecaysAreInRange}
 use Rattle.sat_solver.specs.cdcl.Iterations.{IsComplete}
 use Rattle.sat_solver.specs.declared.state.SatState.{SatState}
 use Rattle.sat_solver.specs.declared.state.SatState.TheVariants as states
 use Rattle.sat_solver.specs.solver.Configuring.{SetsDecays, PassesToSearch}
-use Rattle.sat_solver.specs.solver.Whole.{SolverPartsInvariant, HoldsInState, AskGoesOn, HasCore}
+use Rattle.sat_solver.specs.solver.Whole.{SolverPartsInvariant, HoldsInState, SearchCanContinue, HasCore}
 use Rattle.sat_solver.proofs.lemmas.solver.ReportingLemmas.{shares_moved}
 
 and_both : (a b : Bool) → (a && b) ≡ true → (a ≡ true) × (b ≡ true)
 and_both true b h = (refl, h)
 and_both false b h = absurd (true≢false (sym h))
 
-kept_decay : (o : Option ℕ) (n : ℕ) → passes is_decay o ≡ true → 500 ≤ n → n ≤ 999 → (500 ≤ unwrap_or o n) × (unwrap_or o n ≤ 999)
+kept_decay : (o : Option ℕ) (n : ℕ) → is_none_or is_decay o ≡ true → 500 ≤ n → n ≤ 999 → (500 ≤ unwrap_or o n) × (unwrap_or o n ≤ 999)
 kept_decay None n h low high = (low, high)
 kept_decay (Some k) n h low high = (let p = and_both (nat_le 500 k) (nat_le k 999) h in (leb-true 500 k p.0, leb-true k 999 p.1))
 
-pub kept_count : (o : Option ℕ) (n : ℕ) → passes (nat_le 1) o ≡ true → 0 < n → 0 < unwrap_or o n
+pub kept_count : (o : Option ℕ) (n : ℕ) → is_none_or (nat_le 1) o ≡ true → 0 < n → 0 < unwrap_or o n
 kept_count None n h low = low
 kept_count (Some k) n h low = leb-true 1 k h
 
 record Parts (u : SolverConfigUpdate) : Type 0 where
-  vsids : passes is_decay u.vsids_decay ≡ true
-  clauses : passes is_decay u.clause_activity_decay ≡ true
-  locals : passes (nat_le 1) u.reduce_locals_interval ≡ true
-  mids : passes (nat_le 1) u.reduce_mids_interval ≡ true
-  scale : passes (nat_le 1) u.luby_restart_interval_scale ≡ true
+  vsids : is_none_or is_decay u.vsids_decay ≡ true
+  clauses : is_none_or is_decay u.clause_activity_decay ≡ true
+  locals : is_none_or (nat_le 1) u.reduce_locals_interval ≡ true
+  mids : is_none_or (nat_le 1) u.reduce_mids_interval ≡ true
+  scale : is_none_or (nat_le 1) u.luby_restart_interval_scale ≡ true
 
-parts_of : (u : SolverConfigUpdate) → in_range u ≡ true → Parts u
+parts_of : (u : SolverConfigUpdate) → is_update_in_range u ≡ true → Parts u
 parts_of u h =
-    let a = and_both (passes is_decay u.vsids_decay) (passes is_decay u.clause_activity_decay && (passes (nat_le 1) u.reduce_locals_interval && (passes (nat_le 1) u.reduce_mids_interval && passes (nat_le 1) u.luby_restart_interval_scale))) h in
-    let b = and_both (passes is_decay u.clause_activity_decay) (passes (nat_le 1) u.reduce_locals_interval && (passes (nat_le 1) u.reduce_mids_interval && passes (nat_le 1) u.luby_restart_interval_scale)) a.1 in
-    let c = and_both (passes (nat_le 1) u.reduce_locals_interval) (passes (nat_le 1) u.reduce_mids_interval && passes (nat_le 1) u.luby_restart_interval_scale) b.1 in
-    let d = and_both (passes (nat_le 1) u.reduce_mids_interval) (passes (nat_le 1) u.luby_restart_interval_scale) c.1 in
+    let a = and_both (is_none_or is_decay u.vsids_decay) (is_none_or is_decay u.clause_activity_decay && (is_none_or (nat_le 1) u.reduce_locals_interval && (is_none_or (nat_le 1) u.reduce_mids_interval && is_none_or (nat_le 1) u.luby_restart_interval_scale))) h in
+    let b = and_both (is_none_or is_decay u.clause_activity_decay) (is_none_or (nat_le 1) u.reduce_locals_interval && (is_none_or (nat_le 1) u.reduce_mids_interval && is_none_or (nat_le 1) u.luby_restart_interval_scale)) a.1 in
+    let c = and_both (is_none_or (nat_le 1) u.reduce_locals_interval) (is_none_or (nat_le 1) u.reduce_mids_interval && is_none_or (nat_le 1) u.luby_restart_interval_scale) b.1 in
+    let d = and_both (is_none_or (nat_le 1) u.reduce_mids_interval) (is_none_or (nat_le 1) u.luby_restart_interval_scale) c.1 in
     record { vsids = a.0; clauses = b.0; locals = c.0; mids = d.0; scale = d.1 }
 
 -- an update in range keeps the decays in their ranges
-pub decays_kept : (u : SolverConfigUpdate) (c : SolverConfig) → in_range u ≡ true → AreDecays c → AreDecays (updated u c)
+pub decays_kept : (u : SolverConfigUpdate) (c : SolverConfig) → is_update_in_range u ≡ true → DecaysAreInRange c → DecaysAreInRange (updated u c)
 decays_kept u c h d =
     let p = parts_of u h in
     let v = kept_decay u.vsids_decay c.vsids_decay p.vsids d.0 d.1 in
@@ -56,17 +56,17 @@ decays_kept u c h d =
     (v.0, v.1, k.0, k.1)
 
 -- an update in range keeps the scale positive
-pub scale_kept : (u : SolverConfigUpdate) (scale : ℕ) → in_range u ≡ true → 0 < scale → 0 < unwrap_or u.luby_restart_interval_scale scale
+pub scale_kept : (u : SolverConfigUpdate) (scale : ℕ) → is_update_in_range u ≡ true → 0 < scale → 0 < unwrap_or u.luby_restart_interval_scale scale
 scale_kept u scale h low = kept_count u.luby_restart_interval_scale scale (parts_of u h).scale low
 
-module _ {W L : Type 0} {G : Ghosts L} (u : SolverConfigUpdate) (c : Context W L G) (n : Variables) (asked : MappedLits) (assumed core : List ℕ) (scale : ℕ) (range : in_range u ≡ true) where
+module _ {W L : Type 0} {G : Ghosts L} (u : SolverConfigUpdate) (c : Context W L G) (n : Variables) (asked : MappedLits) (assumed core : List ℕ) (scale : ℕ) (range : is_update_in_range u ≡ true) where
   abbrev pub changed : Context W L G
   changed = record c { config = updated u c.config }
 
-  going : (b : Context W L G) → SetsDecays changed b → AskGoesOn c n asked → AskGoesOn b n asked
+  going : (b : Context W L G) → SetsDecays changed b → SearchCanContinue c n asked → SearchCanContinue b n asked
   going b d g =
       let bumped = d.bumped (session_of c.proof) g.joined.sound.search in
-      subst (λ x. AskGoesOn x n asked) (sym d.same) (record {
+      subst (λ x. SearchCanContinue x n asked) (sym d.same) (record {
         joined = record {
           sound = record {
             keeps = g.joined.sound.keeps;
@@ -108,7 +108,7 @@ module _ {W L : Type 0} {G : Ghosts L} (u : SolverConfigUpdate) (c : Context W L
     globals = whole.globals ∙ ap (λ p. (session_of p).assumed) (sym (core_same st b d).0);
     positive = scale_kept u scale range whole.positive;
     scaled = ap (unwrap_or u.luby_restart_interval_scale) whole.scaled ∙ sym (ap (λ (x : SolverConfig). x.luby_restart_interval_scale) (core_same st b d).1);
-    decays = subst AreDecays (sym (core_same st b d).1) (decays_kept u c.config range whole.decays);
+    decays = subst DecaysAreInRange (sym (core_same st b d).1) (decays_kept u c.config range whole.decays);
     taking = ap has_missed_step (core_same st b d).0 ∙ whole.taking;
     judged = subst (λ p. HasScriptState n (steps_of p)) (sym (core_same st b d).0) whole.judged;
     says = says st b d whole.says;

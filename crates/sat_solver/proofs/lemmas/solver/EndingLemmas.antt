@@ -2,12 +2,12 @@
 use Rattle.std.proofs.Common.{ℕ, ◌≡◌, ◌∙◌, false, Option, None, Some, Ok, List, [], ◌∷◌, map, refl, sym, ap, subst}
 use Rattle.sat_base.specs.device.Device.{Writer}
 use Rattle.sat_base.specs.steps.Steps.{End}
-use Rattle.sat_base.specs.values.Clauses.{EachTrue}
+use Rattle.sat_base.specs.values.Clauses.{AllLitsTrue}
 use Rattle.sat_checker.specs.Fold.{Holds}
 use Rattle.sat_checker.specs.declared.processing.ProofProcessor.{Ghosts}
 use Rattle.sat_solver.specs.load.Literals.{user_literal}
-use Rattle.sat_checker.specs.matching.Checking.{variable_of}
-use Rattle.sat_solver.specs.proof.ProofView.{ClosesTarget, ClosesOne, HasAllowedSteps, has_missed_step, steps_of, session_of}
+use Rattle.sat_checker.specs.matching.Checking.{variable_named}
+use Rattle.sat_solver.specs.proof.ProofView.{ClosesTarget, ClosesOpenTarget, HasAllowedSteps, has_missed_step, steps_of, session_of}
 use Rattle.sat_solver.specs.session.Session.{AreAllowedSteps, session_after}
 use Rattle.sat_solver.specs.declared.proof.Proof.{Proof}
 use Rattle.sat_solver.specs.declared.variables.Variables.{Variables}
@@ -15,13 +15,13 @@ use Rattle.sat_solver.specs.declared.load.literals.MappedLits.{MappedLits}
 use Rattle.sat_solver.specs.declared.context.Context.{Context}
 use Rattle.sat_solver.specs.cdcl.Joint.{SearchInvariant}
 use Rattle.sat_checker.specs.matching.Traces.{no_step, visible}
-use Rattle.sat_solver.specs.variables.Calls.{NamesInvariant, NamesAgree, NamesEffect}
-use Rattle.sat_checker.specs.matching.Expected.{Finish, SameSet, finish}
+use Rattle.sat_solver.specs.variables.Calls.{NamesInvariant, NamesAgree, ChangesScriptState}
+use Rattle.sat_checker.specs.matching.Expected.{Finish, IsSameLiteralSet, finish}
 use Rattle.sat_solver.proofs.lemmas.variables.Searched.{searches_preserve_names, searches_agree}
 use Rattle.sat_solver.specs.declared.solver.Engine.{Engine}
 use Rattle.sat_solver.specs.declared.state.SatState.{SatState}
 use Rattle.sat_solver.specs.declared.state.SatState.TheVariants as states
-use Rattle.sat_solver.specs.solver.Whole.{SolverInvariant, SolverPartsInvariant, HoldsInState, AskGoesOn, steps_in}
+use Rattle.sat_solver.specs.solver.Whole.{SolverInvariant, SolverPartsInvariant, HoldsInState, SearchCanContinue, steps_in}
 use Rattle.sat_solver.specs.solver.Proving.{EngineCloseReturnsTarget, EngineClosesProof}
 use Rattle.sat_solver.proofs.lemmas.session.CertificateLemmas.{is_certificate}
 use Rattle.sat_solver.proofs.lemmas.session.DratDerivations.{drat_is_right}
@@ -47,7 +47,7 @@ whole_ended {W} {L} {G} c n asked assumed core scale state p whole e keeps takin
     valid : NamesInvariant n (steps_of p)
     valid = subst (NamesInvariant n) (sym e) (searches_preserve_names n (steps_of c.proof) End whole.valid (subst AreAllowedSteps e keeps).1 tt)
 
-    joined : AskGoesOn c n asked → AskGoesOn (record c { proof = p }) n asked
+    joined : SearchCanContinue c n asked → SearchCanContinue (record c { proof = p }) n asked
     joined g = record {
       joined = record {
         sound = record {
@@ -70,8 +70,8 @@ whole_ended {W} {L} {G} c n asked assumed core scale state p whole e keeps takin
       record {
         some = h.1.some;
         codes = h.1.codes;
-        none = subst (λ ss. (a : _) → Holds ss a → EachTrue a h.1.codes → ⊥) (sym e) h.1.none;
-        same = subst (λ ss. SameSet (variable_of ss) (map user_literal core) h.1.codes) (sym e) h.1.same;
+        none = subst (λ ss. (a : _) → Holds ss a → AllLitsTrue a h.1.codes → ⊥) (sym e) h.1.none;
+        same = subst (λ ss. IsSameLiteralSet (variable_named ss) (map user_literal core) h.1.codes) (sym e) h.1.same;
         among = h.1.among;
       },
     )
@@ -79,11 +79,11 @@ whole_ended {W} {L} {G} c n asked assumed core scale state p whole e keeps takin
 
 module _ {W L : Type 0} {G : Ghosts L} (seen : W → Writer) (s : Engine W L G) (whole : SolverInvariant s) (going : s.failed ≡ false) (p : Proof W L G) (keeps : HasAllowedSteps p) where
   -- the target was returned
-  pub closed_one : (given : W) → ClosesOne seen given s.context.proof p → EngineCloseReturnsTarget seen given s (record s { context = record s.context { proof = p } })
+  pub closed_one : (given : W) → ClosesOpenTarget seen given s.context.proof p → EngineCloseReturnsTarget seen given s (record s { context = record s.context { proof = p } })
   closed_one given c = record {
     going = going;
     whole = ended;
-    does = subst (λ ss. NamesEffect s.names s.names (steps_in s) ss (λ j. j) (λ j. Finish ∷ [])) (sym c.history) (record {
+    does = subst (λ ss. ChangesScriptState s.names s.names (steps_in s) ss (λ j. j) (λ j. Finish ∷ [])) (sym c.history) (record {
       valid = searches_preserve_names s.names (steps_in s) End whole.valid may.1 tt;
       kept = λ j live agree. record { live = live; agree = searches_agree s.names (steps_in s) End whole.valid may.1 tt j live agree; trace = visible finish no_step };
     });

@@ -11,28 +11,28 @@ use Rattle.sat_solver.specs.declared.error.SolverError.{SolverError}
 use Rattle.sat_solver.specs.declared.variables.Variables.{Variables}
 use Rattle.sat_solver.specs.declared.context.Context.{Context}
 use Rattle.sat_solver.specs.schedule.Rounds.{LastRoundAnswers}
-use Rattle.sat_solver.specs.schedule.Solving.{Ended, Restarted, ReducedAt, RoundOf}
+use Rattle.sat_solver.specs.schedule.Solving.{AskEnds, Restarted, ReducedAt, RoundOf}
 use Rattle.sat_solver.specs.declared.state.SatState.{SatState}
 use Rattle.sat_solver.specs.declared.state.SatState.TheVariants as states
 use Rattle.sat_solver.specs.solver.Joined.{NamesSearchInvariant}
-use Rattle.sat_solver.specs.solver.Answering.{EngineBreaksOff}
-use Rattle.sat_solver.specs.solver.Found.{OutcomeHolds, ReportEffect, ReportsOutcome, FindsAnswer, SearchedBy, state_found}
+use Rattle.sat_solver.specs.solver.Answering.{CallFailsWithStoredError}
+use Rattle.sat_solver.specs.solver.Found.{OutcomeHolds, ReportEffect, ReportsOutcome, SearchFindsAnswer, SearchedBy, state_found}
 use Rattle.sat_solver.specs.declared.solver.find.Schedule.{Schedule}
 use Rattle.sat_solver.proofs.lemmas.solver.AnsweredLemmas.{joined_by}
 
 module _ {W L : Type 0} {G : Ghosts L} (seen : W → Writer) (n m : Variables) (a : Context W L G) where
   -- what the outcome says holds after the search
-  pub comes_to : {k : ℕ} → NamesSearchInvariant n a → (outcome : RoundOutcome) (mid : Context W L G) → Ended seen a n k outcome mid m → OutcomeHolds outcome m mid
+  pub comes_to : {k : ℕ} → NamesSearchInvariant n a → (outcome : RoundOutcome) (mid : Context W L G) → AskEnds seen a n k outcome mid m → OutcomeHolds outcome m mid
   comes_to joined outcomes.Learned mid e = e.says
   comes_to joined outcomes.Model mid e = (joined_by n m a mid joined e.config e.keeps e.does.valid e.says.0.search e.says.1, e.says.0.complete)
   comes_to joined outcomes.Failed mid e = (joined_by n m a mid joined e.config e.keeps e.does.valid e.says.0.search e.says.1, e.says.0.failing)
   comes_to joined outcomes.Unsat mid e = tt
 
   -- the outcome was reported
-  pub finds_reported : (outcome : RoundOutcome) (o : Option SatState) (mid b : Context W L G) (core : List ℕ) (rounds : ℕ) → Ended seen a n (rounds - 1) outcome mid m → ReportEffect seen o outcome m mid b core → FindsAnswer seen o rounds n m a b core
+  pub finds_reported : (outcome : RoundOutcome) (o : Option SatState) (mid b : Context W L G) (core : List ℕ) (rounds : ℕ) → AskEnds seen a n (rounds - 1) outcome mid m → ReportEffect seen o outcome m mid b core → SearchFindsAnswer seen o rounds n m a b core
   finds_reported outcomes.Model (Some states.Sat) mid b core rounds e t = record { mid = mid; ended = e; shown = t }
   finds_reported outcomes.Failed (Some states.UnsatUnderAssumptions) mid b core rounds e t = record { mid = mid; ended = e; failed = t }
-  finds_reported outcomes.Unsat (Some states.Unsat) mid b core rounds e t = subst (λ c. Ended seen a n (rounds - 1) outcomes.Unsat c m) (sym t) e
+  finds_reported outcomes.Unsat (Some states.Unsat) mid b core rounds e t = subst (λ c. AskEnds seen a n (rounds - 1) outcomes.Unsat c m) (sym t) e
   finds_reported outcomes.Learned o mid b core rounds e t = absurd e.says
   finds_reported outcomes.Model None mid b core rounds e t = absurd t
   finds_reported outcomes.Failed None mid b core rounds e t = absurd t
@@ -46,15 +46,15 @@ module _ {W L : Type 0} {G : Ghosts L} (seen : W → Writer) (n m : Variables) (
   finds_reported outcomes.Model (Some x) mid b core rounds e t = absurd t
 
   -- reporting the outcome failed
-  pub breaks_reported : {k : ℕ} → (outcome : RoundOutcome) (e : SolverError) (mid b : Context W L G) → Ended seen a n k outcome mid m → EngineBreaksOff seen e mid b → EngineBreaksOff seen e a b
+  pub breaks_reported : {k : ℕ} → (outcome : RoundOutcome) (e : SolverError) (mid b : Context W L G) → AskEnds seen a n k outcome mid m → CallFailsWithStoredError seen e mid b → CallFailsWithStoredError seen e a b
   breaks_reported outcome e mid b ended k = (record { fault = k.0.fault; steps = k.0.steps ++ ended.steps; went = went_after seen (Unit {0}) e ended.steps k.0.steps a.proof mid.proof b.proof (gains_adds seen ended.steps a.proof mid.proof ended.adds) k.0.went; loss = loss_later e a.proof mid.proof b.proof ended.adds.taking k.0.loss }, k.1)
 
   -- the result of reporting it
-  pub finds_by : (outcome : RoundOutcome) (r : Result (Option SatState) SolverError) (mid b : Context W L G) (core : List ℕ) (rounds : ℕ) → Ended seen a n (rounds - 1) outcome mid m → ReportsOutcome seen r outcome m mid b core → IfOk r (λ o. FindsAnswer seen o rounds n m a b core)
+  pub finds_by : (outcome : RoundOutcome) (r : Result (Option SatState) SolverError) (mid b : Context W L G) (core : List ℕ) (rounds : ℕ) → AskEnds seen a n (rounds - 1) outcome mid m → ReportsOutcome seen r outcome m mid b core → IfOk r (λ o. SearchFindsAnswer seen o rounds n m a b core)
   finds_by outcome (Ok o) mid b core rounds e t = finds_reported outcome o mid b core rounds e t
   finds_by outcome (Err x) mid b core rounds e t = tt
 
-  pub breaks_by : {k : ℕ} → (outcome : RoundOutcome) (r : Result (Option SatState) SolverError) (mid b : Context W L G) (core : List ℕ) → Ended seen a n k outcome mid m → ReportsOutcome seen r outcome m mid b core → IfErr r (λ x. EngineBreaksOff seen x a b)
+  pub breaks_by : {k : ℕ} → (outcome : RoundOutcome) (r : Result (Option SatState) SolverError) (mid b : Context W L G) (core : List ℕ) → AskEnds seen a n k outcome mid m → ReportsOutcome seen r outcome m mid b core → IfErr r (λ x. CallFailsWithStoredError seen x a b)
   breaks_by outcome (Ok o) mid b core e t = tt
   breaks_by outcome (Err x) mid b core e t = breaks_reported outcome x mid b e t
 

@@ -9,14 +9,14 @@ use Rattle.sat_solver.specs.session.LiveClauses.{with_var}
 use Rattle.sat_solver.specs.cdcl.Joint.{global_in}
 use Rattle.sat_solver.specs.declared.context.Search.{Search}
 use Rattle.sat_solver.specs.variables.Shared.{SharesIndices}
-use Rattle.sat_solver.specs.load.Literals.{Image, Images, GlobalImages}
+use Rattle.sat_solver.specs.load.Literals.{IsImage, AreImages, AreGlobalImages}
 use Rattle.sat_solver.specs.variables.Calls.{NamesInvariant}
 use Rattle.sat_solver.specs.declared.variables.Variables.{Variables}
-use Rattle.sat_solver.specs.unit_simplify.Freed.{KeepsAsked}
+use Rattle.sat_solver.specs.unit_simplify.FreedIndices.{KeepsAsked}
 use Rattle.sat_parts.proofs.lemmas.parts.ValueLemmas.{coded_variable}
 use Rattle.sat_solver.proofs.lemmas.unit_simplify.FreedLemmas.{assumed_mention, contains_at}
 
-pub images_kept : (n m : Variables) (steps : List Step) (c : Search) (s t : Session) → NamesInvariant n steps → SharesIndices n c → (user order : List ℕ) → s.assumed ≡ map (with_var (global_in c)) order → Images n user order → KeepsAsked n m s t → Images m user order
+pub images_kept : (n m : Variables) (steps : List Step) (c : Search) (s t : Session) → NamesInvariant n steps → SharesIndices n c → (user order : List ℕ) → s.assumed ≡ map (with_var (global_in c)) order → AreImages n user order → KeepsAsked n m s t → AreImages m user order
 images_kept n m steps c s t valid shares user order asked images kept = record {
   count = images.count;
   each = λ k lt. (let i = images.each k lt in record {
@@ -28,7 +28,7 @@ images_kept n m steps c s t valid shares user order asked images kept = record {
   });
 }
   where
-    among : (k : ℕ) (lt : k < length user) (i : Image n (get_or user k 0) (get_or order k 0)) → mentions s.assumed i.variable_is ≡ true
+    among : (k : ℕ) (lt : k < length user) (i : IsImage n (get_or user k 0) (get_or order k 0)) → mentions s.assumed i.variable_is ≡ true
     among k lt i =
         let less : k < length order = (let e = images.count in omega arith) in
         let index : variable (get_or order k 0) ≡ i.index_is = ap variable i.is ∙ coded_variable i.index_is (is_positive (get_or user k 0)) in
@@ -36,5 +36,5 @@ images_kept n m steps c s t valid shares user order asked images kept = record {
         subst (λ ls. mentions ls i.variable_is ≡ true) (sym asked) (subst (λ v. mentions (map (with_var (global_in c)) order) v ≡ true) var (assumed_mention (global_in c) order (variable (get_or order k 0)) (contains_at order k less)))
 
 -- their literals in the proof
-pub globals_kept : (n m : Variables) (user codes : List ℕ) → GlobalImages n user codes → m.global_from_user ≡ n.global_from_user → GlobalImages m user codes
+pub globals_kept : (n m : Variables) (user codes : List ℕ) → AreGlobalImages n user codes → m.global_from_user ≡ n.global_from_user → AreGlobalImages m user codes
 globals_kept n m user codes h users = record { count = h.count; each = λ k lt. (let y = h.each k lt in (y.0, ap (λ x. target x.fwd (variable (get_or user k 0))) users ∙ y.1, y.2)) }

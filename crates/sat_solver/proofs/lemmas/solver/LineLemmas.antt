@@ -5,22 +5,22 @@ use Rattle.std.proofs.lemmas.Option.{none-some}
 use Rattle.std.proofs.lemmas.List.{append-nil}
 use Rattle.std.specs.List.{AllByRecursion}
 use Rattle.sat_base.specs.values.Literals.{variable, mk_lit}
-use Rattle.sat_base.specs.values.Clauses.{Valuation, EachTrue, literal_true}
+use Rattle.sat_base.specs.values.Clauses.{Valuation, AllLitsTrue, literal_true}
 use Rattle.sat_base.specs.script.Script.{Literal, names_of, Among}
 use Rattle.sat_base.specs.script.ScriptState.{ScriptState, identity_of, identity_lit, IsRightModel}
-use Rattle.sat_base.specs.script.ScriptStateLaws.{Increase}
+use Rattle.sat_base.specs.script.ScriptStateLaws.{AreIncreasing}
 use Rattle.sat_base.proofs.lemmas.script.NamesListed.{lists_in_use}
 use Rattle.sat_base.specs.steps.Steps.{Step, Model}
 use Rattle.sat_checker.specs.Fold.{Holds}
 use Rattle.sat_solver.specs.session.Session.{IsAllowedStep, session_after}
-use Rattle.sat_solver.specs.session.NamedMeaning.{MeansAcceptedClauses, AgreeOn, IsReadAs, AllReadAmong}
+use Rattle.sat_solver.specs.session.NamedMeaning.{MeansAcceptedClauses, AgreeOn, IsRepresentedBy, AllRepresentedIn}
 use Rattle.sat_solver.proofs.lemmas.session.NamedLemmas.{all_at, all_from, among_images, read_value, named_models_are_right}
 use Rattle.sat_solver.specs.load.Literals.{user_literal}
 use Rattle.sat_checker.specs.matching.Bridge.{LiveVariables, AgreesOnLive}
 use Rattle.sat_solver.specs.variables.Live.{given_of}
 use Rattle.sat_solver.specs.variables.Variables.{global_of, names_used, variables_used}
 use Rattle.sat_solver.specs.Models.{value_in, model_to, name_literal, named_to}
-use Rattle.sat_checker.specs.matching.Checking.{variable_of}
+use Rattle.sat_checker.specs.matching.Checking.{variable_named}
 use Rattle.sat_solver.specs.variables.Calls.{NamesInvariant, NamesAgree}
 use Rattle.sat_solver.specs.declared.variables.Variables.{Variables}
 use Rattle.sat_solver.proofs.lemmas.variables.MapLemmas.{some_within}
@@ -30,7 +30,7 @@ use Rattle.sat_checker.proofs.lemmas.matching.Bridge.{pulled, pulled_agrees}
 use Rattle.sat_solver.proofs.lemmas.variables.ModeChanges.{live_within}
 use Rattle.sat_parts.proofs.lemmas.parts.ValueLemmas.{coded_variable}
 use Rattle.sat_solver.specs.solver.Lines.{IsCoreOf}
-use Rattle.sat_checker.specs.matching.Expected.{Spells, SameSet}
+use Rattle.sat_checker.specs.matching.Expected.{IsLiteralOf, IsSameLiteralSet}
 use Rattle.sat_solver.proofs.lemmas.solver.ShownLemmas.{coded_sign, model_all}
 
 -- MEANING
@@ -49,21 +49,21 @@ some_same : (x y : ℕ) (o : Option ℕ) → o ≡ Some x → o ≡ Some y → x
 some_same x y o e f = (let g : Some x ≡ Some y = sym e ∙ f in cc)
 
 module _ (n : Variables) (steps : List Step) (j : ScriptState) (live : LiveVariables) (agree : NamesAgree n steps j live) where
-  agree_on : (a b : Valuation) → AgreesOnLive live a b → AgreeOn j (variable_of steps) a b
+  agree_on : (a b : Valuation) → AgreesOnLive live a b → AgreeOn j (variable_named steps) a b
   agree_on a b h name i v use_ named =
       let k = agree.bridge.named name v named in
       agree_at live a b v i h (subst (λ z. Among (v, z) live) (some_same k.0 i (identity_of j name) k.1 use_) k.2)
 
-  pub means_of : MeansAcceptedClauses j (variable_of steps) steps
+  pub means_of : MeansAcceptedClauses j (variable_named steps) steps
   means_of = record {
     to = λ a h. let m = agree.bridge.to a h in (m.0, agree_on a m.0 m.1, m.2);
     back = λ b h. let g = pulled_agrees live b agree.bridge.once in (pulled live b, agree_on (pulled live b) b g, agree.bridge.back (pulled live b) (b, g, h));
   }
 
   -- the proof literal of a name in use
-  pub reads_at : (u v : ℕ) (b : Bool) → NamesInvariant n steps → global_of n u ≡ Some v → IsReadAs j (variable_of steps) (user_literal (mk_lit u b)) (mk_lit v b)
+  pub reads_at : (u v : ℕ) (b : Bool) → NamesInvariant n steps → global_of n u ≡ Some v → IsRepresentedBy j (variable_named steps) (user_literal (mk_lit u b)) (mk_lit v b)
   reads_at u v b valid e =
-      let name : variable_of steps (variable (mk_lit u b) + 1) ≡ Some v = ap (λ w. variable_of steps (w + 1)) (coded_variable u b) ∙ valid.read u ∙ e in
+      let name : variable_named steps (variable (mk_lit u b) + 1) ≡ Some v = ap (λ w. variable_named steps (w + 1)) (coded_variable u b) ∙ valid.read u ∙ e in
       let k = agree.bridge.named (variable (mk_lit u b) + 1) v name in
       record { identity = k.0; in_use = k.1; var = v; named = name; is = ap (mk_lit v) (sym (coded_sign u b)) }
 
@@ -105,7 +105,7 @@ module _ (n : Variables) (values : List (Option Bool)) where
     | inr k ↦ among_left (mk_lit u (value_in n values v)) (named_to n values count) (name_literal n values count (global_of n count)) (named_has count u v (omega arith) e)
   ])
 
-  rise_more : (xs : List ℕ) (y : ℕ) → Increase xs → AllByRecursion (λ x. x < y) xs → Increase (xs ++ y ∷ [])
+  rise_more : (xs : List ℕ) (y : ℕ) → AreIncreasing xs → AllByRecursion (λ x. x < y) xs → AreIncreasing (xs ++ y ∷ [])
   rise_more [] y h k = (tt, tt)
   rise_more (x ∷ xs) y h k = (all_both (λ z. x < z) xs (y ∷ []) h.0 (k.0, tt), rise_more xs y h.1 k.1)
 
@@ -120,14 +120,14 @@ module _ (n : Variables) (values : List (Option Bool)) where
   below : (count : ℕ) → AllByRecursion (λ l. variable l < count) (named_to n values count)
   below count = named_each (λ l. variable l < count) count (λ u v lt e. (let s = coded_variable u (value_in n values v) in omega arith))
 
-  rise_lits : (xs : List ℕ) (u : ℕ) (o : Option ℕ) → Increase (names_of (map user_literal xs)) → AllByRecursion (λ x. x < u + 1) (names_of (map user_literal xs)) → Increase (names_of (map user_literal (xs ++ name_literal n values u o)))
-  rise_lits xs u None h k = subst (λ ys. Increase (names_of (map user_literal ys))) (sym (append-nil xs)) h
-  rise_lits xs u (Some v) h k = subst Increase (sym (names_in_both xs (mk_lit u (value_in n values v) ∷ [])))
-      (subst (λ w. Increase (names_of (map user_literal xs) ++ (w + 1) ∷ [])) (sym (coded_variable u (value_in n values v))) (rise_more (names_of (map user_literal xs)) (u + 1) h k))
+  rise_lits : (xs : List ℕ) (u : ℕ) (o : Option ℕ) → AreIncreasing (names_of (map user_literal xs)) → AllByRecursion (λ x. x < u + 1) (names_of (map user_literal xs)) → AreIncreasing (names_of (map user_literal (xs ++ name_literal n values u o)))
+  rise_lits xs u None h k = subst (λ ys. AreIncreasing (names_of (map user_literal ys))) (sym (append-nil xs)) h
+  rise_lits xs u (Some v) h k = subst AreIncreasing (sym (names_in_both xs (mk_lit u (value_in n values v) ∷ [])))
+      (subst (λ w. AreIncreasing (names_of (map user_literal xs) ++ (w + 1) ∷ [])) (sym (coded_variable u (value_in n values v))) (rise_more (names_of (map user_literal xs)) (u + 1) h k))
 
-  pub line_rises : (count : ℕ) → Increase (names_of (map user_literal (named_to n values count)))
-  line_rises zero = subst (λ ys. Increase (names_of (map user_literal ys))) (sym (named_zero n values)) tt
-  line_rises (suc count) = subst (λ ys. Increase (names_of (map user_literal ys))) (sym (named_grown count))
+  pub line_rises : (count : ℕ) → AreIncreasing (names_of (map user_literal (named_to n values count)))
+  line_rises zero = subst (λ ys. AreIncreasing (names_of (map user_literal ys))) (sym (named_zero n values)) tt
+  line_rises (suc count) = subst (λ ys. AreIncreasing (names_of (map user_literal ys))) (sym (named_grown count))
       (rise_lits (named_to n values count) count (global_of n count) (line_rises count) (names_below count (named_to n values count) (below count)))
 
 names_each : (P : ℕ → Type 0) (ls : List ℕ) → AllByRecursion (λ l. P (variable l + 1)) ls → AllByRecursion P (names_of (map user_literal ls))
@@ -169,9 +169,9 @@ module _ (n : Variables) (steps : List Step) (values : List (Option Bool)) (vali
     lists : names_of (map user_literal line) ≡ map (λ n. n.name) j.in_use
     lists = lists_in_use j (names_of (map user_literal line)) agree.judged.increasing (line_rises n values (names_used n)) lists_all lists_only
 
-    read : AllReadAmong j (variable_of steps) (map user_literal line) (model_to n values (variables_used n))
-    read = mapped_each (λ l. (code : ℕ) × IsReadAs j (variable_of steps) l code × Among code (model_to n values (variables_used n))) line
-        (named_each n values (λ l. (code : ℕ) × IsReadAs j (variable_of steps) (user_literal l) code × Among code (model_to n values (variables_used n))) (names_used n) (λ u v lt e.
+    read : AllRepresentedIn j (variable_named steps) (map user_literal line) (model_to n values (variables_used n))
+    read = mapped_each (λ l. (code : ℕ) × IsRepresentedBy j (variable_named steps) l code × Among code (model_to n values (variables_used n))) line
+        (named_each n values (λ l. (code : ℕ) × IsRepresentedBy j (variable_named steps) (user_literal l) code × Among code (model_to n values (variables_used n))) (names_used n) (λ u v lt e.
         let live_ = valid.tidy.named v u (valid.tidy.users.back u v e) in (
           mk_lit v (value_in n values v),
           reads_at n steps j live agree u v (value_in n values v) valid e,
@@ -181,7 +181,7 @@ module _ (n : Variables) (steps : List Step) (values : List (Option Bool)) (vali
     -- the line of a model that may be written is right
     pub model_line : (asked : List ℕ) → IsAllowedStep (session_after steps) (Model (model_to n values (variables_used n))) → AllByRecursion (λ l. Among l line) asked → IsRightModel j (map user_literal asked) (map user_literal line)
     model_line asked may among =
-        named_models_are_right j (variable_of steps) steps (model_to n values (variables_used n)) (map user_literal asked) (map user_literal line)
+        named_models_are_right j (variable_named steps) steps (model_to n values (variables_used n)) (map user_literal asked) (map user_literal line)
         (means_of n steps j live agree) (valid.may, may) lists read (mapped_each (λ l. Among l (map user_literal line)) asked (each_among asked among))
       where
         each_among : (xs : List ℕ) → AllByRecursion (λ l. Among l line) xs → AllByRecursion (λ l. Among (user_literal l) (map user_literal line)) xs
@@ -190,17 +190,17 @@ module _ (n : Variables) (steps : List Step) (values : List (Option Bool)) (vali
 
 -- a core that no admitted valuation satisfies is right
 module _ (n : Variables) (steps : List Step) (j : ScriptState) (live : LiveVariables) (agree : NamesAgree n steps j live) where
-  spells_reads : (l : Literal) (code : ℕ) → Spells (variable_of steps) l code → IsReadAs j (variable_of steps) l code
+  spells_reads : (l : Literal) (code : ℕ) → IsLiteralOf (variable_named steps) l code → IsRepresentedBy j (variable_named steps) l code
   spells_reads l code s = (let k = agree.bridge.named l.name s.variable s.named in record { identity = k.0; in_use = k.1; var = s.variable; named = s.named; is = s.is })
 
-  pub core_of : (asked core codes : List ℕ) → ((a : Valuation) → Holds steps a → EachTrue a codes → ⊥) → SameSet (variable_of steps) (map user_literal core) codes → AllByRecursion (λ l. Among l asked) core → IsCoreOf j (map user_literal asked) (map user_literal core)
+  pub core_of : (asked core codes : List ℕ) → ((a : Valuation) → Holds steps a → AllLitsTrue a codes → ⊥) → IsSameLiteralSet (variable_named steps) (map user_literal core) codes → AllByRecursion (λ l. Among l asked) core → IsCoreOf j (map user_literal asked) (map user_literal core)
   core_of asked core codes none same among = record {
     among = each_among core among;
     none = λ b t h.
         let m = (means_of n steps j live agree).back b h in
         none m.0 m.2 (all_from (λ x. literal_true m.0 x ≡ true) codes (λ x i.
-        let r = all_at (λ code. (l : Literal) × Spells (variable_of steps) l code × Among l (map user_literal core)) x codes same.1 i in
-        read_value j (variable_of steps) m.0 b m.1 r.0 x (spells_reads r.0 x r.1)
+        let r = all_at (λ code. (l : Literal) × IsLiteralOf (variable_named steps) l code × Among l (map user_literal core)) x codes same.1 i in
+        read_value j (variable_named steps) m.0 b m.1 r.0 x (spells_reads r.0 x r.1)
         ∙ all_at (λ y. literal_true b y ≡ true) (identity_lit j r.0) (map (identity_lit j) (map user_literal core)) t (among_images (identity_lit j) r.0 (map user_literal core) r.2)));
   }
     where

@@ -1,6 +1,6 @@
 -- The counts that a solver reports.
 use Rattle.std.proofs.Common.{ℕ, suc, ◌+◌, ◌≡◌, ◌∙◌, Bool, cond, List, get_or, Option, refl, sym, ap, arith}
-use Rattle.sat_store.specs.clause.Header.{index_of}
+use Rattle.sat_store.specs.clause.Header.{tier_index}
 use Rattle.sat_store.specs.declared.clause.tier.Tier.{Tier}
 use Rattle.sat_checker.specs.declared.processing.ProofProcessor.{Ghosts}
 use Rattle.sat_solver.specs.declared.variables.Variables.{Variables}
@@ -31,5 +31,5 @@ counted_next n values x count next b c e s =
     ∙ ap (λ k. count_to k (is_unassigned_at n values)) (let q : suc x ≡ x + 1 = omega arith in q)
 
 -- the count of a tier is the number of its live clauses
-pub tier_count : (p : SearchState) → SearchStateInvariant p → (tier : Tier) (r : ℕ) → r ≡ get_or p.db.counts (index_of tier) 0 → r ≡ live_count_of_tier p tier
-tier_count p h tier r e = e ∙ h.below.held.counts tier
+pub tier_count : (p : SearchState) → SearchStateInvariant p → (tier : Tier) (r : ℕ) → r ≡ get_or p.db.counts (tier_index tier) 0 → r ≡ live_count_of_tier p tier
+tier_count p h tier r e = e ∙ h.below.db_matches.counts tier

@@ -4,13 +4,13 @@ use Rattle.std.proofs.lemmas.Bool.{true≢false, or_cases, or_left, or_right, eq
 use Rattle.std.specs.List.{AllByRecursion}
 use Rattle.sat_base.specs.device.Device.{Writer}
 use Rattle.sat_base.specs.values.Literals.{variable, is_positive, mk_lit}
-use Rattle.sat_base.specs.values.Clauses.{Valuation, EachTrue, literal_true}
+use Rattle.sat_base.specs.values.Clauses.{Valuation, AllLitsTrue, literal_true}
 use Rattle.sat_base.specs.script.Script.{Literal, Among}
 use Rattle.sat_base.specs.script.ScriptState.{ScriptState}
 use Rattle.sat_checker.specs.LiteralSets.{mentions}
 use Rattle.sat_store.specs.variables.Maps.{target}
 use Rattle.sat_checker.specs.declared.processing.ProofProcessor.{Ghosts}
-use Rattle.sat_solver.specs.session.Making.{ComesByCheckedSteps}
+use Rattle.sat_solver.specs.session.Emitting.{EmitsSomeChecked}
 use Rattle.sat_solver.specs.proof.ProofView.{has_missed_step, steps_of, session_of}
 use Rattle.sat_solver.proofs.lemmas.session.ProofLemmas.{gains_adds, gained_width}
 use Rattle.sat_solver.specs.declared.proof.emitted.CheckFault.TheVariants as checks
@@ -21,31 +21,31 @@ use Rattle.sat_solver.specs.declared.variables.error.NameError.{NameError}
 use Rattle.sat_solver.specs.declared.variables.error.NameError.TheVariants as names
 use Rattle.sat_base.specs.steps.Steps.{Step}
 use Rattle.sat_solver.specs.session.AllowedSteps.{OnlyAllowedSteps}
-use Rattle.sat_solver.specs.load.Faults.{reported_as}
-use Rattle.sat_solver.specs.load.Alike.{LooksAlike}
+use Rattle.sat_solver.specs.load.Faults.{error_of_name_call}
+use Rattle.sat_solver.specs.load.Alike.{SameToSearch}
 use Rattle.sat_solver.proofs.lemmas.load.AlikeLemmas.{search_alike}
-use Rattle.sat_solver.specs.load.Literals.{user_literal, Image, Images, GlobalImages}
-use Rattle.sat_solver.specs.variables.Calls.{HasScriptState, NamesInvariant, NamesEffect}
+use Rattle.sat_solver.specs.load.Literals.{user_literal, IsImage, AreImages, AreGlobalImages}
+use Rattle.sat_solver.specs.variables.Calls.{HasScriptState, NamesInvariant, ChangesScriptState}
 use Rattle.sat_solver.proofs.lemmas.variables.Doing.{judged_by}
-use Rattle.sat_checker.specs.matching.Checking.{variable_of}
-use Rattle.sat_checker.specs.matching.Expected.{Expected, Spells}
+use Rattle.sat_checker.specs.matching.Checking.{variable_named}
+use Rattle.sat_checker.specs.matching.Expected.{Expected, IsLiteralOf}
 use Rattle.sat_solver.specs.Models.{has_true_value, value_by, value_in}
-use Rattle.sat_solver.specs.variables.Failing.{Limits}
+use Rattle.sat_solver.specs.variables.NameFailures.{FailsByVariableLimitOrFault}
 use Rattle.sat_solver.specs.variables.VariableRoom.{HasVariablesFor}
 use Rattle.sat_solver.specs.variables.Naming.{VariablesAreKeptOrNew, KeepsOthers, IsNextUser, NoVariableLeft}
 use Rattle.sat_solver.specs.variables.Observing.{NamesAllHidden}
 use Rattle.sat_solver.specs.variables.Refusing.{IsAssumed}
-use Rattle.sat_solver.specs.variables.Search.{IsAlike, KeepsUnits}
-use Rattle.sat_solver.specs.variables.Variables.{data_at, global_of, user_of, solver_of, says_unit}
+use Rattle.sat_solver.specs.variables.Search.{KeepsSearchUpToUnits, KeepsUnits}
+use Rattle.sat_solver.specs.variables.Variables.{data_at, global_of, user_of, solver_of, is_unit_value}
 use Rattle.sat_solver.specs.declared.variables.Variables.{Variables}
 use Rattle.sat_solver.specs.declared.solver.Engine.{Engine}
 use Rattle.sat_solver.specs.declared.state.SatState.{SatState}
 use Rattle.sat_solver.specs.declared.state.SatState.TheVariants as states
-use Rattle.sat_solver.specs.solver.Naming.{EngineIsAsked, IsKeptOrFalse, engine_variable_value, engine_name_value, EngineIsNextName, EngineNameCallEffect, EngineObserved, EngineChangesMode, NewFails, EngineNamesFail}
-use Rattle.sat_solver.specs.solver.Taking.{IsNameErrorOr, BreaksNames}
+use Rattle.sat_solver.specs.solver.Naming.{EngineIsAssumedName, IsKeptOrFalse, engine_variable_value, engine_name_value, EngineIsNextName, EngineNameCallEffect, EngineObserved, EngineChangesMode, EngineNewNameFails, EngineObserveFails}
+use Rattle.sat_solver.specs.solver.AddingToSearch.{IsNameErrorOr, NameStepsFail}
 use Rattle.sat_solver.specs.cdcl.StepEffects.{IsFault}
 use Rattle.sat_solver.specs.declared.context.Context.{Context}
-use Rattle.sat_solver.specs.solver.Whole.{SolverInvariant, SolverPartsInvariant, HoldsInState, AskGoesOn, HasCore, steps_in, session_in}
+use Rattle.sat_solver.specs.solver.Whole.{SolverInvariant, SolverPartsInvariant, HoldsInState, SearchCanContinue, HasCore, steps_in, session_in}
 use Rattle.sat_solver.proofs.lemmas.variables.Giving.{alike_unseen}
 use Rattle.sat_solver.proofs.lemmas.variables.NextUnused.{lowest_unused}
 use Rattle.sat_parts.proofs.lemmas.parts.ValueLemmas.{coded_variable}
@@ -99,7 +99,7 @@ module _ {W L : Type 0} {G : Ghosts L} (s : Engine W L G) (whole : SolverInvaria
       }
 
   -- a name whose variable is marked is assumed
-  pub marked_asked : (user : ℕ) → IsAssumed s.names user → EngineIsAsked s user
+  pub marked_asked : (user : ℕ) → IsAssumed s.names user → EngineIsAssumedName s user
   marked_asked user m =
       let c = whole.spelt.count in
       let p = mention_place s.asked.globals.items m.variable_is (ap (λ ls. mentions ls m.variable_is) whole.globals ∙ whole.valid.said.marked m.variable_is ∙ m.marked) in
@@ -113,7 +113,7 @@ module _ {W L : Type 0} {G : Ghosts L} (s : Engine W L G) (whole : SolverInvaria
       )
 
   -- the variable of an assumed name is marked
-  pub asked_marked : (user : ℕ) → EngineIsAsked s user → IsAssumed s.names user
+  pub asked_marked : (user : ℕ) → EngineIsAssumedName s user → IsAssumed s.names user
   asked_marked user a =
       let x = asked_as a.0 a.1 in
       record {
@@ -122,19 +122,19 @@ module _ {W L : Type 0} {G : Ghosts L} (s : Engine W L G) (whole : SolverInvaria
         marked = sym (whole.valid.said.marked x.variable_is) ∙ x.mentioned;
       }
 
-  pub not_marked : (user : ℕ) → (IsAssumed s.names user → ⊥) → EngineIsAsked s user → ⊥
+  pub not_marked : (user : ℕ) → (IsAssumed s.names user → ⊥) → EngineIsAssumedName s user → ⊥
   not_marked user n a = n (asked_marked user a)
 
   -- NAMES THAT AREN'T ASSUMED
 
-  module _ (n' : Variables) (p : Proof W L G) (valid : NamesInvariant n' (steps_of p)) (kept : (l v : ℕ) → Among l s.assumed.items → global_of s.names (variable l) ≡ Some v → global_of n' (variable l) ≡ Some v) (alike : IsAlike s.names n' (steps_in s) (steps_of p)) where
+  module _ (n' : Variables) (p : Proof W L G) (valid : NamesInvariant n' (steps_of p)) (kept : (l v : ℕ) → Among l s.assumed.items → global_of s.names (variable l) ≡ Some v → global_of n' (variable l) ≡ Some v) (alike : KeepsSearchUpToUnits s.names n' (steps_in s) (steps_of p)) where
     abbrev new : Context W L G
     new = record s.context { proof = p }
 
-    images : Images n' s.assumed.items s.asked.order.items
+    images : AreImages n' s.assumed.items s.asked.order.items
     images = record {
       count = whole.images.count;
-      each = λ k lt. let x : Image s.names (get_or s.assumed.items k 0) (get_or s.asked.order.items k 0) = whole.images.each k lt in record {
+      each = λ k lt. let x : IsImage s.names (get_or s.assumed.items k 0) (get_or s.asked.order.items k 0) = whole.images.each k lt in record {
         variable_is = x.variable_is;
         index_is = x.index_is;
         named = kept (get_or s.assumed.items k 0) x.variable_is (among_at s.assumed.items k lt) x.named;
@@ -143,10 +143,10 @@ module _ {W L : Type 0} {G : Ghosts L} (s : Engine W L G) (whole : SolverInvaria
       };
     }
 
-    spelt : GlobalImages n' s.assumed.items s.asked.globals.items
+    spelt : AreGlobalImages n' s.assumed.items s.asked.globals.items
     spelt = record { count = whole.spelt.count; each = λ k lt. let x = whole.spelt.each k lt in (x.0, kept (get_or s.assumed.items k 0) x.0 (among_at s.assumed.items k lt) x.1, x.2) }
 
-    looks : LooksAlike (session_in s) (session_of p)
+    looks : SameToSearch (session_in s) (session_of p)
     looks = record {
       live = λ r set. ap (λ f. f r set) alike.live;
       units = λ v x b e. alike.units v x b (sym (whole.valid.said.solver_names v) ∙ e);
@@ -156,7 +156,7 @@ module _ {W L : Type 0} {G : Ghosts L} (s : Engine W L G) (whole : SolverInvaria
       assumed = alike.assumed;
     }
 
-    going : AskGoesOn s.context s.names s.asked → AskGoesOn new n' s.asked
+    going : SearchCanContinue s.context s.names s.asked → SearchCanContinue new n' s.asked
     going g = record {
       joined = record {
         sound = record { keeps = valid.may; search = search_alike (session_in s) (session_of p) s.context.search g.joined.sound.search looks; locals = g.joined.sound.locals; mids = g.joined.sound.mids };
@@ -172,12 +172,12 @@ module _ {W L : Type 0} {G : Ghosts L} (s : Engine W L G) (whole : SolverInvaria
     }
 
     -- assumed literals stand for the same literals of the proof as before
-    spells : (l code : ℕ) → Among l s.assumed.items → Spells (variable_of (steps_in s)) (user_literal l) code → Spells (variable_of (steps_of p)) (user_literal l) code
+    spells : (l code : ℕ) → Among l s.assumed.items → IsLiteralOf (variable_named (steps_in s)) (user_literal l) code → IsLiteralOf (variable_named (steps_of p)) (user_literal l) code
     spells l code h x = record { variable = x.variable; named = valid.read (variable l) ∙ kept l x.variable h (sym (whole.valid.read (variable l)) ∙ x.named); is = x.is }
 
     module _ (core codes : List ℕ) where
-      there : (ls : List ℕ) → AllByRecursion (λ l. Among l s.assumed.items) ls → AllByRecursion (λ l. (code : ℕ) × Spells (variable_of (steps_in s)) l code × Among code codes) (map user_literal ls) →
-          AllByRecursion (λ l. (code : ℕ) × Spells (variable_of (steps_of p)) l code × Among code codes) (map user_literal ls)
+      there : (ls : List ℕ) → AllByRecursion (λ l. Among l s.assumed.items) ls → AllByRecursion (λ l. (code : ℕ) × IsLiteralOf (variable_named (steps_in s)) l code × Among code codes) (map user_literal ls) →
+          AllByRecursion (λ l. (code : ℕ) × IsLiteralOf (variable_named (steps_of p)) l code × Among code codes) (map user_literal ls)
       there [] h t = tt
       there (l ∷ ls) h t = ((t.0.0, spells l t.0.0 h.0 t.0.1, t.0.2), there ls h.1 t.1)
 
@@ -192,23 +192,23 @@ module _ {W L : Type 0} {G : Ghosts L} (s : Engine W L G) (whole : SolverInvaria
       named_from (l ∷ ls) x h (inl e) = record { from = l; among = h.0; is = e }
       named_from (l ∷ ls) x h (inr i) = named_from ls x h.1 i
 
-      only : (cs : List ℕ) → AllByRecursion (λ l. Among l s.assumed.items) core → AllByRecursion (λ code. (l : Literal) × Spells (variable_of (steps_in s)) l code × Among l (map user_literal core)) cs →
-          AllByRecursion (λ code. (l : Literal) × Spells (variable_of (steps_of p)) l code × Among l (map user_literal core)) cs
+      only : (cs : List ℕ) → AllByRecursion (λ l. Among l s.assumed.items) core → AllByRecursion (λ code. (l : Literal) × IsLiteralOf (variable_named (steps_in s)) l code × Among l (map user_literal core)) cs →
+          AllByRecursion (λ code. (l : Literal) × IsLiteralOf (variable_named (steps_of p)) l code × Among l (map user_literal core)) cs
       only [] h t = tt
       only (c ∷ cs) h t =
           let f = named_from core t.0.0 h t.0.2 in
-          ((user_literal f.from, spells f.from c f.among (subst (λ x. Spells (variable_of (steps_in s)) x c) f.is t.0.1), subst (λ x. Among x (map user_literal core)) f.is t.0.2), only cs h t.1)
+          ((user_literal f.from, spells f.from c f.among (subst (λ x. IsLiteralOf (variable_named (steps_in s)) x c) f.is t.0.1), subst (λ x. Among x (map user_literal core)) f.is t.0.2), only cs h t.1)
 
       -- valuations that agree on the assumptions satisfy the same of these codes
       module _ (a b : Valuation) (same : (v : ℕ) → mentions (session_in s).assumed v ≡ true → b v ≡ a v) where
-        true_at : (c : ℕ) (x : Literal) → Spells (variable_of (steps_in s)) x c → Named_from x → literal_true a c ≡ true → literal_true b c ≡ true
+        true_at : (c : ℕ) (x : Literal) → IsLiteralOf (variable_named (steps_in s)) x c → Named_from x → literal_true a c ≡ true → literal_true b c ≡ true
         true_at c x sp f t =
             let y = asked_as f.from f.among in
-            let at : sp.variable ≡ y.variable_is = some_same sp.variable y.variable_is (sym (subst (λ z. variable_of (steps_in s) z.name ≡ Some sp.variable) f.is sp.named) ∙ whole.valid.read (variable f.from) ∙ y.named) in
+            let at : sp.variable ≡ y.variable_is = some_same sp.variable y.variable_is (sym (subst (λ z. variable_named (steps_in s) z.name ≡ Some sp.variable) f.is sp.named) ∙ whole.valid.read (variable f.from) ∙ y.named) in
             let v : variable c ≡ y.variable_is = ap variable sp.is ∙ coded_variable sp.variable x.positive ∙ at in
             ap (λ q. cond (is_positive c) q (not q)) (same (variable c) (subst (λ w. mentions (session_in s).assumed w ≡ true) (sym v) y.mentioned)) ∙ t
 
-        each_true : (cs : List ℕ) → AllByRecursion (λ l. Among l s.assumed.items) core → AllByRecursion (λ code. (l : Literal) × Spells (variable_of (steps_in s)) l code × Among l (map user_literal core)) cs → EachTrue a cs → EachTrue b cs
+        each_true : (cs : List ℕ) → AllByRecursion (λ l. Among l s.assumed.items) core → AllByRecursion (λ code. (l : Literal) × IsLiteralOf (variable_named (steps_in s)) l code × Among l (map user_literal core)) cs → AllLitsTrue a cs → AllLitsTrue b cs
         each_true [] h o t = tt
         each_true (c ∷ cs) h o t = (true_at c o.0.0 o.0.1 (named_from core o.0.0 h o.0.2) t.0, each_true cs h o.1 t.1)
 
@@ -246,15 +246,15 @@ module _ {W L : Type 0} {G : Ghosts L} (s : Engine W L G) (whole : SolverInvaria
     }
 
   -- if only a name that isn't assumed changes, assumptions keep their variables
-  pub others_kept : (n' : Variables) (user : ℕ) → (EngineIsAsked s user → ⊥) → KeepsOthers s.names n' user → (l v : ℕ) → Among l s.assumed.items → global_of s.names (variable l) ≡ Some v → global_of n' (variable l) ≡ Some v
+  pub others_kept : (n' : Variables) (user : ℕ) → (EngineIsAssumedName s user → ⊥) → KeepsOthers s.names n' user → (l v : ℕ) → Among l s.assumed.items → global_of s.names (variable l) ≡ Some v → global_of n' (variable l) ≡ Some v
   others_kept n' user free others l v h e = others (variable l) v (λ q. free (l, h, q)) e
 
 module _ {W L : Type 0} {G : Ghosts L} (seen : W → Writer) (s : Engine W L G) (whole : SolverInvariant s) (going : s.failed ≡ false) (n' : Variables) (p : Proof W L G) where
   abbrev values : List (Option Bool)
   values = s.context.search.parts.assignment.current
 
-  module _ (alike : IsAlike s.names n' (steps_in s) (steps_of p)) (valid : NamesInvariant n' (steps_of p)) where
-    says_true : (o : Option Bool) → says_unit o true ≡ has_true_value o
+  module _ (alike : KeepsSearchUpToUnits s.names n' (steps_in s) (steps_of p)) (valid : NamesInvariant n' (steps_of p)) where
+    says_true : (o : Option Bool) → is_unit_value o true ≡ has_true_value o
     says_true None = refl
     says_true (Some b) = refl
 
@@ -289,8 +289,8 @@ module _ {W L : Type 0} {G : Ghosts L} (seen : W → Writer) (s : Engine W L G) 
         go (Some v) e (Some w) f = value_same w (λ b. units user w b f) ∙ ap (value_in s.names values) (fresh.same user v w e f)
 
   -- the call over names succeeded
-  pub renamed : (judge : ScriptState → ScriptState) (due : ScriptState → List Expected) (IsAllowedStep : List Step → Step → Type 0) → OnlyAllowedSteps IsAllowedStep (steps_in s) (steps_of p) → NamesEffect s.names n' (steps_in s) (steps_of p) judge due → VariablesAreKeptOrNew s.names n' → KeepsUnits n' (steps_in s) (steps_of p) →
-      ((l v : ℕ) → Among l s.assumed.items → global_of s.names (variable l) ≡ Some v → global_of n' (variable l) ≡ Some v) → IsAlike s.names n' (steps_in s) (steps_of p) → ComesByCheckedSteps seen s.context.proof p →
+  pub renamed : (judge : ScriptState → ScriptState) (due : ScriptState → List Expected) (IsAllowedStep : List Step → Step → Type 0) → OnlyAllowedSteps IsAllowedStep (steps_in s) (steps_of p) → ChangesScriptState s.names n' (steps_in s) (steps_of p) judge due → VariablesAreKeptOrNew s.names n' → KeepsUnits n' (steps_in s) (steps_of p) →
+      ((l v : ℕ) → Among l s.assumed.items → global_of s.names (variable l) ≡ Some v → global_of n' (variable l) ≡ Some v) → KeepsSearchUpToUnits s.names n' (steps_in s) (steps_of p) → EmitsSomeChecked seen s.context.proof p →
       EngineNameCallEffect seen s (record s { context = record s.context { proof = p }; names = n'; used = true }) judge due IsAllowedStep
   renamed judge due IsAllowedStep comes does fresh units kept alike took = record {
     did = record { whole = whole_renamed s whole n' p does.valid kept alike (judged_by does whole.judged) took.1.taking; going = going; failed = going; used = refl; config = refl; does = does; took = (took.0, gains_adds seen took.0 s.context.proof p took.1); width = gained_width seen s.context.proof p took };
@@ -304,7 +304,7 @@ module _ {W L : Type 0} {G : Ghosts L} (seen : W → Writer) (s : Engine W L G) 
   }
 
 -- a call that changes modes failed
-pub mode_ends : {W L : Type 0} {G : Ghosts L} (seen : W → Writer) (e : SolverError) (s new : Engine W L G) (user : ℕ) (judge : ScriptState → ScriptState) (due : ScriptState → List Expected) (IsAllowedStep : List Step → Step → Type 0) → s.failed ≡ false → (EngineIsAsked s user → ⊥) → HasVariablesFor s.names (user ∷ []) → IsFault e → BreaksNames seen e s.context new.context → new.clock ≡ s.clock → new.failed ≡ true → EngineChangesMode seen (Err e) s new user judge due IsAllowedStep
+pub mode_ends : {W L : Type 0} {G : Ghosts L} (seen : W → Writer) (e : SolverError) (s new : Engine W L G) (user : ℕ) (judge : ScriptState → ScriptState) (due : ScriptState → List Expected) (IsAllowedStep : List Step → Step → Type 0) → s.failed ≡ false → (EngineIsAssumedName s user → ⊥) → HasVariablesFor s.names (user ∷ []) → IsFault e → NameStepsFail seen e s.context new.context → new.clock ≡ s.clock → new.failed ≡ true → EngineChangesMode seen (Err e) s new user judge due IsAllowedStep
 mode_ends seen errors.OutOfMemory s new user judge due IsAllowedStep g n r x b k f = (n, r, record { going = g; failed = f; fault = x; breaks = b; clock = k })
 mode_ends seen (errors.ProofIoError cause) s new user judge due IsAllowedStep g n r x b k f = (n, r, record { going = g; failed = f; fault = x; breaks = b; clock = k })
 mode_ends seen (errors.ProofProcessorError cause) s new user judge due IsAllowedStep g n r x b k f = (n, r, record { going = g; failed = f; fault = x; breaks = b; clock = k })
@@ -312,7 +312,7 @@ mode_ends seen errors.CounterEnd s new user judge due IsAllowedStep g n r x b k 
 mode_ends seen e s new user judge due IsAllowedStep g n r x b k f = absurd x
 
 -- a call that introduces names failed
-pub new_ends : {W L : Type 0} {G : Ghosts L} (seen : W → Writer) (e : SolverError) (s new : Engine W L G) → s.failed ≡ false → IsFault e → BreaksNames seen e s.context new.context → new.clock ≡ s.clock → new.failed ≡ true → EngineNamesFail seen e s new
+pub new_ends : {W L : Type 0} {G : Ghosts L} (seen : W → Writer) (e : SolverError) (s new : Engine W L G) → s.failed ≡ false → IsFault e → NameStepsFail seen e s.context new.context → new.clock ≡ s.clock → new.failed ≡ true → EngineObserveFails seen e s new
 new_ends seen errors.OutOfMemory s new g x b k f = record { going = g; failed = f; fault = x; breaks = b; clock = k }
 new_ends seen (errors.ProofIoError cause) s new g x b k f = record { going = g; failed = f; fault = x; breaks = b; clock = k }
 new_ends seen (errors.ProofProcessorError cause) s new g x b k f = record { going = g; failed = f; fault = x; breaks = b; clock = k }
@@ -320,7 +320,7 @@ new_ends seen errors.CounterEnd s new g x b k f = record { going = g; failed = f
 new_ends seen e s new g x b k f = absurd x
 
 -- a call for a new name failed
-pub new_fails : {W L : Type 0} {G : Ghosts L} (seen : W → Writer) (e : SolverError) (s new : Engine W L G) → s.failed ≡ false → (NoVariableLeft s.names → ⊥) → IsFault e → BreaksNames seen e s.context new.context → new.clock ≡ s.clock → new.failed ≡ true → NewFails seen e s new
+pub new_fails : {W L : Type 0} {G : Ghosts L} (seen : W → Writer) (e : SolverError) (s new : Engine W L G) → s.failed ≡ false → (NoVariableLeft s.names → ⊥) → IsFault e → NameStepsFail seen e s.context new.context → new.clock ≡ s.clock → new.failed ≡ true → EngineNewNameFails seen e s new
 new_fails seen errors.OutOfMemory s new g n x b k f = (n, record { going = g; failed = f; fault = x; breaks = b; clock = k })
 new_fails seen (errors.ProofIoError cause) s new g n x b k f = (n, record { going = g; failed = f; fault = x; breaks = b; clock = k })
 new_fails seen (errors.ProofProcessorError cause) s new g n x b k f = (n, record { going = g; failed = f; fault = x; breaks = b; clock = k })
@@ -328,7 +328,7 @@ new_fails seen errors.CounterEnd s new g n x b k f = (n, record { going = g; fai
 new_fails seen e s new g n x b k f = absurd x
 
 -- if a call failed for another reason, a variable was left
-pub one_left : {W : Type 0} (e : NameError) (old new : Variables) (from to : W) → (reported_as e ≡ errors.VariableLimit → ⊥) → Limits e old new from to → NoVariableLeft old → ⊥
+pub one_left : {W : Type 0} (e : NameError) (old new : Variables) (from to : W) → (error_of_name_call e ≡ errors.VariableLimit → ⊥) → FailsByVariableLimitOrFault e old new from to → NoVariableLeft old → ⊥
 one_left names.VariableLimit old new from to n h = absurd (n refl)
 one_left e old new from to n h = h
 
@@ -337,7 +337,7 @@ pub fault_left : (e : SolverError) → IsNameErrorOr ⊥ e → (e ≡ errors.Var
 fault_left e h n = elim h [ inl x ↦ x | inr q ↦ absurd (n q) ]
 
 -- the limit is reported for this error only
-pub reported_limit : (e : NameError) → reported_as e ≡ errors.VariableLimit → e ≡ names.VariableLimit
+pub reported_limit : (e : NameError) → error_of_name_call e ≡ errors.VariableLimit → e ≡ names.VariableLimit
 reported_limit names.VariableLimit h = refl
 reported_limit (names.Check checks.OutOfMemory) h = cc
 reported_limit e h = cc
@@ -353,7 +353,7 @@ pub next_name : {W L : Type 0} {G : Ghosts L} (s : Engine W L G) → SolverInvar
 next_name s whole user next j live agree = lowest_unused s.names (steps_in s) j live user whole.valid agree.judged next
 
 -- all hidden variables got names
-pub observed_all : {W L : Type 0} {G : Ghosts L} (seen : W → Writer) (s : Engine W L G) → SolverInvariant s → s.failed ≡ false → (n' : Variables) (p : Proof W L G) (users : List ℕ) (used : Bool) → used ≡ (s.used || not (eqb (length users) 0)) → NamesAllHidden s.names n' (steps_in s) (steps_of p) users → ComesByCheckedSteps seen s.context.proof p →
+pub observed_all : {W L : Type 0} {G : Ghosts L} (seen : W → Writer) (s : Engine W L G) → SolverInvariant s → s.failed ≡ false → (n' : Variables) (p : Proof W L G) (users : List ℕ) (used : Bool) → used ≡ (s.used || not (eqb (length users) 0)) → NamesAllHidden s.names n' (steps_in s) (steps_of p) users → EmitsSomeChecked seen s.context.proof p →
     EngineObserved seen s (record s { context = record s.context { proof = p }; names = n'; used = used }) users
 observed_all seen s whole going n' p users used opened all took = record {
   steps = record {

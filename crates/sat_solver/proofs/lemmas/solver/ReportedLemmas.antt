@@ -11,18 +11,18 @@ use Rattle.sat_solver.specs.declared.proof.ProofError.{ProofError}
 use Rattle.sat_solver.specs.declared.proof.ProofError.TheVariants.{Write, OutOfMemory, Check}
 use Rattle.sat_solver.specs.declared.error.SolverError.{SolverError}
 use Rattle.sat_solver.specs.declared.error.SolverError.TheVariants as errors
-use Rattle.sat_solver.specs.cdcl.Faults.{IsKept, NamesLoss}
-use Rattle.sat_solver.specs.cdcl.StepEffects.{EmitsUpToFault, proof_fault}
+use Rattle.sat_solver.specs.cdcl.Faults.{StoresError, MissesOnlyByFault}
+use Rattle.sat_solver.specs.cdcl.StepEffects.{EmitsUpToFault, error_of_proof}
 use Rattle.sat_solver.proofs.lemmas.cdcl.GoingLemmas.{complaint_kept}
 use Rattle.sat_solver.proofs.lemmas.session.ProofLemmas.{complains_now, gains_adds}
 use Rattle.sat_solver.specs.declared.context.Context.{Context}
 use Rattle.sat_solver.specs.declared.solver.Engine.{Engine}
 use Rattle.sat_solver.specs.solver.Answering.{EngineFlushFails}
 use Rattle.sat_solver.specs.solver.Calls.{EngineEndsInFailure, EngineSolves}
-use Rattle.sat_solver.specs.solver.Failing.{failed_with}
+use Rattle.sat_solver.specs.solver.FailedEngine.{failed_with}
 use Rattle.sat_solver.specs.solver.Proving.{EngineClosesProof}
-use Rattle.sat_solver.specs.solver.Settling.{AnswersOrBreaks}
-use Rattle.sat_solver.specs.solver.Taking.{BreaksNamesOr}
+use Rattle.sat_solver.specs.solver.SearchingForAnswer.{AnswersOrBreaks}
+use Rattle.sat_solver.specs.solver.AddingToSearch.{NameStepsFailOr}
 
 module _ {W L : Type 0} {G : Ghosts L} (seen : W → Writer) (p q : Proof W L G) where
   adds_reported : (steps : List Step) → EmitsExactly seen steps p q → EmitsExactly seen steps p (without_listener_error q)
@@ -41,7 +41,7 @@ module _ {W L : Type 0} {G : Ghosts L} (seen : W → Writer) (p q : Proof W L G)
   went_reported errors.CounterEnd steps h = check_reported _ steps h
   went_reported e steps h = adds_reported steps h
 
-  loss_reported : (e : SolverError) → NamesLoss e p q → NamesLoss e p (without_listener_error q)
+  loss_reported : (e : SolverError) → MissesOnlyByFault e p q → MissesOnlyByFault e p (without_listener_error q)
   loss_reported errors.Interrupted h = h
   loss_reported e h = h
 
@@ -54,7 +54,7 @@ module _ {W L : Type 0} {G : Ghosts L} (seen : W → Writer) (p q : Proof W L G)
 
 module _ {W L : Type 0} {G : Ghosts L} (seen : W → Writer) where
   -- a call over names failed
-  pub names_reported : {full : Type 0} (e : SolverError) (a : Context W L G) (s : Engine W L G) → BreaksNamesOr full seen e a s.context → BreaksNamesOr full seen e a (failed_with s).context
+  pub names_reported : {full : Type 0} (e : SolverError) (a : Context W L G) (s : Engine W L G) → NameStepsFailOr full seen e a s.context → NameStepsFailOr full seen e a (failed_with s).context
   names_reported e a s h = record { fault = h.fault; steps = h.steps; went = went_reported seen a.proof s.context.proof e h.steps h.went; loss = loss_reported seen a.proof s.context.proof e h.loss }
 
   module _ (s mid : Engine W L G) (going : s.failed ≡ false) where
@@ -84,14 +84,14 @@ module _ {W L : Type 0} {G : Ghosts L} (seen : W → Writer) where
     unchecked fault h = check_reported seen s.context.proof p fault (End ∷ []) (record { adds = h.0; why = (complains_now fault p (has_missed_step s.context.proof) taking h.1).0 })
 
     -- closing a proof failed
-    pub close_ends : (e : ProofError) → ClosesTarget {W = W} seen (Err e) s.context.proof p → EngineClosesProof seen (Err (proof_fault e)) s (failed_with closing)
+    pub close_ends : (e : ProofError) → ClosesTarget {W = W} seen (Err e) s.context.proof p → EngineClosesProof seen (Err (error_of_proof e)) s (failed_with closing)
     close_ends (Write cause) h = record { going = going; failed = refl; fails = fails_reported seen s.context.proof p _ h.0; clock = refl }
     close_ends OutOfMemory h = record { going = going; failed = refl; adds = inl (adds_reported seen s.context.proof p [] (gains_adds seen [] s.context.proof p h)); loss = inl h.taking; clock = refl }
     close_ends (Check checks.OutOfMemory) h = (let k = unchecked checks.OutOfMemory h in record { going = going; failed = refl; adds = inr k; loss = inr k.why; clock = refl })
     close_ends (Check checks.CounterEnd) h = record { going = going; failed = refl; fails = unchecked checks.CounterEnd h; clock = refl }
     close_ends (Check (checks.Processor cause)) h = record { going = going; failed = refl; fails = unchecked (checks.Processor cause) h; clock = refl }
 
-    pub close_kept : (e : ProofError) → ClosesTarget {W = W} seen (Err e) s.context.proof p → IsKept (proof_fault e) p
+    pub close_kept : (e : ProofError) → ClosesTarget {W = W} seen (Err e) s.context.proof p → StoresError (error_of_proof e) p
     close_kept (Write cause) h = h.1
     close_kept OutOfMemory h = tt
     close_kept (Check fault) h = complaint_kept fault p (complains_now fault p (has_missed_step s.context.proof) taking h.1).1

@@ -7,7 +7,7 @@ use Rattle.sat_base.specs.values.Literals.{variable}
 use Rattle.sat_base.specs.steps.Steps.{Step, Model, FailedAssumptions}
 use Rattle.sat_checker.specs.LiteralSets.{is_among}
 use Rattle.sat_checker.specs.declared.processing.ProofProcessor.{Ghosts}
-use Rattle.sat_solver.specs.proof.ProofView.{EmitsChecked, HasAllowedSteps, EmitsAsAnswered, steps_of, session_of}
+use Rattle.sat_solver.specs.proof.ProofView.{EmitsChecked, HasAllowedSteps, EmitResult, steps_of, session_of}
 use Rattle.sat_solver.specs.session.Session.{Session, AreAllowedSteps, after, session_after}
 use Rattle.sat_solver.specs.declared.proof.Proof.{Proof}
 use Rattle.sat_solver.specs.declared.proof.ProofError.{ProofError}
@@ -18,7 +18,7 @@ use Rattle.sat_solver.specs.session.Listed.{ChangesNoClause}
 use Rattle.sat_solver.proofs.lemmas.fits.AnswerParts.{parts_rests}
 use Rattle.sat_solver.specs.declared.error.SolverError.TheVariants as errors
 use Rattle.sat_solver.specs.assumptions.Core.{WritesCoreStep}
-use Rattle.sat_solver.specs.cdcl.StepEffects.{proof_fault}
+use Rattle.sat_solver.specs.cdcl.StepEffects.{error_of_proof}
 use Rattle.sat_solver.specs.cdcl.Joint.{assumed_indices, global_in, SearchInvariant, SameVarsAndAssumptions}
 use Rattle.sat_parts.specs.parts.Whole.{state}
 use Rattle.sat_parts.specs.parts.Words.{IsIdle}
@@ -31,7 +31,7 @@ use Rattle.sat_solver.specs.variables.Calls.{NamesInvariant}
 use Rattle.sat_solver.specs.declared.variables.Variables.{Variables}
 use Rattle.sat_solver.proofs.lemmas.variables.Searched.{searches_preserve_names}
 use Rattle.sat_solver.specs.solver.Joined.{NamesSearchInvariant, lit_over_names}
-use Rattle.sat_solver.specs.solver.Answering.{Shown, WritesFailedCore, EngineBreaksOff, model_of}
+use Rattle.sat_solver.specs.solver.Answering.{WritesModel, WritesFailedCore, CallFailsWithStoredError, model_of}
 use Rattle.sat_solver.proofs.lemmas.solver.ShownLemmas.{model_only}
 
 -- a step that changes neither clauses, units, names nor assumptions preserves the invariant of the search
@@ -69,7 +69,7 @@ module _ {W L : Type 0} {G : Ghosts L} (seen : W → Writer) (n : Variables) (a 
     reported = record a { proof = proof }
 
     -- the step of a model was accepted
-    pub model_shown : (ls : List ℕ) → ls ≡ model_of n a → EmitsChecked seen (Model ls ∷ []) a.proof proof → HasAllowedSteps proof → Shown seen n a reported
+    pub model_shown : (ls : List ℕ) → ls ≡ model_of n a → EmitsChecked seen (Model ls ∷ []) a.proof proof → HasAllowedSteps proof → WritesModel seen n a reported
     model_shown ls e adds keeps =
         let adds_model : EmitsChecked seen (Model (model_of n a) ∷ []) a.proof proof = subst (λ xs. EmitsChecked seen (Model xs ∷ []) a.proof proof) e adds in
         let may : AreAllowedSteps (Model (model_of n a) ∷ steps_of a.proof) = subst AreAllowedSteps adds_model.history keeps in
@@ -91,11 +91,11 @@ module _ {W L : Type 0} {G : Ghosts L} (seen : W → Writer) (n : Variables) (a 
         }
 
   -- memory ran out before anything was written
-  pub starved : EngineBreaksOff seen errors.OutOfMemory a a
+  pub starved : CallFailsWithStoredError seen errors.OutOfMemory a a
   starved = (record { fault = tt; steps = []; went = adds_none seen a.proof; loss = inl refl }, tt)
 
   -- writing or checking a step failed
-  pub broken : (e : ProofError) (step : Step) (proof : Proof W L G) → EmitsAsAnswered {T = Unit {0}} seen (Err e) (step ∷ []) a.proof proof → EngineBreaksOff seen (proof_fault e) a (record a { proof = proof })
+  pub broken : (e : ProofError) (step : Step) (proof : Proof W L G) → EmitResult {T = Unit {0}} seen (Err e) (step ∷ []) a.proof proof → CallFailsWithStoredError seen (error_of_proof e) a (record a { proof = proof })
   broken (Write cause) step proof fails = (record { fault = tt; steps = step ∷ []; went = fails.0; loss = tt }, fails.1)
   broken OutOfMemory step proof gains = (record { fault = tt; steps = []; went = gains_adds seen [] a.proof proof gains; loss = inl gains.taking }, tt)
   broken (Check fault) step proof fails = (record { fault = fault_checked _ fault; steps = step ∷ []; went = went_checked seen (Unit {0}) fault (step ∷ []) a.proof proof fails.0; loss = check_loss fault a.proof proof fails.0.why }, complaint_kept fault proof fails.1)

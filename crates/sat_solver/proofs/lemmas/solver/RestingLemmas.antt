@@ -4,7 +4,7 @@ use Rattle.sat_checker.specs.declared.processing.ProofProcessor.{Ghosts}
 use Rattle.sat_parts.specs.prop.Values.{IsTrueLit}
 use Rattle.sat_solver.specs.proof.ProofView.{session_of}
 use Rattle.sat_solver.proofs.lemmas.session.NamedLemmas.{named_unsat_is_right}
-use Rattle.sat_checker.specs.matching.Checking.{variable_of}
+use Rattle.sat_checker.specs.matching.Checking.{variable_named}
 use Rattle.sat_solver.specs.declared.solver.Engine.{Engine}
 use Rattle.sat_solver.specs.declared.state.SatState.TheVariants as states
 use Rattle.sat_solver.specs.solver.Whole.{SolverInvariant, HoldsInState, steps_in, engine_line}
@@ -48,7 +48,7 @@ module _ {W L : Type 0} {G : Ghosts L} (s : Engine W L G) (whole : SolverInvaria
     core_is = e ∙ sym (ap (λ st. engine_core_for st s) state);
     right = subst (EngineIsRightCore s) (sym e) (λ j live agree. record {
       among = tt;
-      none = (named_unsat_is_right j (variable_of (steps_in s)) (steps_in s) [] (means_of s.names (steps_in s) j live agree) whole.valid.may says).none;
+      none = (named_unsat_is_right j (variable_named (steps_in s)) (steps_in s) [] (means_of s.names (steps_in s) j live agree) whole.valid.may says).none;
     });
   })
     where

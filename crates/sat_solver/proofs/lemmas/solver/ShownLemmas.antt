@@ -9,7 +9,7 @@ use Rattle.sat_checker.specs.LiteralSets.{is_among, mentions}
 use Rattle.sat_checker.specs.Accepts.{VariablesDistinct}
 use Rattle.sat_checker.proofs.lemmas.sets.Order.{among-append}
 use Rattle.sat_solver.specs.session.LiveClauses.{with_var}
-use Rattle.sat_solver.specs.session.Session.{Session, IsAllowedStep, MayWriteModel}
+use Rattle.sat_solver.specs.session.Session.{Session, IsAllowedStep, CanWriteModel}
 use Rattle.sat_solver.specs.declared.context.Search.{Search}
 use Rattle.sat_solver.specs.cdcl.Joint.{global_in, SearchInvariant}
 use Rattle.sat_solver.specs.cdcl.Showing.{true_lits}
@@ -18,7 +18,7 @@ use Rattle.sat_solver.proofs.lemmas.cdcl.ShowingLemmas.{are_true_lits, complete_
 use Rattle.sat_solver.proofs.lemmas.fits.CodeLemmas.{coded_by}
 use Rattle.sat_solver.proofs.lemmas.variables.ModeChanges.{live_within}
 use Rattle.sat_solver.proofs.lemmas.cdcl.TurnLemmas.{ready_names}
-use Rattle.sat_solver.specs.variables.Variables.{VariablesInvariant, NamesMatchSteps, data_at, solver_of, variables_used, says_unit}
+use Rattle.sat_solver.specs.variables.Variables.{VariablesInvariant, NamesMatchSteps, data_at, solver_of, variables_used, is_unit_value}
 use Rattle.sat_solver.specs.variables.Shared.{SharesIndices}
 use Rattle.sat_solver.specs.Models.{has_true_value, value_by, value_in, literal_in, model_to}
 use Rattle.sat_solver.specs.declared.variables.Variables.{Variables}
@@ -151,7 +151,7 @@ mapped_back f (l ∷ ls) y h = elim (or_cases (eqb (f l) y) (is_among (map f ls)
   | inr k ↦ (let m = mapped_back f ls y k in (m.0, or_right (eqb l m.0) (is_among ls m.0) m.1, m.2))
 ]
 
-unit_value : (unit : Option Bool) (b : Bool) → says_unit unit b ≡ true → has_true_value unit ≡ b
+unit_value : (unit : Option Bool) (b : Bool) → is_unit_value unit b ≡ true → has_true_value unit ≡ b
 unit_value None b h = absurd (true≢false (sym h))
 unit_value (Some value) true h = h
 unit_value (Some true) false h = absurd (true≢false (sym h))
@@ -212,7 +212,7 @@ module _ (n : Variables) (s : Session) (c : Search) (tidy : VariablesInvariant n
 
   pub shown_may : IsComplete c.assumptions.lits.items c.parts → IsAllowedStep s (Model (model_to n values (variables_used n)))
   shown_may complete =
-      let base : MayWriteModel s (map (with_var (global_in c)) (true_lits 0 values)) = complete_may s c search complete in
+      let base : CanWriteModel s (map (with_var (global_in c)) (true_lits 0 values)) = complete_may s c search complete in
       record {
         consistent = base.consistent;
         apart = model_apart n values (variables_used n);

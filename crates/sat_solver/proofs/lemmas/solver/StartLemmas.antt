@@ -4,7 +4,7 @@ use Rattle.std.proofs.lemmas.Bool.{true≢false}
 use Rattle.std.proofs.lemmas.List.{get_or_past}
 use Rattle.std.proofs.lemmas.Option.{none-some}
 use Rattle.sat_base.specs.script.ScriptState.{initial_state}
-use Rattle.sat_checker.specs.Stored.{unknown}
+use Rattle.sat_checker.specs.Stored.{initial_variable}
 use Rattle.sat_store.specs.declared.data.VarData.{VarData}
 use Rattle.sat_store.specs.variables.VarData.{unused_variable}
 use Rattle.sat_checker.specs.declared.processing.ProofProcessor.{Ghosts}
@@ -13,9 +13,9 @@ use Rattle.sat_solver.specs.session.Session.{empty_session, AreAllowedSteps, ses
 use Rattle.sat_solver.specs.declared.variables.Variables.{Variables}
 use Rattle.sat_solver.specs.declared.load.literals.MappedLits.{MappedLits}
 use Rattle.sat_solver.specs.declared.context.Context.{Context}
-use Rattle.sat_solver.specs.clause.Activity.{AreDecays}
+use Rattle.sat_solver.specs.clause.Activity.{DecaysAreInRange}
 use Rattle.sat_solver.specs.cdcl.Joint.{SearchInvariant}
-use Rattle.sat_solver.specs.variables.Variables.{VariablesInvariant, NamesMatchSteps, says_unit, checker_mode, user_of, data_at, global_of, solver_of, names_used, variables_used}
+use Rattle.sat_solver.specs.variables.Variables.{VariablesInvariant, NamesMatchSteps, is_unit_value, checker_mode, user_of, data_at, global_of, solver_of, names_used, variables_used}
 use Rattle.sat_solver.specs.variables.Live.{given_of}
 use Rattle.sat_solver.specs.variables.Calls.{NamesInvariant, NamesAgree, HasScriptState}
 use Rattle.sat_checker.specs.matching.ProofChecking.{checker_rules}
@@ -45,14 +45,14 @@ module _ (n : Variables) (tidy : VariablesInvariant n) (none : variables_used n 
   names_none : names_used n ≡ 0
   names_none = (let r = tidy.reach in omega (arith, none))
 
-  variable_first : (v : ℕ) (d : VarData) → d ≡ unused_variable → unknown ≡ cond d.deleted unknown (record { known = true; mode = checker_mode d.sampling_mode; name = user_of n v })
-  variable_first v d e = subst (λ (x : VarData). unknown ≡ cond x.deleted unknown (record { known = true; mode = checker_mode x.sampling_mode; name = user_of n v })) (sym e) refl
+  variable_first : (v : ℕ) (d : VarData) → d ≡ unused_variable → initial_variable ≡ cond d.deleted initial_variable (record { known = true; mode = checker_mode d.sampling_mode; name = user_of n v })
+  variable_first v d e = subst (λ (x : VarData). initial_variable ≡ cond x.deleted initial_variable (record { known = true; mode = checker_mode x.sampling_mode; name = user_of n v })) (sym e) refl
 
   said : NamesMatchSteps n empty_session
   said = record {
     variables = λ v. variable_first v (data_at n v) (unused v);
     solver_names = λ v. sym (no_index v);
-    units = λ v e b. ap (λ d. says_unit d.unit b) (sym (unused v));
+    units = λ v e b. ap (λ d. is_unit_value d.unit b) (sym (unused v));
     unused = λ v e r set lt. absurd (omega arith);
     marked = λ v. ap (λ d. d.assumed) (sym (unused v));
   }
@@ -93,7 +93,7 @@ module _ (n : Variables) (tidy : VariablesInvariant n) (none : variables_used n 
 
   -- a solver without steps satisfies its invariant
   pub whole_first : {W L : Type 0} {G : Ghosts L} (c : Context W L G) (asked : MappedLits) (assumed core : List ℕ) (scale : ℕ) → steps_of c.proof ≡ [] → SearchInvariant empty_session c.search → c.search.parts.assignment.current ≡ [] → c.search.globals.items ≡ [] →
-      0 < c.config.reduce_locals_interval → 0 < c.config.reduce_mids_interval → asked.order.items ≡ [] → asked.globals.items ≡ [] → assumed ≡ [] → 0 < scale → scale ≡ c.config.luby_restart_interval_scale → AreDecays c.config → has_missed_step c.proof ≡ false → SolverPartsInvariant c n asked assumed core scale states.Unknown
+      0 < c.config.reduce_locals_interval → 0 < c.config.reduce_mids_interval → asked.order.items ≡ [] → asked.globals.items ≡ [] → assumed ≡ [] → 0 < scale → scale ≡ c.config.luby_restart_interval_scale → DecaysAreInRange c.config → has_missed_step c.proof ≡ false → SolverPartsInvariant c n asked assumed core scale states.Unknown
   whole_first c asked assumed core scale steps search values globals locals mids order asked_globals none_assumed positive scaled decays taking = record {
     valid = valid;
     images = record { count = ap (λ xs. length xs) order ∙ sym (ap (λ xs. length xs) none_assumed); each = λ k lt. absurd (let z : k < 0 = subst (λ (xs : List ℕ). k < length xs) none_assumed lt in omega arith) };

@@ -13,8 +13,8 @@ use Rattle.sat_checker.specs.declared.processing.ProofProcessor.{Ghosts}
 use Rattle.sat_solver.specs.declared.proof.emitted.CheckFault.TheVariants as checks
 use Rattle.sat_solver.specs.proof.ProofView.{HasAllowedSteps, has_missed_step, steps_of, session_of}
 use Rattle.sat_solver.specs.session.Session.{Session, AreAllowedSteps, session_after}
-use Rattle.sat_solver.specs.session.Making.{ComesBySteps, ComesByCheckedSteps}
-use Rattle.sat_solver.specs.variables.Taking.{StepNotAccepted}
+use Rattle.sat_solver.specs.session.Emitting.{EmitsSomeSteps, EmitsSomeChecked}
+use Rattle.sat_solver.specs.variables.StepFailures.{StepNotAccepted}
 use Rattle.sat_solver.specs.declared.proof.Proof.{Proof}
 use Rattle.sat_solver.proofs.lemmas.session.ProofLemmas.{gains_none, gains_adds, gains_more}
 use Rattle.sat_solver.proofs.lemmas.cdcl.GoingLemmas.{check_loss, complaint_kept, loss_later, went_after, went_checked, went_failing, fault_checked}
@@ -22,22 +22,22 @@ use Rattle.sat_solver.specs.declared.error.SolverError.{SolverError}
 use Rattle.sat_solver.specs.declared.error.SolverError.TheVariants as errors
 use Rattle.sat_solver.specs.declared.variables.error.NameError.{NameError}
 use Rattle.sat_solver.specs.declared.variables.error.NameError.TheVariants as names
-use Rattle.sat_solver.specs.variables.Failing.{IsFailure, EmitsUpTo}
-use Rattle.sat_solver.specs.load.Faults.{reported_as}
+use Rattle.sat_solver.specs.variables.NameFailures.{IsFailure, EmitsUpTo}
+use Rattle.sat_solver.specs.load.Faults.{error_of_name_call}
 use Rattle.sat_solver.specs.declared.context.Context.{Context}
 use Rattle.sat_solver.specs.declared.context.Search.{Search}
-use Rattle.sat_parts.specs.parts.Full.{IsFull}
+use Rattle.sat_parts.specs.parts.Full.{IsBufferFull}
 use Rattle.sat_solver.specs.cdcl.StepEffects.{IsFault, IsFaultOr, EmitsStepsOr}
 use Rattle.sat_solver.specs.cdcl.Joint.{global_in, SearchInvariant}
 use Rattle.sat_solver.proofs.lemmas.cdcl.AskedLemmas.{asked_after, kinds_of}
-use Rattle.sat_solver.specs.load.Literals.{user_literal, Image}
+use Rattle.sat_solver.specs.load.Literals.{user_literal, IsImage}
 use Rattle.sat_solver.specs.load.Clauses.{IntroducesClause}
 use Rattle.sat_solver.specs.load.Assumed.{IntroducesAssumptions}
 use Rattle.sat_solver.specs.declared.config.SolverConfig.{SolverConfig}
 use Rattle.sat_solver.specs.session.LiveClauses.{with_var}
 use Rattle.sat_parts.specs.parts.Assumed.{HaveVariablesIn}
-use Rattle.sat_solver.specs.variables.Calls.{NamesInvariant, NamesEffect}
-use Rattle.sat_checker.specs.matching.Expected.{Unknown, Adds, introducing}
+use Rattle.sat_solver.specs.variables.Calls.{NamesInvariant, ChangesScriptState}
+use Rattle.sat_checker.specs.matching.Expected.{Unknown, Adds, steps_introducing}
 use Rattle.sat_solver.specs.variables.Refusing.{names_in}
 use Rattle.sat_solver.specs.variables.Naming.{ExtendsNames}
 use Rattle.sat_solver.specs.variables.Search.{GivesIndices}
@@ -53,11 +53,11 @@ use Rattle.sat_solver.proofs.lemmas.load.LoadingLemmas.{asked_added}
 use Rattle.sat_solver.proofs.lemmas.load.SharedLemmas.{gives_names, given_vacant, shares_given, AreOver, over_below, over_named, over_same}
 use Rattle.sat_solver.proofs.lemmas.load.TakenLemmas.{added_names, images_over, taken_may, taken_added}
 use Rattle.sat_solver.specs.solver.Joined.{NamesSearchInvariant}
-use Rattle.sat_solver.specs.solver.Taking.{KeepImages, NamesSearchInvariantOrUnsat, TookClause, TookAssumptions, TakesClause, BreaksNamesOff, BreaksNamesOr}
+use Rattle.sat_solver.specs.solver.AddingToSearch.{KeepsImages, NamesSearchInvariantOrUnsat, ClauseAddedToSearch, AssumptionsSetInSearch, AddsClauseToSearch, NameStepsFailWithStoredError, NameStepsFailOr}
 use Rattle.sat_solver.proofs.lemmas.solver.SpeltLemmas.{global_images_of}
 use Rattle.sat_solver.specs.variables.NamingSteps.{IsClauseStep}
 use Rattle.sat_solver.specs.variables.Ordering.{AddsInOrder, IsInIndexOrder}
-use Rattle.sat_solver.specs.session.AllowedSteps.{OnlyAllowedSteps, DeletesAdded}
+use Rattle.sat_solver.specs.session.AllowedSteps.{OnlyAllowedSteps, DeletesJustAdded}
 use Rattle.sat_solver.proofs.lemmas.session.ComingLemmas.{comes_both}
 use Rattle.sat_solver.proofs.lemmas.variables.ComingSteps.{comes_added, comes_deleted}
 use Rattle.sat_solver.proofs.lemmas.solver.AfterLemmas.{does_after}
@@ -66,11 +66,11 @@ use Rattle.sat_solver.proofs.lemmas.solver.ReportingLemmas.{shares_moved}
 -- FAULTS
 
 -- no step was made
-pub none_took : {W L : Type 0} {G : Ghosts L} (seen : W → Writer) (p : Proof W L G) → ComesByCheckedSteps seen p p
+pub none_took : {W L : Type 0} {G : Ghosts L} (seen : W → Writer) (p : Proof W L G) → EmitsSomeChecked seen p p
 none_took seen p = ([], gains_none seen p)
 
 -- a failure of a call over names, as the solver reports it
-pub reported_fails : (e : NameError) → IsFailure e → IsFault (reported_as e)
+pub reported_fails : (e : NameError) → IsFailure e → IsFault (error_of_name_call e)
 reported_fails names.VariableLimit h = absurd h
 reported_fails (names.Check checks.OutOfMemory) h = tt
 reported_fails e h = tt
@@ -85,21 +85,21 @@ fault_ends seen (Err e) p q P goes = goes.ends
 
 module _ {W L : Type 0} {G : Ghosts L} (seen : W → Writer) (a b : Context W L G) where
   -- a call over names failed
-  pub names_broke : {full : Type 0} (e : NameError) → EmitsUpTo (ComesByCheckedSteps seen) (StepNotAccepted seen) a.proof e b.proof → BreaksNamesOff full seen (reported_as e) a b
+  pub names_broke : {full : Type 0} (e : NameError) → EmitsUpTo (EmitsSomeChecked seen) (StepNotAccepted seen) a.proof e b.proof → NameStepsFailWithStoredError full seen (error_of_name_call e) a b
   names_broke names.VariableLimit h = (record { fault = inr refl; steps = h.0; went = gains_adds seen h.0 a.proof b.proof h.1; loss = h.1.taking }, tt)
   names_broke names.OutOfMemory h = (record { fault = inl tt; steps = h.0; went = gains_adds seen h.0 a.proof b.proof h.1; loss = inl h.1.taking }, tt)
   names_broke (names.Write cause) h = (record { fault = inl tt; steps = h.0.0; went = h.0.1; loss = tt }, h.1)
   names_broke (names.Check fault) h = (record { fault = inl (fault_checked _ fault); steps = h.0; went = went_checked seen (Unit {0}) fault h.0 a.proof b.proof h.1; loss = check_loss fault a.proof b.proof h.1.why }, complaint_kept fault b.proof h.2)
 
   -- memory ran out after steps were made
-  pub took_starved : {full : Type 0} → ComesBySteps seen a.proof b.proof → has_missed_step b.proof ≡ has_missed_step a.proof → BreaksNamesOr full seen errors.OutOfMemory a b
+  pub took_starved : {full : Type 0} → EmitsSomeSteps seen a.proof b.proof → has_missed_step b.proof ≡ has_missed_step a.proof → NameStepsFailOr full seen errors.OutOfMemory a b
   took_starved h taking = record { fault = inl tt; steps = h.0; went = h.1; loss = inl taking }
 
-  pub names_starved : {full : Type 0} → ComesByCheckedSteps seen a.proof b.proof → BreaksNamesOff full seen errors.OutOfMemory a b
+  pub names_starved : {full : Type 0} → EmitsSomeChecked seen a.proof b.proof → NameStepsFailWithStoredError full seen errors.OutOfMemory a b
   names_starved h = (took_starved (h.0, gains_adds seen h.0 a.proof b.proof h.1) h.1.taking, tt)
 
   -- the search failed after the call over names
-  pub load_broke : {A full : Type 0} (e : SolverError) (p : Proof W L G) (P : A → List Step → Type 0) → ComesByCheckedSteps seen a.proof p → EmitsStepsOr {A = A} full seen (Err e) p b.proof P → BreaksNamesOff full seen e a b
+  pub load_broke : {A full : Type 0} (e : SolverError) (p : Proof W L G) (P : A → List Step → Type 0) → EmitsSomeChecked seen a.proof p → EmitsStepsOr {A = A} full seen (Err e) p b.proof P → NameStepsFailWithStoredError full seen e a b
   load_broke {A} {full} e p P h goes = (
     record {
       fault = inl goes.ends;
@@ -111,10 +111,10 @@ module _ {W L : Type 0} {G : Ghosts L} (seen : W → Writer) (a b : Context W L 
   )
 
 -- names that keep their variables and indices keep their search literals
-keep_images : (n n' : Variables) (s : Session) (gs : _) → ExtendsNames n n' → GivesIndices n n' s gs → KeepImages n n'
+keep_images : (n n' : Variables) (s : Session) (gs : _) → ExtendsNames n n' → GivesIndices n n' s gs → KeepsImages n n'
 keep_images n n' s gs extends gives user order i = record {
   count = i.count;
-  each = λ k lt. let x : Image n (get_or user k 0) (get_or order k 0) = i.each k lt in
+  each = λ k lt. let x : IsImage n (get_or user k 0) (get_or order k 0) = i.each k lt in
       record { variable_is = x.variable_is; index_is = x.index_is; named = (extends.stays (variable (get_or user k 0)) x.variable_is x.named).0; indexed = gives.stays x.variable_is x.index_is x.indexed; is = x.is };
 }
 
@@ -123,7 +123,7 @@ keep_images n n' s gs extends gives user order i = record {
 same_rest : (x y : Step) (xs ys : List Step) → x ∷ xs ≡ y ∷ ys → xs ≡ ys
 same_rest x y xs ys e = cc
 
-module _ {W L : Type 0} {G : Ghosts L} (seen : W → Writer) (n n' : Variables) (a : Context W L G) (joined : NamesSearchInvariant n a) (user : List ℕ) (t : MappedLits) (both : Bool) (p : Proof W L G) (adds : IntroducesClause n n' (steps_of a.proof) (steps_of p) user t both) (took : ComesByCheckedSteps seen a.proof p) (keeps : HasAllowedSteps p) where
+module _ {W L : Type 0} {G : Ghosts L} (seen : W → Writer) (n n' : Variables) (a : Context W L G) (joined : NamesSearchInvariant n a) (user : List ℕ) (t : MappedLits) (both : Bool) (p : Proof W L G) (adds : IntroducesClause n n' (steps_of a.proof) (steps_of p) user t both) (took : EmitsSomeChecked seen a.proof p) (keeps : HasAllowedSteps p) where
   abbrev pub between : Session
   between = session_after adds.between
 
@@ -184,7 +184,7 @@ module _ {W L : Type 0} {G : Ghosts L} (seen : W → Writer) (n n' : Variables) 
     }
 
     -- a tautology is written and not loaded
-    pub clause_both : both ≡ true → TookClause seen n n' a (record a { proof = p; search = c1 }) user true
+    pub clause_both : both ≡ true → ClauseAddedToSearch seen n n' a (record a { proof = p; search = c1 }) user true
     clause_both e = record {
       does = adds.does;
       comes = comes_added (names_in user) (steps_of a.proof) (steps_of p) adds.comes;
@@ -200,13 +200,13 @@ module _ {W L : Type 0} {G : Ghosts L} (seen : W → Writer) (n n' : Variables) 
     }
 
     -- any other clause is loaded
-    module _ (left : Bool) (q : Proof W L G) (c2 : Search) (goes : EmitsStepsOr (IsFull c2.parts) seen (Ok left) p q (λ l _. IsLoaded l (session_of q) c1 c2)) (deletes : OnlyAllowedSteps DeletesAdded (steps_of p) (steps_of q)) where
+    module _ (left : Bool) (q : Proof W L G) (c2 : Search) (goes : EmitsStepsOr (IsBufferFull c2.parts) seen (Ok left) p q (λ l _. IsLoaded l (session_of q) c1 c2)) (deletes : OnlyAllowedSteps DeletesJustAdded (steps_of p) (steps_of q)) where
       abbrev pub new : Context W L G
       new = record a { proof = q; search = c2 }
 
-      does2 : NamesEffect n n' (steps_of a.proof) (steps_of q) (λ j. with_clause (map user_literal user) (introduce_all (names_in user) j)) (λ j. introducing (names_in user) j ++ (Adds (map user_literal user) ∷ []))
-      does2 = subst (λ ss. NamesEffect n n' (steps_of a.proof) ss (λ j. with_clause (map user_literal user) (introduce_all (names_in user) j)) (λ j. introducing (names_in user) j ++ (Adds (map user_literal user) ∷ []))) (sym goes.went.history)
-          (does_after n n' (steps_of a.proof) (steps_of p) goes.steps (λ j. with_clause (map user_literal user) (introduce_all (names_in user) j)) (λ j. introducing (names_in user) j ++ (Adds (map user_literal user) ∷ []))
+      does2 : ChangesScriptState n n' (steps_of a.proof) (steps_of q) (λ j. with_clause (map user_literal user) (introduce_all (names_in user) j)) (λ j. steps_introducing (names_in user) j ++ (Adds (map user_literal user) ∷ []))
+      does2 = subst (λ ss. ChangesScriptState n n' (steps_of a.proof) ss (λ j. with_clause (map user_literal user) (introduce_all (names_in user) j)) (λ j. steps_introducing (names_in user) j ++ (Adds (map user_literal user) ∷ []))) (sym goes.went.history)
+          (does_after n n' (steps_of a.proof) (steps_of p) goes.steps (λ j. with_clause (map user_literal user) (introduce_all (names_in user) j)) (λ j. steps_introducing (names_in user) j ++ (Adds (map user_literal user) ∷ []))
           adds.does (subst AreAllowedSteps goes.went.history goes.keeps) goes.searched)
 
       goes_on2 : (l : Bool) → IsLoaded l (session_of q) c1 c2 → NamesSearchInvariantOrUnsat l n' new
@@ -217,7 +217,7 @@ module _ {W L : Type 0} {G : Ghosts L} (seen : W → Writer) (n n' : Variables) 
       }
       goes_on2 false loaded = loaded.goes_on
 
-      pub clause_loaded : TookClause seen n n' a new user left
+      pub clause_loaded : ClauseAddedToSearch seen n n' a new user left
       clause_loaded = record {
         does = does2;
         comes = comes_both (IsClauseStep (names_in user)) (steps_of a.proof) (steps_of p) (steps_of q) (comes_added (names_in user) (steps_of a.proof) (steps_of p) adds.comes) (comes_deleted (names_in user) (steps_of p) (steps_of q) deletes);
@@ -232,13 +232,13 @@ module _ {W L : Type 0} {G : Ghosts L} (seen : W → Writer) (n n' : Variables) 
       }
 
     -- loading the clause may fail
-    pub clause_result : (r : Result Bool SolverError) (q : Proof W L G) (c2 : Search) → EmitsStepsOr (IsFull c2.parts) seen r p q (λ l _. IsLoaded l (session_of q) c1 c2) → OnOk r (OnlyAllowedSteps DeletesAdded (steps_of p) (steps_of q)) → TakesClause seen r n n' a (record a { proof = q; search = c2 }) user
+    pub clause_result : (r : Result Bool SolverError) (q : Proof W L G) (c2 : Search) → EmitsStepsOr (IsBufferFull c2.parts) seen r p q (λ l _. IsLoaded l (session_of q) c1 c2) → OnOk r (OnlyAllowedSteps DeletesJustAdded (steps_of p) (steps_of q)) → AddsClauseToSearch seen r n n' a (record a { proof = q; search = c2 }) user
     clause_result (Ok left) q c2 goes deletes = clause_loaded left q c2 goes deletes
     clause_result (Err e) q c2 goes deletes = load_broke seen a (record a { proof = q; search = c2 }) e p (λ l _. IsLoaded l (session_of q) c1 c2) took goes
 
 -- ASSUMPTIONS
 
-module _ {W L : Type 0} {G : Ghosts L} (seen : W → Writer) (n n' : Variables) (a : Context W L G) (joined : NamesSearchInvariant n a) (user : List ℕ) (t : MappedLits) (p : Proof W L G) (assumes : IntroducesAssumptions n n' (steps_of a.proof) (steps_of p) user t) (took : ComesByCheckedSteps seen a.proof p) (keeps : HasAllowedSteps p) where
+module _ {W L : Type 0} {G : Ghosts L} (seen : W → Writer) (n n' : Variables) (a : Context W L G) (joined : NamesSearchInvariant n a) (user : List ℕ) (t : MappedLits) (p : Proof W L G) (assumes : IntroducesAssumptions n n' (steps_of a.proof) (steps_of p) user t) (took : EmitsSomeChecked seen a.proof p) (keeps : HasAllowedSteps p) where
   abbrev pub asked_between : Session
   asked_between = session_after assumes.between
 
@@ -262,7 +262,7 @@ module _ {W L : Type 0} {G : Ghosts L} (seen : W → Writer) (n n' : Variables) 
     pub asked_there : HaveVariablesIn t.order.items c1.parts
     asked_there = over_below n' c1 t.order.items shares_asked over_order
 
-    pub asked_taken : (c2 : Search) → ReplacesAssumed t.order.items c1 c2 → TookAssumptions seen n n' a (record a { proof = p; search = c2 }) user t
+    pub asked_taken : (c2 : Search) → ReplacesAssumed t.order.items c1 c2 → AssumptionsSetInSearch seen n n' a (record a { proof = p; search = c2 }) user t
     asked_taken c2 assumed = record {
       does = assumes.does;
       comes = assumes.comes;

@@ -4,7 +4,7 @@ use Rattle.std.proofs.lemmas.Bool.{cases_eq, ne_eqb, eq-eqb}
 use Rattle.std.proofs.lemmas.List.{append-nil}
 use Rattle.std.specs.List.{Contains}
 use Rattle.sat_store.specs.clause.Buffer.{lits_at}
-use Rattle.sat_parts.specs.clause.Db.{without}
+use Rattle.sat_parts.specs.clause.Db.{without_ref}
 use Rattle.sat_parts.specs.clause.Orders.{AreDistinct}
 use Rattle.sat_parts.proofs.lemmas.clause.ListLemmas.{in_tail, in_head, there, at_place}
 use Rattle.sat_solver.specs.session.LiveClauses.{LiveClause}
@@ -48,14 +48,14 @@ pub record Splits (os : List ℕ) (o : ℕ) : Type 0 where
   pub front : List ℕ
   pub back : List ℕ
   pub was : os ≡ front ++ o ∷ back
-  pub left : without o os ≡ front ++ back
+  pub left : without_ref o os ≡ front ++ back
   pub in_front : (p : ℕ) → Contains front p → Contains os p × (p ≢ o)
   pub in_back : (p : ℕ) → Contains back p → Contains os p × (p ≢ o)
 
-none_without : (os : List ℕ) (o : ℕ) → ((p : ℕ) → Contains os p → p ≢ o) → without o os ≡ os
+none_without : (os : List ℕ) (o : ℕ) → ((p : ℕ) → Contains os p → p ≢ o) → without_ref o os ≡ os
 none_without [] o n = refl
 none_without (p ∷ os) o n =
-    ap (λ b. cond (not b) (p ∷ without o os) (without o os)) (ne_eqb p o (n p (0, omega arith, refl)))
+    ap (λ b. cond (not b) (p ∷ without_ref o os) (without_ref o os)) (ne_eqb p o (n p (0, omega arith, refl)))
     ∙ ap (λ qs. p ∷ qs) (none_without os o (λ q c. n q (in_tail p os q c)))
 
 front_or_rest : (x : ℕ) (xs : List ℕ) (p : ℕ) → Contains (x ∷ xs) p → (x ≡ p) ⊎ Contains xs p
@@ -71,7 +71,7 @@ splits (p ∷ os) o d c = elim (cases_eq p o) [
         front = [];
         back = os;
         was = ap (λ q. q ∷ os) e;
-        left = ap (λ b. cond (not b) (p ∷ without o os) (without o os)) (eq-eqb p o e) ∙ none_without os o others;
+        left = ap (λ b. cond (not b) (p ∷ without_ref o os) (without_ref o os)) (eq-eqb p o e) ∙ none_without os o others;
         in_front = λ q k. (let z : k.0 < 0 = k.1 in absurd (omega arith));
         in_back = λ q k. (in_tail p os q k, others q k);
       }
@@ -81,7 +81,7 @@ splits (p ∷ os) o d c = elim (cases_eq p o) [
         front = p ∷ x.front;
         back = x.back;
         was = ap (λ qs. p ∷ qs) x.was;
-        left = ap (λ b. cond (not b) (p ∷ without o os) (without o os)) (ne_eqb p o n) ∙ ap (λ qs. p ∷ qs) x.left;
+        left = ap (λ b. cond (not b) (p ∷ without_ref o os) (without_ref o os)) (ne_eqb p o n) ∙ ap (λ qs. p ∷ qs) x.left;
         in_front = λ q k. elim (front_or_rest p x.front q k) [
           | inl e ↦ subst (λ z. Contains (p ∷ os) z × (z ≢ o)) e (in_head p os, n)
           | inr r ↦ let y = x.in_front q r in (in_tail p os q y.0, y.1)
@@ -91,7 +91,7 @@ splits (p ∷ os) o d c = elim (cases_eq p o) [
 ]
 
 -- a long clause is deleted
-pub long_goes : (r : ℕ → Bool) (words os : List ℕ) (o : ℕ) → AreDistinct os → Contains os o → InsertsClause (longs r words (without o os)) (longs r words os) (record { redundant = r o; literals = lits_at words o })
+pub long_goes : (r : ℕ → Bool) (words os : List ℕ) (o : ℕ) → AreDistinct os → Contains os o → InsertsClause (longs r words (without_ref o os)) (longs r words os) (record { redundant = r o; literals = lits_at words o })
 long_goes r words os o d c =
     let x : Splits os o = splits os o d c in
     record {

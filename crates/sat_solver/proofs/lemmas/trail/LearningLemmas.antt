@@ -8,7 +8,7 @@ use Rattle.sat_checker.specs.SortedSets.{NoRepeats}
 use Rattle.sat_checker.proofs.lemmas.sets.Canonical.{canonical_among, canonical_increasing, same_increasing}
 use Rattle.sat_parts.specs.prop.Binaries.{Binaries, with_binary}
 use Rattle.sat_solver.specs.session.Session.{Session, after}
-use Rattle.sat_solver.specs.session.LiveClauses.{LiveClause, with_var, AreMapped, AreOf}
+use Rattle.sat_solver.specs.session.LiveClauses.{LiveClause, with_var, AreMapped, AreLiveClausesOf}
 use Rattle.sat_solver.proofs.lemmas.session.Mapped.{once_mapped}
 use Rattle.sat_solver.proofs.lemmas.session.StepsOfClauses.{derived_comes_as}
 use Rattle.sat_solver.specs.session.SolverClauses.{pair, binaries, InsertsClause}
@@ -30,15 +30,15 @@ turned_set x y = same_increasing (canonical (x ∷ y ∷ [])) (canonical (y ∷ 
 module _ (s : Session) (global : ℕ → ℕ) (a b : ℕ) (hashes : List ℕ) (rest : List LiveClause) (apart : a ≢ b) (named : AreMapped global s.solver_names (a ∷ b ∷ [])) where
   -- the clause was inserted at some position
   put_in : (old new : List LiveClause) (c : LiveClause) → c.redundant ≡ false → AreMapped global s.solver_names c.literals → NoRepeats c.literals → canonical (map (with_var global) (a ∷ b ∷ [])) ≡ canonical (map (with_var global) c.literals)
-      → is_tautology (map (with_var global) (a ∷ b ∷ [])) ≡ false → InsertsClause old new c → AreOf s global (old ++ rest) → AreOf (after (AtClause c.redundant (map (with_var global) (a ∷ b ∷ [])) hashes) s) global (new ++ rest)
+      → is_tautology (map (with_var global) (a ∷ b ∷ [])) ≡ false → InsertsClause old new c → AreLiveClausesOf s global (old ++ rest) → AreLiveClausesOf (after (AtClause c.redundant (map (with_var global) (a ∷ b ∷ [])) hashes) s) global (new ++ rest)
   put_in old new c r m n e t i h =
-      let from : AreOf s global (i.before ++ (i.following ++ rest)) = subst (AreOf s global) (ap (λ cs. cs ++ rest) i.was ∙ append_assoc i.before i.following rest) h in
+      let from : AreLiveClausesOf s global (i.before ++ (i.following ++ rest)) = subst (AreLiveClausesOf s global) (ap (λ cs. cs ++ rest) i.was ∙ append_assoc i.before i.following rest) h in
       let d : List ℕ = map (with_var global) (a ∷ b ∷ []) in
-      subst (AreOf (after (AtClause c.redundant d hashes) s) global) (sym (ap (λ cs. cs ++ rest) i.is ∙ append_assoc i.before (c ∷ i.following) rest))
+      subst (AreLiveClausesOf (after (AtClause c.redundant d hashes) s) global) (sym (ap (λ cs. cs ++ rest) i.is ∙ append_assoc i.before (c ∷ i.following) rest))
       (derived_comes_as s global i.before (i.following ++ rest) c d hashes from m n (once_mapped global s.solver_names (a ∷ b ∷ []) named (two_apart a b apart)) (omega arith) t e)
 
-  pub learned : (x : Binaries) → negated a < length x.implied → negated b < length x.implied → is_tautology (map (with_var global) (a ∷ b ∷ [])) ≡ false → AreOf s global (binaries x.implied ++ rest)
-      → AreOf (after (AtClause false (map (with_var global) (a ∷ b ∷ [])) hashes) s) global (binaries (with_binary a b x).implied ++ rest)
+  pub learned : (x : Binaries) → negated a < length x.implied → negated b < length x.implied → is_tautology (map (with_var global) (a ∷ b ∷ [])) ≡ false → AreLiveClausesOf s global (binaries x.implied ++ rest)
+      → AreLiveClausesOf (after (AtClause false (map (with_var global) (a ∷ b ∷ [])) hashes) s) global (binaries (with_binary a b x).implied ++ rest)
   learned x p q t h = elim (cases_order a b) [
     | inl e ↦ absurd (apart e)
     | inr o ↦ elim o [

@@ -10,21 +10,21 @@ use Rattle.sat_parts.specs.declared.prop.graph.Reason.TheVariants.{Unit as NoCau
 use Rattle.sat_parts.specs.clause.Stored.{lit_of, size_of}
 use Rattle.sat_parts.specs.prop.Graphs.{has_no_clause}
 use Rattle.sat_parts.specs.prop.Values.{value_of, IsTrueLit}
-use Rattle.sat_parts.specs.prop.State.{PropagationState, node, lit_at, IsBefore, StateIsConsistent}
-use Rattle.sat_parts.specs.prop.Reasons.{IsFalseBefore, Implies, AreUnitInTurn}
-use Rattle.sat_solver.specs.session.Session.{Session, with_fact, MayWriteUnits}
+use Rattle.sat_parts.specs.prop.State.{PropagationState, node, lit_at, IsOnTrailBefore, StateIsConsistent}
+use Rattle.sat_parts.specs.prop.Reasons.{IsFalseBefore, ReasonImplies, ReasonsAreUnit}
+use Rattle.sat_solver.specs.session.Session.{Session, with_unit_added, CanWriteUnits}
 use Rattle.sat_solver.proofs.lemmas.session.Changes.{session_if}
 use Rattle.sat_solver.specs.session.LiveClauses.{with_var}
 use Rattle.sat_solver.proofs.lemmas.session.Deriving.{proves}
 use Rattle.sat_solver.proofs.lemmas.session.Mapped.{negated_mapped, apart}
 use Rattle.sat_solver.specs.session.TrailEntries.{reason_clause}
-use Rattle.sat_solver.specs.session.TrailUnits.{written_units, IsUsable, HasOwnSolverName, UnitsFit, TrailUnitsAreAllowed}
+use Rattle.sat_solver.specs.session.TrailUnits.{written_units, IsUsable, HasOwnIndex, TrailMatches, TrailUnitsAreAllowed}
 use Rattle.sat_solver.proofs.lemmas.trail.TrailLemmas.{Parts, drop_parts, from_index}
 
 -- ONE MORE UNIT
 
 module _ (s : Session) (l : ℕ) where
-  pub fact_keeps : (m : ℕ) → s.units m ≡ true → (with_fact l s).units m ≡ true
+  pub fact_keeps : (m : ℕ) → s.units m ≡ true → (with_unit_added l s).units m ≡ true
   fact_keeps m h = go (s.units l) (s.units (negated l))
     where
       go : (b d : Bool) → (session_if b s (session_if d (record s { unsat = true }) (record s { units = λ m. eqb l m || s.units m }))).units m ≡ true
@@ -32,7 +32,7 @@ module _ (s : Session) (l : ℕ) where
       go false true = h
       go false false = or_right (eqb l m) (s.units m) h
 
-  pub fact_gives : s.units (negated l) ≡ false → (with_fact l s).units l ≡ true
+  pub fact_gives : s.units (negated l) ≡ false → (with_unit_added l s).units l ≡ true
   fact_gives n = go (s.units l) refl (s.units (negated l)) n
     where
       go : (b : Bool) → s.units l ≡ b → (d : Bool) → d ≡ false → (session_if b s (session_if d (record s { unsat = true }) (record s { units = λ m. eqb l m || s.units m }))).units l ≡ true
@@ -40,7 +40,7 @@ module _ (s : Session) (l : ℕ) where
       go false u true e = absurd (true≢false e)
       go false u false e = or_left (eqb l l) (s.units l) (eq-eqb l l refl)
 
-  pub fact_only : (m : ℕ) → (with_fact l s).units m ≡ true → (l ≡ m) ⊎ (s.units m ≡ true)
+  pub fact_only : (m : ℕ) → (with_unit_added l s).units m ≡ true → (l ≡ m) ⊎ (s.units m ≡ true)
   fact_only m h = go (s.units l) (s.units (negated l)) h
     where
       go : (b d : Bool) → (session_if b s (session_if d (record s { unsat = true }) (record s { units = λ m. eqb l m || s.units m }))).units m ≡ true → (l ≡ m) ⊎ (s.units m ≡ true)
@@ -48,7 +48,7 @@ module _ (s : Session) (l : ℕ) where
       go false true k = inr k
       go false false k = elim (or_cases (eqb l m) (s.units m) k) [ inl e ↦ inl (eqb-true l m e) | inr u ↦ inr u ]
 
-  pub fact_names : (v : ℕ) → (with_fact l s).solver_names v ≡ s.solver_names v
+  pub fact_names : (v : ℕ) → (with_unit_added l s).solver_names v ≡ s.solver_names v
   fact_names v = go (s.units l) (s.units (negated l))
     where
       go : (b d : Bool) → (session_if b s (session_if d (record s { unsat = true }) (record s { units = λ m. eqb l m || s.units m }))).solver_names v ≡ s.solver_names v
@@ -56,7 +56,7 @@ module _ (s : Session) (l : ℕ) where
       go false true = refl
       go false false = refl
 
-  pub fact_width : (with_fact l s).width ≡ s.width
+  pub fact_width : (with_unit_added l s).width ≡ s.width
   fact_width = go (s.units l) (s.units (negated l))
     where
       go : (b d : Bool) → (session_if b s (session_if d (record s { unsat = true }) (record s { units = λ m. eqb l m || s.units m }))).width ≡ s.width
@@ -64,7 +64,7 @@ module _ (s : Session) (l : ℕ) where
       go false true = refl
       go false false = refl
 
-  pub fact_usable : (global : ℕ → ℕ) (c : List ℕ) → IsUsable s global c → IsUsable (with_fact l s) global c
+  pub fact_usable : (global : ℕ → ℕ) (c : List ℕ) → IsUsable s global c → IsUsable (with_unit_added l s) global c
   fact_usable global c h = go (s.units l) (s.units (negated l))
     where
       go : (b d : Bool) → IsUsable (session_if b s (session_if d (record s { unsat = true }) (record s { units = λ m. eqb l m || s.units m }))) global c
@@ -85,11 +85,11 @@ not_both values l a b =
     differ : (x y : Bool) → x ≡ true → y ≡ false → Some x ≡ Some y → ⊥
     differ x y p q e = let k : x ≡ y = cc in true≢false (sym p ∙ k ∙ q)
 
-module _ (words live : List ℕ) (implied : List (List ℕ)) (st : PropagationState) (global : ℕ → ℕ) (filled : (o : ℕ) → Contains live o → 0 < size_of words o) (agrees : StateIsConsistent st) (turns : AreUnitInTurn words live implied st 0) where
+module _ (words live : List ℕ) (implied : List (List ℕ)) (st : PropagationState) (global : ℕ → ℕ) (filled : (o : ℕ) → Contains live o → 0 < size_of words o) (agrees : StateIsConsistent st) (turns : ReasonsAreUnit words live implied st 0) where
   -- the literals before position i are units of the session
   record Now (s : Session) (i : ℕ) : Type 0 where
-    fits : UnitsFit words st s global
-    passed : (m : ℕ) → IsBefore st i m → s.units (with_var global m) ≡ true
+    fits : TrailMatches words st s global
+    passed : (m : ℕ) → IsOnTrailBefore st i m → s.units (with_var global m) ≡ true
 
   unit_false : (s : Session) (i m : ℕ) → Now s i → IsFalseBefore st i m → s.units (negated (with_var global m)) ≡ true
   unit_false s i m n f = subst (λ x. s.units x ≡ true) (negated_mapped global m) (elim f [ inl b ↦ n.passed (negated m) b | inr r ↦ n.fits.removed (negated m) r ])
@@ -98,7 +98,7 @@ module _ (words live : List ℕ) (implied : List (List ℕ)) (st : PropagationSt
   mapped_all s l [] h = tt
   mapped_all s l (m ∷ ms) h = (elim h.0 [ inl e ↦ inl (ap (with_var global) e) | inr k ↦ inr k ], mapped_all s l ms h.1)
 
-  others : (s : Session) (i l : ℕ) (r : Reason) → lit_at st i ≡ l → Now s i → has_no_clause r ≡ false → Implies words live implied st i r → AllByRecursion (λ m. (m ≡ l) ⊎ (s.units (negated (with_var global m)) ≡ true)) (reason_clause words l r)
+  others : (s : Session) (i l : ℕ) (r : Reason) → lit_at st i ≡ l → Now s i → has_no_clause r ≡ false → ReasonImplies words live implied st i r → AllByRecursion (λ m. (m ≡ l) ⊎ (s.units (negated (with_var global m)) ≡ true)) (reason_clause words l r)
   others s i l NoCause e n u h = tt
   others s i l (Binary ls) e n u h = (inl refl, (inr (unit_false s i (slice_index_or ls 0 0) n h.1), tt))
   others s i l (Long o) e n u h = from_index (λ m. (m ≡ l) ⊎ (s.units (negated (with_var global m)) ≡ true)) (lits_at words o) (λ k j. elim (eq-zero-or-pos k) [
@@ -123,11 +123,11 @@ module _ (words live : List ℕ) (implied : List (List ℕ)) (st : PropagationSt
       false_from_ne_true (s.units (negated (with_var global l))) (λ u.
       not_both st.values l (agrees.holds i j) (n.fits.sound (negated l) (ap (λ v. s.solver_names (global v)) half ∙ n.fits.named i j ∙ ap (λ v. Some v) (sym half)) (subst (λ x. s.units x ≡ true) (sym (negated_mapped global l)) u)))
 
-  with_it : (s : Session) (i : ℕ) → i < length st.trail.lits → Now s i → Now (with_fact (with_var global (lit_at st i)) s) (i + 1)
+  with_it : (s : Session) (i : ℕ) → i < length st.trail.lits → Now s i → Now (with_unit_added (with_var global (lit_at st i)) s) (i + 1)
   with_it s i j n =
       let l : ℕ = lit_at st i in
       let w : ℕ = with_var global l in
-      let t : Session = with_fact w s in
+      let t : Session = with_unit_added w s in
       later t i l refl
       (record {
         fits = record {
@@ -136,7 +136,7 @@ module _ (words live : List ℕ) (implied : List (List ℕ)) (st : PropagationSt
           given = λ k q u. fact_keeps s w (with_var global (lit_at st k)) (n.fits.given k q u);
           removed = λ m r. fact_keeps s w (with_var global m) (n.fits.removed m r);
           sound = λ m q u.
-              let named : HasOwnSolverName s global m = sym (fact_names s w (global (variable m))) ∙ q in
+              let named : HasOwnIndex s global m = sym (fact_names s w (global (variable m))) ∙ q in
               elim (fact_only s w (with_var global m) u) [
                 | inl e ↦ subst (λ x. IsTrueLit st.values x) (apart global s.solver_names l m (n.fits.named i j) named e) (agrees.holds i j)
                 | inr k ↦ n.fits.sound m named k
@@ -146,23 +146,23 @@ module _ (words live : List ℕ) (implied : List (List ℕ)) (st : PropagationSt
       })
       (fact_gives s w (open_by s i j n))
 
-  may_from : (ls : List ℕ) (i : ℕ) (s : Session) → drop i st.trail.lits ≡ ls → Now s i → MayWriteUnits s (written_units words st s.width global ls)
+  may_from : (ls : List ℕ) (i : ℕ) (s : Session) → drop i st.trail.lits ≡ ls → Now s i → CanWriteUnits s (written_units words st s.width global ls)
   may_from [] i s e n = tt
   may_from (l ∷ ls) i s e n = go (may_from ls (i + 1)) (has_no_clause (node st l).reason) refl
     where
       parts : Parts st.trail.lits i l ls
       parts = drop_parts st.trail.lits i l ls e
 
-      go : ((s : Session) → drop (i + 1) st.trail.lits ≡ ls → Now s (i + 1) → MayWriteUnits s (written_units words st s.width global ls)) → (b : Bool) → has_no_clause (node st l).reason ≡ b
-          → MayWriteUnits s (cond b (written_units words st s.width global ls) ((with_var global l, hash_of (reason_clause words l (node st l).reason) / 2 ^ (64 - s.width)) ∷ written_units words st s.width global ls))
+      go : ((s : Session) → drop (i + 1) st.trail.lits ≡ ls → Now s (i + 1) → CanWriteUnits s (written_units words st s.width global ls)) → (b : Bool) → has_no_clause (node st l).reason ≡ b
+          → CanWriteUnits s (cond b (written_units words st s.width global ls) ((with_var global l, hash_of (reason_clause words l (node st l).reason) / 2 ^ (64 - s.width)) ∷ written_units words st s.width global ls))
       go ih true u = ih s parts.rest (later s i l parts.there n (subst (λ x. s.units (with_var global x) ≡ true) parts.there (n.fits.given i parts.inside (subst (λ x. has_no_clause (node st x).reason ≡ true) (sym parts.there) u))))
       go ih false u =
           let usable : IsUsable s global (reason_clause words l (node st l).reason) = subst (λ x. IsUsable s global (reason_clause words x (node st x).reason)) parts.there (n.fits.usable i parts.inside (subst (λ x. has_no_clause (node st x).reason ≡ false) (sym parts.there) u)) in
-          let implies : Implies words live implied st i (node st l).reason = subst (λ x. Implies words live implied st i (node st x).reason) parts.there (turns i (omega arith) parts.inside) in
-          let next : Now (with_fact (with_var global l) s) (i + 1) = subst (λ x. Now (with_fact (with_var global x) s) (i + 1)) parts.there (with_it s i parts.inside n) in (
+          let implies : ReasonImplies words live implied st i (node st l).reason = subst (λ x. ReasonImplies words live implied st i (node st x).reason) parts.there (turns i (omega arith) parts.inside) in
+          let next : Now (with_unit_added (with_var global l) s) (i + 1) = subst (λ x. Now (with_unit_added (with_var global x) s) (i + 1)) parts.there (with_it s i parts.inside n) in (
             proves s (with_var global l) (hash_of (reason_clause words l (node st l).reason) / 2 ^ (64 - s.width)) (map (with_var global) (reason_clause words l (node st l).reason)) usable.live usable.hash
                 (mapped_all s l (reason_clause words l (node st l).reason) (others s i l (node st l).reason parts.there n u implies)),
-            subst (λ k. MayWriteUnits (with_fact (with_var global l) s) (written_units words st k global ls)) (fact_width s (with_var global l)) (ih (with_fact (with_var global l) s) parts.rest next),
+            subst (λ k. CanWriteUnits (with_unit_added (with_var global l) s) (written_units words st k global ls)) (fact_width s (with_var global l)) (ih (with_unit_added (with_var global l) s) parts.rest next),
           )
 
 pub trail_units_may : TrailUnitsAreAllowed

@@ -9,18 +9,18 @@ use Rattle.sat_solver.specs.declared.variables.Variables.{Variables}
 use Rattle.sat_solver.specs.declared.error.SolverError.{SolverError}
 use Rattle.sat_solver.specs.cdcl.StepEffects.{EmitsSteps}
 use Rattle.sat_solver.specs.cdcl.Joint.{assumed_indices, global_in, SearchInvariant, SameVarsAndAssumptions, SameAssumedAndNames}
-use Rattle.sat_solver.specs.unit_simplify.Left.{TakesUnitsOff}
+use Rattle.sat_solver.specs.unit_simplify.AfterUnits.{TakesUnitsOff}
 use Rattle.sat_solver.specs.cdcl.Iterations.{IsPropagated}
 use Rattle.sat_solver.specs.declared.context.Search.{Search}
 use Rattle.sat_solver.proofs.lemmas.cdcl.TurnLemmas.{Propagation, ready_moved, free_moved}
 use Rattle.sat_solver.proofs.lemmas.solver.ReportingLemmas.{shares_moved}
-use Rattle.sat_solver.specs.unit_simplify.Flat.{HasEmptyTrail}
-use Rattle.sat_solver.specs.unit_simplify.Passes.{JointInvariant, MaySettle, PassesQuietly, Simplifies}
+use Rattle.sat_solver.specs.unit_simplify.EmptyTrail.{HasEmptyTrail}
+use Rattle.sat_solver.specs.unit_simplify.Passes.{JointInvariant, IsPropagatedAtLevelZero, PassesQuietly, Simplifies}
 use Rattle.sat_solver.proofs.lemmas.unit_simplify.StrengthenSearchLemmas.{goes_leaves}
 use Rattle.sat_solver.proofs.lemmas.unit_simplify.PassesLemmas.{passes_goes, passes_trans, falls_later}
 
 -- everything was propagated at level 0
-pub may_settle : {W L : Type 0} {G : Ghosts L} (n : Variables) (p : Proof W L G) (c d : Search) → JointInvariant n p c → c.parts.trail.starts ≡ [] → Propagation (session_of p) c d → MaySettle n p d
+pub may_settle : {W L : Type 0} {G : Ghosts L} (n : Variables) (p : Proof W L G) (c d : Search) → JointInvariant n p c → c.parts.trail.starts ≡ [] → Propagation (session_of p) c d → IsPropagatedAtLevelZero n p d
 may_settle n p c d h bottom went = record { keeps = h.keeps; valid = h.valid; shares = shares_moved n c d h.shares went.moved; propagated = went.whole; bottom = went.starts ∙ bottom }
 
 -- units were taken off the trail at level 0
@@ -34,7 +34,7 @@ module _ (s t : Session) (c d : Search) (propagated : IsPropagated s c) (leaves 
     ready = ready_moved s t c d propagated.ready leaves settled_moved (settled.word (assumed_indices c)).0 (rw assumptions (settled.placed c.assumptions propagated.ready.placed)) (free_moved c d propagated.ready.free settled_moved analysis flags);
   }
 
-module _ {W L : Type 0} {G : Ghosts L} (seen : W → Writer) (n : Variables) (p q : Proof W L G) (c d : Search) (may : MaySettle n p c) (g : EmitsSteps {A = Unit {0}} seen (Ok tt) p q (λ _ _. TakesUnitsOff c.parts d.parts (session_of q) (global_in c)))
+module _ {W L : Type 0} {G : Ghosts L} (seen : W → Writer) (n : Variables) (p q : Proof W L G) (c d : Search) (may : IsPropagatedAtLevelZero n p c) (g : EmitsSteps {A = Unit {0}} seen (Ok tt) p q (λ _ _. TakesUnitsOff c.parts d.parts (session_of q) (global_in c)))
     (globals : d.globals ≡ c.globals) (assumptions : d.assumptions ≡ c.assumptions) (analysis : d.analysis ≡ c.analysis) (flags : d.flags ≡ c.flags) where
   leaves : SameAssumedAndNames (session_of p) (session_of q)
   leaves = goes_leaves seen tt p q (λ _ _. TakesUnitsOff c.parts d.parts (session_of q) (global_in c)) g

@@ -13,18 +13,18 @@ use Rattle.sat_solver.specs.session.Session.{session_after}
 use Rattle.sat_solver.specs.declared.proof.Proof.{Proof}
 use Rattle.sat_solver.specs.declared.error.SolverError.{SolverError}
 use Rattle.sat_parts.specs.declared.parts.SearchState.{SearchState}
-use Rattle.sat_solver.specs.session.Fits.{is_redundant, SessionMatchesParts}
+use Rattle.sat_solver.specs.session.Matching.{is_redundant, SessionMatchesParts}
 use Rattle.sat_solver.proofs.lemmas.fits.FramedParts.{BothParts}
 use Rattle.sat_parts.proofs.lemmas.parts.WordSteps.{extends_trans}
 use Rattle.sat_parts.specs.parts.Words.{TrailWordExtends}
 use Rattle.sat_parts.specs.parts.Frame.{SameState}
-use Rattle.sat_solver.specs.cdcl.StepEffects.{HaveSolverNames, EmitsSteps}
+use Rattle.sat_solver.specs.cdcl.StepEffects.{HaveIndices, EmitsSteps}
 use Rattle.sat_solver.specs.cdcl.Joint.{global_in, SearchInvariant, SameAssumedAndNames}
 use Rattle.sat_solver.specs.declared.context.Search.{Search}
 use Rattle.sat_solver.proofs.lemmas.cdcl.GoingLemmas.{goes_on, goes_failing}
-use Rattle.sat_solver.specs.unit_simplify.Cuts.{deleted_step, derived_step, CanStrengthen}
-use Rattle.sat_solver.specs.unit_simplify.Cutting.{Replaces, NamesCut}
-use Rattle.sat_solver.specs.unit_simplify.Flat.{HasEmptyTrail, IsStrengthened, StrengthensClause}
+use Rattle.sat_solver.specs.unit_simplify.StrengtheningSteps.{deleted_step, derived_step, CanStrengthen}
+use Rattle.sat_solver.specs.unit_simplify.Strengthening.{StrengtheningEffect, PreparesStrengthening}
+use Rattle.sat_solver.specs.unit_simplify.EmptyTrail.{HasEmptyTrail, IsStrengthened, StrengthensClause}
 use Rattle.sat_solver.specs.unit_simplify.ClauseStatus.{HasFalse}
 use Rattle.sat_solver.proofs.lemmas.unit_simplify.CutLemmas.{cut_goes, fewer_open, part_named}
 use Rattle.sat_solver.proofs.lemmas.unit_simplify.StrengthenSearchLemmas.{goes_leaves}
@@ -33,7 +33,7 @@ use Rattle.sat_solver.proofs.lemmas.unit_simplify.TrueLemmas.{strengthened_by}
 
 -- the open literals of the clause at o were gathered in m, and replace the clause in d
 module _ {W L : Type 0} {G : Ghosts L} (seen : W → Writer) (p : Proof W L G) (c m : Search) (o len : ℕ) (h : SearchInvariant (session_of p) c) (flat : HasEmptyTrail c.parts) (there : Contains (live_refs c.parts.clauses c.parts.db.refs) o) (has : HasFalse c.parts o)
-    (same : m ≡ record c { parts = m.parts; scratch = m.scratch }) (left : List ℕ) (n : NamesCut c m left o len) (q : SearchState) (r : Replaces m.parts q o len) (b : Bool) (side : is_redundant m.parts.clauses o ≡ b) where
+    (same : m ≡ record c { parts = m.parts; scratch = m.scratch }) (left : List ℕ) (n : PreparesStrengthening c m left o len) (q : SearchState) (r : StrengtheningEffect m.parts q o len) (b : Bool) (side : is_redundant m.parts.clauses o ≡ b) where
   abbrev part : List ℕ
   part = map (with_var (global_in c)) (take len (lits_at m.parts.clauses o))
 
@@ -52,7 +52,7 @@ module _ {W L : Type 0} {G : Ghosts L} (seen : W → Writer) (p : Proof W L G) (
   both : BothParts m.parts q (session_of p) (global_in c) first second
   both = cut_goes (steps_of p) c m.parts o len h flat there n.gathers n.some n.within (fewer_open c.parts m.parts o len there n.gathers has) q r.puts b side
 
-  pub cut_named : HaveSolverNames (session_of p).solver_names left
+  pub cut_named : HaveIndices (session_of p).solver_names left
   cut_named = rw n.part (part_named (steps_of p) c m.parts o len h flat there n.gathers n.some n.within (fewer_open c.parts m.parts o len there n.gathers has))
 
   pub cut_may : CanStrengthen (session_of p) b left m.scratch.hashes.items m.scratch.clause.items

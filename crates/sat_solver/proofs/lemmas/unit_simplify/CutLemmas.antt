@@ -17,12 +17,12 @@ use Rattle.sat_solver.specs.session.Session.{Session, session_after}
 use Rattle.sat_solver.specs.session.LiveClauses.{with_var}
 use Rattle.sat_solver.proofs.lemmas.session.StepsOfClauses.{length_mapped}
 use Rattle.sat_parts.specs.declared.parts.SearchState.{SearchState}
-use Rattle.sat_parts.specs.parts.Frame.{DropsLongClause, ShortensLongClause, AddsOriginalClause, IsUnitLit}
+use Rattle.sat_parts.specs.parts.Frame.{DeletesLongClause, ShortensLongClause, AddsOriginalClause, IsUnitLit}
 use Rattle.sat_parts.specs.parts.Whole.{state}
-use Rattle.sat_solver.specs.session.Fits.{is_redundant, SessionMatchesParts}
+use Rattle.sat_solver.specs.session.Matching.{is_redundant, SessionMatchesParts}
 use Rattle.sat_solver.proofs.lemmas.fits.FitLemmas.{among_at, mapped_at}
 use Rattle.sat_solver.proofs.lemmas.fits.UsableLemmas.{long_named}
-use Rattle.sat_solver.specs.cdcl.StepEffects.{HaveSolverNames}
+use Rattle.sat_solver.specs.cdcl.StepEffects.{HaveIndices}
 use Rattle.sat_solver.proofs.lemmas.cdcl.NamedLemmas.{mapped_named}
 use Rattle.sat_solver.proofs.lemmas.fits.FramedParts.{BothParts, bottom_unit, same_state, fits_short, fits_short_redundant, fits_pair, fits_pair_redundant}
 use Rattle.sat_solver.proofs.lemmas.fits.PairLemmas.{AreTwo}
@@ -31,9 +31,9 @@ use Rattle.sat_solver.proofs.lemmas.fits.StepLemmas.{fits_propagated}
 use Rattle.sat_parts.proofs.lemmas.parts.FrameLemmas.{carries_refl}
 use Rattle.sat_solver.specs.declared.context.Search.{Search}
 use Rattle.sat_solver.specs.cdcl.Joint.{global_in, SearchInvariant}
-use Rattle.sat_solver.specs.unit_simplify.Cuts.{deleted_step, derived_step}
-use Rattle.sat_solver.specs.unit_simplify.Cutting.{Gathers, PutsPart, puts_long, puts_pair}
-use Rattle.sat_solver.specs.unit_simplify.Flat.{HasEmptyTrail}
+use Rattle.sat_solver.specs.unit_simplify.StrengtheningSteps.{deleted_step, derived_step}
+use Rattle.sat_solver.specs.unit_simplify.Strengthening.{MovesOpenLitsFirst, StrengthensTo, puts_long, puts_pair}
+use Rattle.sat_solver.specs.unit_simplify.EmptyTrail.{HasEmptyTrail}
 use Rattle.sat_solver.specs.unit_simplify.ClauseStatus.{HasFalse}
 use Rattle.sat_solver.proofs.lemmas.unit_simplify.GatherLemmas.{moved_there, moved_size, open_not_false}
 
@@ -48,7 +48,7 @@ flag_long true n lt = lt-ltb 2 n lt
 flag_long false n lt = refl
 
 -- a clause with a false literal becomes shorter
-pub fewer_open : (c p : SearchState) (o len : ℕ) → Contains (live_refs c.clauses c.db.refs) o → Gathers c p o len (size_of c.clauses o) → HasFalse c o → len < size_of c.clauses o
+pub fewer_open : (c p : SearchState) (o len : ℕ) → Contains (live_refs c.clauses c.db.refs) o → MovesOpenLitsFirst c p o len (size_of c.clauses o) → HasFalse c o → len < size_of c.clauses o
 fewer_open c p o len there g has =
     let j = (g.moved.kept.lits o there).forth has.0 has.1.0 in
     elim (cases_lt j.0 len) [
@@ -58,7 +58,7 @@ fewer_open c p o len there g has =
 
 -- ONE CLAUSE
 
-module _ (steps : List Step) (c : Search) (p : SearchState) (o len : ℕ) (h : SearchInvariant (session_after steps) c) (flat : HasEmptyTrail c.parts) (there : Contains (live_refs c.parts.clauses c.parts.db.refs) o) (g : Gathers c.parts p o len (size_of c.parts.clauses o)) (some : 2 ≤ len) (within : len ≤ size_of c.parts.clauses o) (fewer : len < size_of c.parts.clauses o) where
+module _ (steps : List Step) (c : Search) (p : SearchState) (o len : ℕ) (h : SearchInvariant (session_after steps) c) (flat : HasEmptyTrail c.parts) (there : Contains (live_refs c.parts.clauses c.parts.db.refs) o) (g : MovesOpenLitsFirst c.parts p o len (size_of c.parts.clauses o)) (some : 2 ≤ len) (within : len ≤ size_of c.parts.clauses o) (fewer : len < size_of c.parts.clauses o) where
   abbrev s : Session
   s = session_after steps
 
@@ -81,10 +81,10 @@ module _ (steps : List Step) (c : Search) (p : SearchState) (o len : ℕ) (h : S
   order = g.moved.kept.lits o there
 
   distinct : AreDistinct old
-  distinct = h.valid.holds.below.asks.clauses.distinct o there
+  distinct = h.valid.holds.below.propagation.clauses.distinct o there
 
   fits_p : SessionMatchesParts p s (global_in c)
-  fits_p = fits_propagated c.parts p s (global_in c) g.moved (rw (same_state c.parts p g.same.0) (carries_refl (state c.parts))) g.holds.below.asks.clauses h.valid.fits
+  fits_p = fits_propagated c.parts p s (global_in c) g.moved (rw (same_state c.parts p g.same.0) (carries_refl (state c.parts))) g.holds.below.propagation.clauses h.valid.fits
 
   bottom_p : p.trail.starts ≡ []
   bottom_p = ap (λ t. t.starts) g.same.0.2 ∙ flat.bottom
@@ -122,7 +122,7 @@ module _ (steps : List Step) (c : Search) (p : SearchState) (o len : ℕ) (h : S
         (fits_short_redundant p q s (global_in c) fits_p g.holds o there_p old order (sessions_are_plain steps) part old hash order distinct refl len short long (omega (arith, size)) false_by (shuffled_refl part) side)
 
   -- two literals are left
-  module _ (q mid : SearchState) (two : len ≡ 2) (stores : AddsOriginalClause p mid (lit_of p.clauses o 0 ∷ lit_of p.clauses o 1 ∷ [])) (drops : DropsLongClause mid q o) where
+  module _ (q mid : SearchState) (two : len ≡ 2) (stores : AddsOriginalClause p mid (lit_of p.clauses o 0 ∷ lit_of p.clauses o 1 ∷ [])) (drops : DeletesLongClause mid q o) where
     abbrev a : ℕ
     a = lit_of p.clauses o 0
 
@@ -154,12 +154,12 @@ module _ (steps : List Step) (c : Search) (p : SearchState) (o len : ℕ) (h : S
         (fits_pair_redundant p q s (global_in c) fits_p g.holds o there_p old order (sessions_are_plain steps) (a ∷ b2 ∷ []) old hash order distinct refl mid refl stores drops are side)
 
   -- the steps may be written, and then parts and session match
-  pub cut_goes : (q : SearchState) → PutsPart p q o len → (b : Bool) → is_redundant p.clauses o ≡ b → Cut q b
+  pub cut_goes : (q : SearchState) → StrengthensTo p q o len → (b : Bool) → is_redundant p.clauses o ≡ b → Cut q b
   cut_goes q (puts_long long short) b side = cut_long q long short b side
   cut_goes q (puts_pair two mid stores drops) b side = cut_pair q mid two stores drops b side
 
   -- the derived clause has solver names
-  pub part_named : HaveSolverNames (session_after steps).solver_names mpart
+  pub part_named : HaveIndices (session_after steps).solver_names mpart
   part_named =
       mapped_named (session_after steps).solver_names (global_in c) part (λ k lt.
       let at : get_or part k 0 ≡ get_or new k 0 = get_or-take len new k 0 (omega (arith, part_size)) in

@@ -18,28 +18,28 @@ use Rattle.sat_solver.specs.session.LiveClauses.{LiveClause, with_var, mapped, A
 use Rattle.sat_solver.proofs.lemmas.session.Lists.{unused_in_all}
 use Rattle.sat_solver.specs.session.SolverClauses.{solver_clauses}
 use Rattle.sat_parts.specs.declared.parts.SearchState.{SearchState}
-use Rattle.sat_parts.specs.parts.Assumed.{IsPlaced, variables_of_lits}
+use Rattle.sat_parts.specs.parts.Assumed.{AreConsideredUpTo, variables_of_lits}
 use Rattle.sat_parts.specs.parts.Frame.{FreesVar, IsUnitLit}
-use Rattle.sat_parts.specs.parts.Round.{IsUnused as InNoClause}
+use Rattle.sat_parts.specs.parts.Round.{IsInNoClause as InNoClause}
 use Rattle.sat_parts.specs.parts.Whole.{state, SearchStateInvariant}
 use Rattle.sat_parts.specs.parts.Words.{IsIdle, TrailWordExtendsFor}
-use Rattle.sat_solver.specs.session.Fits.{is_redundant, SessionMatchesParts, TrueLitsHaveNames}
+use Rattle.sat_solver.specs.session.Matching.{is_redundant, SessionMatchesParts, TrueLitsHaveIndices}
 use Rattle.sat_solver.proofs.lemmas.fits.AddedLemmas.{unit_true}
 use Rattle.sat_solver.proofs.lemmas.fits.CodeLemmas.{coded_by}
 use Rattle.sat_solver.proofs.lemmas.fits.FramedParts.{bottom_unit, fits_freed}
 use Rattle.sat_solver.proofs.lemmas.fits.ModelLemmas.{in_map_back}
 use Rattle.sat_solver.proofs.lemmas.fits.NamedLemmas.{unused_in}
-use Rattle.sat_solver.specs.session.Quiet.{ComesQuietly, is_quiet}
+use Rattle.sat_solver.specs.session.Quiet.{MakesOnlyQuiet, is_quiet}
 use Rattle.sat_solver.proofs.lemmas.fits.QuietLemmas.{quiet_comes}
 use Rattle.sat_solver.proofs.lemmas.session.ComingLemmas.{comes_both}
-use Rattle.sat_solver.specs.variables.NamingSteps.{ForgetsIdle}
+use Rattle.sat_solver.specs.variables.NamingSteps.{DeletesIdleVariable}
 use Rattle.sat_checker.specs.matching.Traces.{no_step}
 use Rattle.sat_solver.specs.variables.Calls.{NamesInvariant, KeepsScriptState}
-use Rattle.sat_solver.specs.variables.Naming.{PutsUnit}
+use Rattle.sat_solver.specs.variables.Naming.{StoresUnit}
 use Rattle.sat_solver.proofs.lemmas.variables.Units.{unit_stands, unit_agrees}
 use Rattle.sat_solver.specs.variables.Indexing.{Unindexes}
-use Rattle.sat_solver.specs.variables.Search.{IsAlike}
-use Rattle.sat_solver.specs.variables.Variables.{VariablesInvariant, solver_of, global_at, data_at, variables_used, indices_used, says_unit, IsUnitOf, IsInNoNonUnitClause}
+use Rattle.sat_solver.specs.variables.Search.{KeepsSearchUpToUnits}
+use Rattle.sat_solver.specs.variables.Variables.{VariablesInvariant, solver_of, global_at, data_at, variables_used, indices_used, is_unit_value, IsUnitOf, IsInNoNonUnitClause}
 use Rattle.sat_solver.specs.declared.variables.Variables.{Variables}
 use Rattle.sat_solver.proofs.lemmas.variables.Doing.{does_none, does_both}
 use Rattle.sat_solver.specs.declared.context.Search.{Search}
@@ -49,8 +49,8 @@ use Rattle.sat_solver.proofs.lemmas.cdcl.TurnLemmas.{free_moved, moved_refl, mov
 use Rattle.sat_solver.specs.variables.Shared.{SharesIndices}
 use Rattle.sat_solver.proofs.lemmas.load.GivenLemmas.{of_on}
 use Rattle.sat_solver.proofs.lemmas.load.IndexLemmas.{coded_variable, coded_sign}
-use Rattle.sat_solver.specs.unit_simplify.Flat.{HasEmptyTrail}
-use Rattle.sat_solver.specs.unit_simplify.Freed.{LosesIndex, FreesIndex, CanFreeIndices, KeepsAsked, FreesSome, AreLeft, IsIndexOfAssumed}
+use Rattle.sat_solver.specs.unit_simplify.EmptyTrail.{HasEmptyTrail}
+use Rattle.sat_solver.specs.unit_simplify.FreedIndices.{LosesIndex, FreesIndex, CanFreeIndices, KeepsAsked, FreesSome, FirstIndicesAreUsed, IsIndexOfAssumed}
 
 none_some : {A : Type 0} (x : A) → None ≡ Some x → ⊥
 none_some x e = cc
@@ -68,7 +68,7 @@ module _ (old mid : Variables) (from mids : List Step) (v x : ℕ) (valid : Name
   names_mid : (w : ℕ) → (session_after mids).solver_names w ≡ cond (eqb w v) None ((session_after from).solver_names w)
   names_mid w = u.does.valid.said.solver_names w ∙ u.solvers w ∙ ap (λ o. cond (eqb w v) None o) (sym (valid.said.solver_names w))
 
-  quiet_mid : ComesQuietly from mids
+  quiet_mid : MakesOnlyQuiet from mids
   quiet_mid = quiet_comes from mids (SolverVarName v None ∷ []) u.step (refl, tt)
 
   -- the variable keeps its name
@@ -90,7 +90,7 @@ module _ (old mid : Variables) (from mids : List Step) (v x : ℕ) (valid : Name
   }
 
   -- then the variable may be deleted
-  pub gives_up_both : (new : Variables) (to : List Step) → KeepsScriptState mid new mids to → IsAlike mid new mids to → ForgetsIdle mid mids to v → new.global_from_user ≡ mid.global_from_user → FreesIndex old new from to v
+  pub gives_up_both : (new : Variables) (to : List Step) → KeepsScriptState mid new mids to → KeepsSearchUpToUnits mid new mids to → DeletesIdleVariable mid mids to v → new.global_from_user ≡ mid.global_from_user → FreesIndex old new from to v
   gives_up_both new to does a idle users = record {
     quiet = comes_both (λ earlier step. is_quiet step ≡ true) from mids to quiet_mid
         (elim idle [ inl h ↦ quiet_comes mids to (DeleteVar v ∷ []) h.0 (refl, tt) | inr h ↦ quiet_comes mids to [] h.0 tt ]);
@@ -121,7 +121,7 @@ assumed_mention global (l ∷ ls) x (suc k, lt, e) =
     or_right (eqb (variable (with_var global l)) (global x)) (mentions (map (with_var global) ls) (global x)) (assumed_mention global ls x (k, omega arith, e))
 
 placed_some : (ls below : List ℕ) (place : ℕ) (s s' : PropagationState) → s.trail.starts ≡ [] → s'.trail.starts ≡ [] → ((k : ℕ) → k < length ls → IsTrueLit s.values (get_or ls k 0) → level s (get_or ls k 0) ≡ 0 → IsTrueLit s'.values (get_or ls k 0) × (level s' (get_or ls k 0) ≡ 0)) →
-    IsPlaced ls below place s → IsPlaced ls below place s'
+    AreConsideredUpTo ls below place s → AreConsideredUpTo ls below place s'
 placed_some ls below place s s' e e' kept h =
     let none : length s.trail.starts ≡ 0 = ap (λ (xs : List ℕ). length xs) e in
     let none' : length s'.trail.starts ≡ 0 = ap (λ (xs : List ℕ). length xs) e' in
@@ -182,10 +182,10 @@ module _ (s : Session) (c : Search) (v x : ℕ) (search : SearchInvariant s c) (
       ap s.units (sym (lit_is b)) ∙ search.valid.fits.known (mk_lit x b) (bottom_unit c.parts (mk_lit x b) search.valid.holds flat.bottom t)
 
   -- the session's unit is the variable's value in the search
-  pub session_unit : (b : Bool) → s.units (mk_lit v b) ≡ says_unit (value_of c.parts.assignment.current x) b
+  pub session_unit : (b : Bool) → s.units (mk_lit v b) ≡ is_unit_value (value_of c.parts.assignment.current x) b
   session_unit b = go (value_of c.parts.assignment.current x) refl b
     where
-      go : (o : Option Bool) → value_of c.parts.assignment.current x ≡ o → (d : Bool) → s.units (mk_lit v d) ≡ says_unit o d
+      go : (o : Option Bool) → value_of c.parts.assignment.current x ≡ o → (d : Bool) → s.units (mk_lit v d) ≡ is_unit_value o d
       go None e d = false_from_ne_true (s.units (mk_lit v d)) (λ u. none_some d (sym e ∙ unit_holds d u))
       go (Some true) e true = holds_unit true e
       go (Some false) e true = false_from_ne_true (s.units (mk_lit v true)) (λ u. true≢false (some_same true false (sym (unit_holds true u) ∙ e)))
@@ -227,7 +227,7 @@ module _ (s : Session) (c : Search) (v x : ℕ) (search : SearchInvariant s c) (
     fits_m : SessionMatchesParts p m (global_in c)
     fits_m = fits_freed c.parts p s (global_in c) v x search.valid.fits freed unused own at
 
-    names_c : TrueLitsHaveNames c.parts.assignment.current s (global_in c)
+    names_c : TrueLitsHaveIndices c.parts.assignment.current s (global_in c)
     names_c = ready_names s c search.ready
 
     unit_same : (l : ℕ) → s.solver_names (global_in c (variable l)) ≡ Some (variable l) → global_in c (variable l) ≢ v → t.units (with_var (global_in c) l) ≡ s.units (with_var (global_in c) l)
@@ -251,7 +251,7 @@ module _ (s : Session) (c : Search) (v x : ℕ) (search : SearchInvariant s c) (
     }
       where
         unit_true_in : (l : ℕ) → IsUnitLit (state c.parts) l → IsTrueLit c.parts.assignment.current l
-        unit_true_in l u = (unit_true (state c.parts) l search.valid.holds.below.asks.agrees u).0
+        unit_true_in l u = (unit_true (state c.parts) l search.valid.holds.below.propagation.agrees u).0
 
     idle_x : IsIdle (assumed_indices c) (state p) p.vsids x
     idle_x = (none, ap (λ q. is_available q x) freed.queue ∙ get_or-set_same c.parts.vsids.available x false false (omega (arith, room, search.valid.holds.below.queue)), not_assumed)
@@ -331,14 +331,14 @@ module _ (n : Variables) (steps : List Step) (c : Search) (may : CanFreeIndices 
   at : global_in c x ≡ v
   at = may.shares.same x v there
 
-  module _ (n1 : Variables) (put : PutsUnit n n1 v (value_of c.parts.assignment.current x)) where
+  module _ (n1 : Variables) (put : StoresUnit n n1 v (value_of c.parts.assignment.current x)) where
     pub noted_stands : NamesInvariant n1 steps
     noted_stands = unit_stands n n1 steps v x (value_of c.parts.assignment.current x) may.valid indexed put
 
     module _ (unused : InNoClause c.parts.clauses (live_refs c.parts.clauses c.parts.db.refs) c.parts.binary.implied x) where
       pub noted_unit : IsUnitOf n1 now v
       noted_unit b = session_unit now c v x may.search may.flat own at unused b
-          ∙ ap (λ (d : VarData). says_unit d.unit b) (sym (put.kept v ∙ ap (λ t. cond t (record (data_at n v) { unit = value_of c.parts.assignment.current x }) (data_at n v)) (eq-eqb v v refl)))
+          ∙ ap (λ (d : VarData). is_unit_value d.unit b) (sym (put.kept v ∙ ap (λ t. cond t (record (data_at n v) { unit = value_of c.parts.assignment.current x }) (data_at n v)) (eq-eqb v v refl)))
 
       pub noted_unused : IsInNoNonUnitClause now v
       noted_unused = session_unused now c v x may.search may.flat own at unused
@@ -423,20 +423,20 @@ may_free_on a b from to c d x = record { valid = x.does.valid; search = x.search
 
 -- WHICH INDICES REMAIN
 
-module _ (a b d : Variables) (s t : Session) (p : SearchState) (at : ℕ) (left : AreLeft b s p at) where
+module _ (a b d : Variables) (s t : Session) (p : SearchState) (at : ℕ) (left : FirstIndicesAreUsed b s p at) where
   -- an index that a clause uses
-  pub left_used : (InNoClause p.clauses (live_refs p.clauses p.db.refs) p.binary.implied at → ⊥) → AreLeft b s p (at + 1)
+  pub left_used : (InNoClause p.clauses (live_refs p.clauses p.db.refs) p.binary.implied at → ⊥) → FirstIndicesAreUsed b s p (at + 1)
   left_used has x lt none = elim (cases_eq x at) [
     | inl e ↦ absurd (has (subst (λ z. InNoClause p.clauses (live_refs p.clauses p.db.refs) p.binary.implied z) e none))
     | inr n ↦ left x (omega arith) none
   ]
 
   -- an index that no clause uses, but whose variable is assumed
-  pub left_more : ((x v : ℕ) → global_at d x ≡ Some v → global_at b x ≡ Some v) → t.assumed ≡ s.assumed → IsIndexOfAssumed d t at → AreLeft d s p (at + 1)
+  pub left_more : ((x v : ℕ) → global_at d x ≡ Some v → global_at b x ≡ Some v) → t.assumed ≡ s.assumed → IsIndexOfAssumed d t at → FirstIndicesAreUsed d s p (at + 1)
   left_more fewer asked here x lt none = elim (cases_eq x at) [
     | inl e ↦ λ v f. (ap (λ ls. mentions ls v) (sym asked) ∙ here v (subst (λ z. global_at d z ≡ Some v) e f))
     | inr n ↦ λ v f. left x (omega arith) none v (fewer x v f)
   ]
 
-pub left_none : (n : Variables) (s : Session) (p : SearchState) → AreLeft n s p 0
+pub left_none : (n : Variables) (s : Session) (p : SearchState) → FirstIndicesAreUsed n s p 0
 left_none n s p x lt none = absurd (omega arith)

@@ -15,9 +15,9 @@ use Rattle.sat_parts.proofs.lemmas.parts.LoadLemmas.{sound_freed}
 use Rattle.sat_parts.proofs.lemmas.parts.WordSteps.{gone_freed, word_goes, begins_refl}
 use Rattle.sat_solver.specs.declared.context.Search.{Search}
 use Rattle.sat_solver.specs.declared.variables.Variables.{Variables}
-use Rattle.sat_solver.specs.unit_simplify.Freed.{CanFreeIndices, FreesIndex, FreesSome}
-use Rattle.sat_solver.specs.unit_simplify.Freeing.{without_var, freed_below, freed_search, MarksAtMost}
-use Rattle.sat_solver.specs.variables.Naming.{PutsUnit}
+use Rattle.sat_solver.specs.unit_simplify.FreedIndices.{CanFreeIndices, FreesIndex, FreesSome}
+use Rattle.sat_solver.specs.unit_simplify.FreedVars.{without_var, freed_below, freed_search, MarksAtMost}
+use Rattle.sat_solver.specs.variables.Naming.{StoresUnit}
 use Rattle.sat_solver.specs.variables.Variables.{global_at, data_at}
 use Rattle.sat_solver.proofs.lemmas.unit_simplify.FreedLemmas.{frees_none, frees_one}
 
@@ -129,7 +129,7 @@ module _ (used : List Bool) (c : Search) (x : ℕ) where
       freed_marked marks x c.parts set_here ∙ freed_same used marks x c.parts (λ v less. ap (λ (bs : List Bool). get_or bs v false) e ∙ get_or-set_other used x v true false (omega arith)) in
       subst (λ p. FreesSome n n steps steps at_x (record c { parts = p })) (sym same) (frees_none n steps at_x may)
 
-  module _ (n : Variables) (steps : List Step) (may : CanFreeIndices n steps at_x) (v : ℕ) (there : global_at n x ≡ Some v) (n1 : Variables) (put : PutsUnit n n1 v (value_of at_x.parts.assignment.current x)) (unused : InNoClause at_x.parts x) where
+  module _ (n : Variables) (steps : List Step) (may : CanFreeIndices n steps at_x) (v : ℕ) (there : global_at n x ≡ Some v) (n1 : Variables) (put : StoresUnit n n1 v (value_of at_x.parts.assignment.current x)) (unused : InNoClause at_x.parts x) where
     -- the index is released
     pub frees_here : (new : Variables) (to : List Step) → FreesIndex n1 new steps to v → (data_at n v).assumed ≡ false → get_or used x false ≡ false → x < length at_x.parts.assignment.current → FreesSome n new steps to at_x (freed_search used (x + 1) c)
     frees_here new to gone free unmarked room =

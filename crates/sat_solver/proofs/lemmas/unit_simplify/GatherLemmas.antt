@@ -16,8 +16,8 @@ use Rattle.sat_parts.specs.parts.Whole.{state, SearchStateInvariant}
 use Rattle.sat_parts.specs.parts.Words.{TrailWordExtends}
 use Rattle.sat_parts.proofs.lemmas.parts.ShortLemmas.{fresh_unsatisfied}
 use Rattle.sat_parts.proofs.lemmas.parts.WordSteps.{extends_refl, extends_trans}
-use Rattle.sat_solver.specs.unit_simplify.Cutting.{Gathers}
-use Rattle.sat_solver.specs.unit_simplify.Flat.{HasEmptyTrail}
+use Rattle.sat_solver.specs.unit_simplify.Strengthening.{MovesOpenLitsFirst}
+use Rattle.sat_solver.specs.unit_simplify.EmptyTrail.{HasEmptyTrail}
 use Rattle.sat_solver.specs.unit_simplify.ClauseStatus.{HasTrue}
 
 -- VALUES
@@ -44,7 +44,7 @@ open_not_false values l e f = some_none (not (is_positive l)) (sym f ∙ e)
 pub reordered_refl : (p : SearchState) → SearchStateInvariant p → ReordersLits p p
 reordered_refl p h = record {
   live = refl;
-  kept = record { holds_clauses = h.below.asks.clauses.holds_clauses; headers = λ o c. refl; lits = λ o c. shuffled_refl (lits_at p.clauses o) };
+  kept = record { holds_clauses = h.below.propagation.clauses.holds_clauses; headers = λ o c. refl; lits = λ o c. shuffled_refl (lits_at p.clauses o) };
   binary = refl;
 }
 
@@ -90,7 +90,7 @@ swapped_else ls i j k a b = get_or-set_other (set ls i (get_or ls j 0)) j k (get
 
 -- ONE LITERAL AFTER ANOTHER
 
-pub gathers_none : (p : SearchState) (o : ℕ) → SearchStateInvariant p → ((k : ℕ) → k < 2 → IsUnassignedLit p.assignment.current (lit_of p.clauses o k)) → Gathers p p o 2 2
+pub gathers_none : (p : SearchState) (o : ℕ) → SearchStateInvariant p → ((k : ℕ) → k < 2 → IsUnassignedLit p.assignment.current (lit_of p.clauses o k)) → MovesOpenLitsFirst p p o 2 2
 gathers_none p o h front = record {
   holds = h;
   moved = reordered_refl p h;
@@ -102,9 +102,9 @@ gathers_none p o h front = record {
   rest = λ k le. refl;
 }
 
-module _ (p q : SearchState) (o kept at : ℕ) (g : Gathers p q o kept at) (le : kept ≤ at) where
+module _ (p q : SearchState) (o kept at : ℕ) (g : MovesOpenLitsFirst p q o kept at) (le : kept ≤ at) where
   -- a false literal stays where it is
-  pub gathers_skip : IsFalseLit q.assignment.current (lit_of q.clauses o at) → Gathers p q o kept (at + 1)
+  pub gathers_skip : IsFalseLit q.assignment.current (lit_of q.clauses o at) → MovesOpenLitsFirst p q o kept (at + 1)
   gathers_skip f = record {
     holds = g.holds;
     moved = g.moved;
@@ -136,7 +136,7 @@ module _ (p q : SearchState) (o kept at : ℕ) (g : Gathers p q o kept at) (le :
     is_other : (k : ℕ) → k ≢ kept → k ≢ at → lit_of r.clauses o k ≡ lit_of q.clauses o k
     is_other k a b = at_new k ∙ swapped_else (lits_at q.clauses o) kept at k a b
 
-    pub gathers_swap : Gathers p r o (kept + 1) (at + 1)
+    pub gathers_swap : MovesOpenLitsFirst p r o (kept + 1) (at + 1)
     gathers_swap = record {
       holds = holds;
       moved = reordered_trans p q r g.moved s.moved;
@@ -160,11 +160,11 @@ module _ (p q : SearchState) (o kept at : ℕ) (g : Gathers p q o kept at) (le :
 pub flat_left : (p : SearchState) (l : ℕ) → SearchStateInvariant p → HasEmptyTrail p → IsTrueLit p.assignment.current l → HasLeftQueue (state p) l
 flat_left p l h flat t =
     let nothing : length p.trail.lits ≡ 0 = ap (λ (xs : List ℕ). length xs) flat.empty in
-    elim (h.below.asks.agrees.known l t) [ inl b ↦ absurd (omega (arith, b.within)) | inr r ↦ inr r ]
+    elim (h.below.propagation.agrees.known l t) [ inl b ↦ absurd (omega (arith, b.within)) | inr r ↦ inr r ]
 
 module _ (p : SearchState) (o : ℕ) (h : SearchStateInvariant p) (there : Contains (live_refs p.clauses p.db.refs) o) where
   long_size : 3 ≤ size_of p.clauses o
-  long_size = h.below.asks.clauses.long o there
+  long_size = h.below.propagation.clauses.long o there
 
   pub front_open : HasEmptyTrail p → (HasTrue p o → ⊥) → (k : ℕ) → k < 2 → IsUnassignedLit p.assignment.current (lit_of p.clauses o k)
   front_open flat none k lt =

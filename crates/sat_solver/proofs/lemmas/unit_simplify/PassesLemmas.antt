@@ -9,8 +9,8 @@ use Rattle.sat_parts.specs.clause.Stored.{lit_of}
 use Rattle.sat_parts.specs.prop.Values.{value_of}
 use Rattle.sat_base.specs.values.Literals.{variable}
 use Rattle.sat_checker.specs.LiteralSets.{mentions}
-use Rattle.sat_solver.specs.session.Making.{ComesByCheckedSteps}
-use Rattle.sat_solver.specs.variables.Taking.{StepNotAccepted}
+use Rattle.sat_solver.specs.session.Emitting.{EmitsSomeChecked}
+use Rattle.sat_solver.specs.variables.StepFailures.{StepNotAccepted}
 use Rattle.sat_solver.specs.proof.ProofView.{HasAllowedSteps, steps_of, session_of}
 use Rattle.sat_solver.specs.session.Session.{AreAllowedSteps}
 use Rattle.sat_solver.specs.declared.proof.Proof.{Proof}
@@ -22,7 +22,7 @@ use Rattle.sat_solver.proofs.lemmas.cdcl.GoingLemmas.{check_loss, complaint_kept
 use Rattle.sat_solver.specs.declared.error.SolverError.{SolverError}
 use Rattle.sat_solver.specs.declared.error.SolverError.TheVariants as errors
 use Rattle.sat_solver.specs.variables.Calls.{NamesInvariant, KeepsScriptState}
-use Rattle.sat_solver.specs.variables.Failing.{IsFailure, EmitsUpTo}
+use Rattle.sat_solver.specs.variables.NameFailures.{IsFailure, EmitsUpTo}
 use Rattle.sat_solver.specs.declared.variables.error.NameError.{NameError}
 use Rattle.sat_solver.specs.declared.variables.error.NameError.TheVariants as names
 use Rattle.sat_solver.specs.declared.variables.Variables.{Variables}
@@ -35,11 +35,11 @@ use Rattle.sat_solver.specs.cdcl.Joint.{assumed_indices, SearchInvariant, SameVa
 use Rattle.sat_solver.specs.declared.context.Search.{Search}
 use Rattle.sat_solver.proofs.lemmas.cdcl.TurnLemmas.{moved_refl, moved_trans}
 use Rattle.sat_solver.specs.variables.Shared.{SharesIndices}
-use Rattle.sat_solver.specs.load.Faults.{reported_as}
+use Rattle.sat_solver.specs.load.Faults.{error_of_name_call}
 use Rattle.sat_solver.proofs.lemmas.solver.AfterLemmas.{nothing_after}
 use Rattle.sat_solver.proofs.lemmas.solver.ReportingLemmas.{shares_moved}
-use Rattle.sat_solver.specs.unit_simplify.Flat.{HasEmptyTrail, StrengthensAll}
-use Rattle.sat_solver.specs.unit_simplify.Freed.{CanFreeIndices, FreesSome, AreLeft}
+use Rattle.sat_solver.specs.unit_simplify.EmptyTrail.{HasEmptyTrail, StrengthensAll}
+use Rattle.sat_solver.specs.unit_simplify.FreedIndices.{CanFreeIndices, FreesSome, FirstIndicesAreUsed}
 use Rattle.sat_solver.specs.unit_simplify.ClauseStatus.{HasNoAssignedLit}
 use Rattle.sat_solver.specs.unit_simplify.Passes.{JointInvariant, PassesQuietly, PassFails, PassFailsOr, IsSimplifiedPass}
 use Rattle.sat_solver.proofs.lemmas.unit_simplify.FreedLemmas.{asked_refl, asked_trans}
@@ -96,7 +96,7 @@ module _ {W L : Type 0} {G : Ghosts L} (seen : W → Writer) where
       }
 
   -- indices were released
-  pub passes_frees : (a b : Variables) (p q : Proof W L G) (c d : Search) → FreesSome a b (steps_of p) (steps_of q) c d → HasAllowedSteps q → ((w : Proof W L G) → ComesByCheckedSteps seen w p → ComesByCheckedSteps seen w q) → PassesQuietly seen a b p q c d
+  pub passes_frees : (a b : Variables) (p q : Proof W L G) (c d : Search) → FreesSome a b (steps_of p) (steps_of q) c d → HasAllowedSteps q → ((w : Proof W L G) → EmitsSomeChecked seen w p → EmitsSomeChecked seen w q) → PassesQuietly seen a b p q c d
   passes_frees a b p q c d f keeps came = record {
     together = record { keeps = keeps; valid = f.does.valid; search = f.search; shares = f.shares };
     took = came p ([], gains_none seen p);
@@ -120,11 +120,11 @@ module _ {W L : Type 0} {G : Ghosts L} (seen : W → Writer) where
   falls_starved p = record { fault = tt; steps = []; went = adds_none seen p; kept = tt; loss = inl refl }
 
   -- the call failed after steps that were checked
-  pub falls_later : {full : Type 0} (e : SolverError) (p q r : Proof W L G) → ComesByCheckedSteps seen p q → PassFailsOr full seen e q r → PassFailsOr full seen e p r
+  pub falls_later : {full : Type 0} (e : SolverError) (p q r : Proof W L G) → EmitsSomeChecked seen p q → PassFailsOr full seen e q r → PassFailsOr full seen e p r
   falls_later e p q r took f = record { fault = f.fault; steps = f.steps ++ took.0; went = went_after seen (Unit {0}) e took.0 f.steps p q r (gains_adds seen took.0 p q took.1) f.went; kept = f.kept; loss = loss_later e p q r took.1.taking f.loss }
 
   -- a call over names failed
-  pub falls_names : (e : NameError) (p q : Proof W L G) → IsFailure e → ((w : Proof W L G) → ComesByCheckedSteps seen w p → EmitsUpTo (ComesByCheckedSteps seen) (StepNotAccepted seen) w e q) → PassFails seen (reported_as e) p q
+  pub falls_names : (e : NameError) (p q : Proof W L G) → IsFailure e → ((w : Proof W L G) → EmitsSomeChecked seen w p → EmitsUpTo (EmitsSomeChecked seen) (StepNotAccepted seen) w e q) → PassFails seen (error_of_name_call e) p q
   falls_names names.OutOfMemory p q f came = (let t = came p ([], gains_none seen p) in record { fault = tt; steps = t.0; went = gains_adds seen t.0 p q t.1; kept = tt; loss = inl t.1.taking })
   falls_names (names.Write cause) p q f came = (let t = came p ([], gains_none seen p) in record { fault = tt; steps = t.0.0; went = t.0.1; kept = t.1; loss = tt })
   falls_names (names.Check fault) p q f came = (let t = came p ([], gains_none seen p) in record { fault = fault_checked _ fault; steps = t.0; went = went_checked seen (Unit {0}) fault t.0 p q t.1; kept = complaint_kept fault q t.2; loss = check_loss fault p q t.1.why })
@@ -148,11 +148,11 @@ module _ {W L : Type 0} {G : Ghosts L} (seen : W → Writer) where
         let was : Contains (live_refs d.parts.clauses d.parts.db.refs) o = rw (same.0, same.1) at there in
         rw same.0 (unset (variable (lit_of d.parts.clauses o k)) (g.ends.left o was k (rw same.0 at lt)))
 
-    indices_freed : FreesSome n n' (steps_of q) (steps_of r) d e → AreLeft n' (session_of q) d.parts (length d.parts.assignment.current) → AreLeft n' (session_of r) e.parts (length e.parts.assignment.current)
+    indices_freed : FreesSome n n' (steps_of q) (steps_of r) d e → FirstIndicesAreUsed n' (session_of q) d.parts (length d.parts.assignment.current) → FirstIndicesAreUsed n' (session_of r) e.parts (length e.parts.assignment.current)
     indices_freed f left x lt none v g =
         ap (λ ls. mentions ls v) f.asked.assumed ∙ left x (subst (λ k. x < k) f.moved.size lt) (rw (f.same.0, f.same.1, f.same.2) at none) v g
 
-    pub simplified : FreesSome n n' (steps_of q) (steps_of r) d e → AreLeft n' (session_of q) d.parts (length d.parts.assignment.current) → HasAllowedSteps r → ((w : Proof W L G) → ComesByCheckedSteps seen w q → ComesByCheckedSteps seen w r) → IsSimplifiedPass seen n n' p r c e
+    pub simplified : FreesSome n n' (steps_of q) (steps_of r) d e → FirstIndicesAreUsed n' (session_of q) d.parts (length d.parts.assignment.current) → HasAllowedSteps r → ((w : Proof W L G) → EmitsSomeChecked seen w q → EmitsSomeChecked seen w r) → IsSimplifiedPass seen n n' p r c e
     simplified f left keeps came = record {
       passes = passes_trans n n n' p q r c d e passes_strengthened (passes_frees n n' q r d e f keeps came);
       flat = f.flat;

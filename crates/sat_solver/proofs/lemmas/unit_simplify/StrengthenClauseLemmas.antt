@@ -11,11 +11,11 @@ use Rattle.sat_parts.proofs.lemmas.clause.ListLemmas.{in_without}
 use Rattle.sat_parts.proofs.lemmas.prop.BuildLemmas.{live_in}
 use Rattle.sat_solver.specs.session.Session.{Session}
 use Rattle.sat_parts.specs.declared.parts.SearchState.{SearchState}
-use Rattle.sat_parts.specs.parts.Frame.{ReordersLits, DropsLongClause, ShortensLongClause, AddsOriginalClause, stores_binary, stores_long}
+use Rattle.sat_parts.specs.parts.Frame.{ReordersLits, DeletesLongClause, ShortensLongClause, AddsOriginalClause, stores_binary, stores_long}
 use Rattle.sat_solver.specs.declared.context.Search.{Search}
 use Rattle.sat_solver.specs.cdcl.Joint.{SearchInvariant}
-use Rattle.sat_solver.specs.unit_simplify.Cutting.{Gathers, PutsPart, puts_long, puts_pair, Replaces}
-use Rattle.sat_solver.specs.unit_simplify.Flat.{IsStrengthened, StrengthensClause}
+use Rattle.sat_solver.specs.unit_simplify.Strengthening.{MovesOpenLitsFirst, StrengthensTo, puts_long, puts_pair, StrengtheningEffect}
+use Rattle.sat_solver.specs.unit_simplify.EmptyTrail.{IsStrengthened, StrengthensClause}
 use Rattle.sat_solver.specs.unit_simplify.ClauseStatus.{HasNoAssignedLit}
 use Rattle.sat_solver.proofs.lemmas.unit_simplify.GatherLemmas.{moved_size}
 use Rattle.sat_solver.proofs.lemmas.unit_simplify.StrengthenSearchLemmas.{strengthened_refl}
@@ -38,12 +38,12 @@ open_moved p q x order values h k lt =
 others_trans : (p q r : SearchState) (o : ℕ) → OthersStay p q o → OthersStay q r o → OthersStay p r o
 others_trans p q r o f g x n c = (let b = g x n c in let a = f x n b.0 in (a.0, λ h. b.1 (a.1 h)))
 
-others_dropped : (p q : SearchState) (o : ℕ) → DropsLongClause p q o → OthersStay p q o
+others_dropped : (p q : SearchState) (o : ℕ) → DeletesLongClause p q o → OthersStay p q o
 others_dropped p q o d x n c =
     let y = in_without o x (live_refs p.clauses p.db.refs) (subst (λ (xs : List ℕ). Contains xs x) d.deletes.live c) in
     (y.0, open_kept p q x (d.deletes.put.others x (live_in p.clauses p.db.refs x y.0) n).lits d.same.0.0)
 
-gone_dropped : (p q : SearchState) (o : ℕ) → DropsLongClause p q o → Contains (live_refs q.clauses q.db.refs) o → HasNoAssignedLit q o
+gone_dropped : (p q : SearchState) (o : ℕ) → DeletesLongClause p q o → Contains (live_refs q.clauses q.db.refs) o → HasNoAssignedLit q o
 gone_dropped p q o d c = absurd ((in_without o o (live_refs p.clauses p.db.refs) (subst (λ (xs : List ℕ). Contains xs o) d.deletes.live c)).1 refl)
 
 others_short : (p q : SearchState) (o len : ℕ) → ShortensLongClause p q o len → OthersStay p q o
@@ -71,11 +71,11 @@ pub strengthens_none : (s : Session) (c : Search) (o : ℕ) → SearchInvariant 
 strengthens_none s c o h is_open = record { strengthened = strengthened_refl s c h; left = λ k. is_open; others = λ p n k. (k, λ x. x) }
 
 -- the clause was deleted
-pub strengthens_dropped : (t : Session) (c d : Search) (o : ℕ) → IsStrengthened t c d → DropsLongClause c.parts d.parts o → StrengthensClause t c d o
+pub strengthens_dropped : (t : Session) (c d : Search) (o : ℕ) → IsStrengthened t c d → DeletesLongClause c.parts d.parts o → StrengthensClause t c d o
 strengthens_dropped t c d o l dropped = record { strengthened = l; left = gone_dropped c.parts d.parts o dropped; others = others_dropped c.parts d.parts o dropped }
 
 -- the clause lost its false literals
-module _ (t : Session) (c d : Search) (p : SearchState) (o len : ℕ) (l : IsStrengthened t c d) (there : Contains (live_refs c.parts.clauses c.parts.db.refs) o) (within : len ≤ size_of c.parts.clauses o) (g : Gathers c.parts p o len (size_of c.parts.clauses o)) (r : Replaces p d.parts o len) where
+module _ (t : Session) (c d : Search) (p : SearchState) (o len : ℕ) (l : IsStrengthened t c d) (there : Contains (live_refs c.parts.clauses c.parts.db.refs) o) (within : len ≤ size_of c.parts.clauses o) (g : MovesOpenLitsFirst c.parts p o len (size_of c.parts.clauses o)) (r : StrengtheningEffect p d.parts o len) where
   short_open : ShortensLongClause p d.parts o len → HasNoAssignedLit d.parts o
   short_open s k lt =
       let size : size_of p.clauses o ≡ size_of c.parts.clauses o = moved_size c.parts p o g.moved there in
@@ -84,11 +84,11 @@ module _ (t : Session) (c d : Search) (p : SearchState) (o len : ℕ) (l : IsStr
       subst (λ (v : Values). IsUnassignedLit v.current (lit_of d.parts.clauses o k)) (sym (r.state.0 ∙ g.same.0.0))
       (subst (λ m. IsUnassignedLit c.parts.assignment.current m) (sym (ap (λ (ls : List ℕ). get_or ls k 0) s.shortens.lits_there ∙ get_or-take len (lits_at p.clauses o) k 0 less)) (g.front k less))
 
-  left_open : PutsPart p d.parts o len → Contains (live_refs d.parts.clauses d.parts.db.refs) o → HasNoAssignedLit d.parts o
+  left_open : StrengthensTo p d.parts o len → Contains (live_refs d.parts.clauses d.parts.db.refs) o → HasNoAssignedLit d.parts o
   left_open (puts_long long s) k = short_open s
   left_open (puts_pair two mid stores drops) k = gone_dropped mid d.parts o drops k
 
-  others_put : PutsPart p d.parts o len → OthersStay p d.parts o
+  others_put : StrengthensTo p d.parts o len → OthersStay p d.parts o
   others_put (puts_long long s) = others_short p d.parts o len s
   others_put (puts_pair two mid stores drops) =
       others_trans p mid d.parts o (others_stored p mid o (lit_of p.clauses o 0 ∷ lit_of p.clauses o 1 ∷ []) refl stores (sym drops.same.0.0 ∙ r.state.0)) (others_dropped mid d.parts o drops)

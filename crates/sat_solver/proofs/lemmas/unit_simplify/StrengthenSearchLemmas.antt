@@ -24,7 +24,7 @@ use Rattle.sat_solver.specs.declared.context.Scratch.{Scratch}
 use Rattle.sat_solver.specs.cdcl.Joint.{assumed_indices, global_in, SearchInvariant, SameAssumedAndNames}
 use Rattle.sat_solver.proofs.lemmas.cdcl.TurnLemmas.{moved_refl, moved_trans}
 use Rattle.sat_solver.proofs.lemmas.clause.ReducingLemmas.{still, still_moved}
-use Rattle.sat_solver.specs.unit_simplify.Flat.{HasEmptyTrail, CanRemovePairs, LeavesPairs, IsStrengthened}
+use Rattle.sat_solver.specs.unit_simplify.EmptyTrail.{HasEmptyTrail, CanRemovePairs, LeavesPairs, IsStrengthened}
 
 pub strengthened_refl : (s : Session) (c : Search) → SearchInvariant s c → IsStrengthened s c c
 strengthened_refl s c h = record { search = h; moved = moved_refl c; word = extends_refl c.parts (assumed_indices c); state = (refl, refl, refl); refs = refl }
@@ -84,11 +84,11 @@ module _ (s : Session) (c : Search) (may : CanRemovePairs c) where
 
     -- the second variable of the clause exists
     pub second_there : variable b < length c.parts.assignment.current
-    second_there = (let x : m < 2 * length c.parts.assignment.current = may.holds.below.asks.ranges.below l k lt in omega (arith, at.second))
+    second_there = (let x : m < 2 * length c.parts.assignment.current = may.holds.below.propagation.ranges.below l k lt in omega (arith, at.second))
 
     pub pair_there : l < length c.parts.binary.implied → (i : ℕ) → i < length (a ∷ b ∷ []) → variable (get_or (a ∷ b ∷ []) i 0) < length c.globals.items
     pair_there there zero less =
-        let room : length c.parts.binary.implied ≡ 2 * length c.parts.assignment.current = may.holds.below.asks.ranges.room in
+        let room : length c.parts.binary.implied ≡ 2 * length c.parts.assignment.current = may.holds.below.propagation.ranges.room in
         omega (arith, may.names, at.first)
     pair_there there (suc zero) less = omega (arith, may.names, second_there)
     pair_there there (suc (suc i)) less = absurd (omega arith)

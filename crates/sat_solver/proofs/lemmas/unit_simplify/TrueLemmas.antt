@@ -8,10 +8,10 @@ use Rattle.sat_parts.specs.clause.Stored.{lit_of}
 use Rattle.sat_solver.specs.session.Session.{Session, after, IsAllowedStep}
 use Rattle.sat_solver.specs.session.LiveClauses.{with_var}
 use Rattle.sat_parts.specs.declared.parts.SearchState.{SearchState}
-use Rattle.sat_parts.specs.parts.Frame.{DropsLongClause, SameState}
+use Rattle.sat_parts.specs.parts.Frame.{DeletesLongClause, SameState}
 use Rattle.sat_parts.specs.parts.Whole.{SearchStateInvariant}
 use Rattle.sat_parts.specs.parts.Words.{TrailWordExtends}
-use Rattle.sat_solver.specs.session.Fits.{is_redundant, SessionMatchesParts}
+use Rattle.sat_solver.specs.session.Matching.{is_redundant, SessionMatchesParts}
 use Rattle.sat_solver.proofs.lemmas.fits.FitLemmas.{among_at}
 use Rattle.sat_solver.proofs.lemmas.fits.FramedParts.{bottom_unit, same_state, fits_dropped_redundant, fits_dropped_satisfied}
 use Rattle.sat_parts.proofs.lemmas.clause.OrderLemmas.{shuffled_eq}
@@ -19,8 +19,8 @@ use Rattle.sat_solver.specs.declared.context.Search.{Search}
 use Rattle.sat_solver.specs.declared.context.Scratch.{Scratch}
 use Rattle.sat_solver.specs.cdcl.Joint.{assumed_indices, global_in, SearchInvariant, SameAssumedAndNames}
 use Rattle.sat_solver.proofs.lemmas.clause.ReducingLemmas.{still, still_moved}
-use Rattle.sat_solver.specs.unit_simplify.Cuts.{deleted_step}
-use Rattle.sat_solver.specs.unit_simplify.Flat.{HasEmptyTrail, IsStrengthened}
+use Rattle.sat_solver.specs.unit_simplify.StrengtheningSteps.{deleted_step}
+use Rattle.sat_solver.specs.unit_simplify.EmptyTrail.{HasEmptyTrail, IsStrengthened}
 use Rattle.sat_solver.specs.unit_simplify.ClauseStatus.{HasTrue}
 
 -- the search after clauses changed and values did not
@@ -38,7 +38,7 @@ strengthened_by s t c c' h globals assumptions analysis flags leaves holds fits 
 
 -- A TRUE CLAUSE
 
-module _ (s : Session) (c : Search) (p : SearchState) (o : ℕ) (h : SearchInvariant s c) (flat : HasEmptyTrail c.parts) (there : Contains (live_refs c.parts.clauses c.parts.db.refs) o) (has : HasTrue c.parts o) (dropped : DropsLongClause c.parts p o) where
+module _ (s : Session) (c : Search) (p : SearchState) (o : ℕ) (h : SearchInvariant s c) (flat : HasEmptyTrail c.parts) (there : Contains (live_refs c.parts.clauses c.parts.db.refs) o) (has : HasTrue c.parts o) (dropped : DeletesLongClause c.parts p o) where
   abbrev mapped : List ℕ
   mapped = map (with_var (global_in c)) (lits_at c.parts.clauses o)
 

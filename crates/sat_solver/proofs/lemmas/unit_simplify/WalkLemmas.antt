@@ -8,7 +8,7 @@ use Rattle.sat_parts.proofs.lemmas.prop.BuildLemmas.{live_in}
 use Rattle.sat_parts.proofs.lemmas.parts.ReduceLemmas.{filter_in}
 use Rattle.sat_solver.specs.session.Session.{Session}
 use Rattle.sat_solver.specs.declared.context.Search.{Search}
-use Rattle.sat_solver.specs.unit_simplify.Flat.{StrengthensClause, AreOpenTo}
+use Rattle.sat_solver.specs.unit_simplify.EmptyTrail.{StrengthensClause, AreOpenTo}
 use Rattle.sat_solver.specs.unit_simplify.ClauseStatus.{HasNoAssignedLit}
 
 pub to_none : (c d : Search) → AreOpenTo c d 0

@@ -16,14 +16,14 @@ use Rattle.sat_solver.specs.variables.Counting.{HasEqualCounts}
 use Rattle.sat_solver.specs.variables.Free.{is_free, IsTree}
 use Rattle.sat_checker.specs.matching.Bridge.{LiveVariables}
 use Rattle.sat_solver.specs.variables.Live.{given_of}
-use Rattle.sat_solver.specs.variables.Variables.{data_at, user_of, variables_used, VariablesInvariant, NamesMatchSteps, NamesMatchState, IsModeOf, says_unit, is_witness_kept}
+use Rattle.sat_solver.specs.variables.Variables.{data_at, user_of, variables_used, VariablesInvariant, NamesMatchSteps, NamesMatchState, IsModeOf, is_unit_value, is_witness_kept}
 use Rattle.sat_solver.specs.load.Literals.{user_literal, SameLiterals, IsProofLiteralOf}
-use Rattle.sat_solver.specs.load.Assumed.{marked_if, MarksAssumed, PutsMarks}
-use Rattle.sat_checker.specs.matching.Checking.{variable_of}
+use Rattle.sat_solver.specs.load.Assumed.{with_assumed_if, MarksAssumed, StoresMarks}
+use Rattle.sat_checker.specs.matching.Checking.{variable_named}
 use Rattle.sat_checker.specs.matching.ProofChecking.{checker_rules}
 use Rattle.sat_checker.specs.matching.Expected.{Outcome, Opens, opens}
 use Rattle.sat_checker.specs.matching.Traces.{no_step, visible}
-use Rattle.sat_solver.specs.variables.Calls.{NamesInvariant, ReachesScriptState, NamesEffect}
+use Rattle.sat_solver.specs.variables.Calls.{NamesInvariant, ReachesScriptState, ChangesScriptState}
 use Rattle.sat_solver.specs.declared.variables.Variables.{Variables}
 use Rattle.sat_solver.proofs.lemmas.variables.NewName.{shape}
 use Rattle.sat_base.proofs.lemmas.script.LiteralValues.{coded_half}
@@ -42,21 +42,21 @@ one_marked first now next all index l v assumed m lt at is put = record {
   rest = λ new k. m.rest new (subst (λ ls. MarksAssumed now new ls assumed) (sym (drop_more all index 0 lt ∙ ap (λ y. y ∷ drop (index + 1) all) (sym at))) (record { each = λ w. k.each w ∙ at_one w (eqb (variable l) w) refl (mentions (drop (index + 1) all) w) }));
 }
   where
-    at_one : (w : ℕ) (b : Bool) → eqb (variable l) w ≡ b → (q : Bool) → marked_if q assumed (next w) ≡ marked_if (eqb (variable l) w || q) assumed (now w)
+    at_one : (w : ℕ) (b : Bool) → eqb (variable l) w ≡ b → (q : Bool) → with_assumed_if q assumed (next w) ≡ with_assumed_if (eqb (variable l) w || q) assumed (now w)
     at_one w b t q = go b t (put w)
       where
-        go : (b : Bool) → eqb (variable l) w ≡ b → next w ≡ cond (eqb w v) (record (now v) { assumed = assumed }) (now w) → marked_if q assumed (next w) ≡ marked_if (eqb (variable l) w || q) assumed (now w)
+        go : (b : Bool) → eqb (variable l) w ≡ b → next w ≡ cond (eqb w v) (record (now v) { assumed = assumed }) (now w) → with_assumed_if q assumed (next w) ≡ with_assumed_if (eqb (variable l) w || q) assumed (now w)
         go true t e =
             let same : w ≡ v = sym (eqb-true (variable l) w t) ∙ sym is in
             let here : next w ≡ record (now w) { assumed = assumed } = e ∙ ap (λ x. cond x (record (now v) { assumed = assumed }) (now w)) (eq-eqb w v same) ∙ ap {A = ℕ} (λ x. record (now x) { assumed = assumed }) (sym same) in
-            ap (marked_if q assumed) here ∙ twice q ∙ sym (ap (λ x. marked_if (x || q) assumed (now w)) t)
+            ap (with_assumed_if q assumed) here ∙ twice q ∙ sym (ap (λ x. with_assumed_if (x || q) assumed (now w)) t)
           where
-            twice : (q : Bool) → marked_if q assumed (record (now w) { assumed = assumed }) ≡ record (now w) { assumed = assumed }
+            twice : (q : Bool) → with_assumed_if q assumed (record (now w) { assumed = assumed }) ≡ record (now w) { assumed = assumed }
             twice true = refl
             twice false = refl
         go false t e =
             let here : next w ≡ now w = e ∙ ap (λ x. cond x (record (now v) { assumed = assumed }) (now w)) (ne_eqb w v (λ x. true≢false (sym (eq-eqb (variable l) w (sym is ∙ sym x)) ∙ t))) in
-            ap (marked_if q assumed) here ∙ sym (ap (λ x. marked_if (x || q) assumed (now w)) t)
+            ap (with_assumed_if q assumed) here ∙ sym (ap (λ x. with_assumed_if (x || q) assumed (now w)) t)
 
 pub all_marked : (first now : ℕ → VarData) (all : List ℕ) (index : ℕ) (assumed : Bool) → length all ≤ index → Marking first now all index assumed → MarksAssumed first now all assumed
 all_marked first now all index assumed le m = m.rest now (subst (λ ls. MarksAssumed now now ls assumed) (sym (drop_all index all le)) (record { each = λ v. refl }))
@@ -65,16 +65,16 @@ all_marked first now all index assumed le m = m.rest now (subst (λ ls. MarksAss
 
 -- the marks of the earlier list are cleared, those of the new one are set
 pub remarked : (old mid new : ℕ → VarData) (before ls : List ℕ) → ((v : ℕ) → mentions before v ≡ (old v).assumed) → MarksAssumed old mid before false → MarksAssumed mid new ls true → (v : ℕ) → new v ≡ record (old v) { assumed = mentions ls v }
-remarked old mid new before ls marked one two v = two.each v ∙ ap (marked_if (mentions ls v) true) (cleared (mentions before v) refl) ∙ set (mentions ls v)
+remarked old mid new before ls marked one two v = two.each v ∙ ap (with_assumed_if (mentions ls v) true) (cleared (mentions before v) refl) ∙ set (mentions ls v)
   where
     still : (d : VarData) → d.assumed ≡ false → d ≡ record d { assumed = false }
     still d e = ap {A = Bool} (λ b. record d { assumed = b }) e
 
     cleared : (b : Bool) → mentions before v ≡ b → mid v ≡ record (old v) { assumed = false }
-    cleared true t = one.each v ∙ ap (λ b. marked_if b false (old v)) t
-    cleared false t = one.each v ∙ ap (λ b. marked_if b false (old v)) t ∙ still (old v) (sym (marked v) ∙ t)
+    cleared true t = one.each v ∙ ap (λ b. with_assumed_if b false (old v)) t
+    cleared false t = one.each v ∙ ap (λ b. with_assumed_if b false (old v)) t ∙ still (old v) (sym (marked v) ∙ t)
 
-    set : (b : Bool) → marked_if b true (record (old v) { assumed = false }) ≡ record (old v) { assumed = b }
+    set : (b : Bool) → with_assumed_if b true (record (old v) { assumed = false }) ≡ record (old v) { assumed = b }
     set true = refl
     set false = refl
 
@@ -90,7 +90,7 @@ marked_within n ls v tidy e m = go (data_at n v).deleted refl
     go false t = t
     go true t = absurd (true≢false (sym m ∙ e ∙ ap (λ d. d.assumed) (tidy.gone v t)))
 
-module _ (old new : Variables) (ls : List ℕ) (tidy : VariablesInvariant old) (live : (v : ℕ) → mentions ls v ≡ true → (data_at old v).deleted ≡ false) (put : PutsMarks old new ls) where
+module _ (old new : Variables) (ls : List ℕ) (tidy : VariablesInvariant old) (live : (v : ℕ) → mentions ls v ≡ true → (data_at old v).deleted ≡ false) (put : StoresMarks old new ls) where
   user_at : (w : ℕ) → user_of new w ≡ user_of old w
   user_at w = ap (λ m. target m.bwd w) put.users
 
@@ -140,7 +140,7 @@ module _ (old new : Variables) (ls : List ℕ) (tidy : VariablesInvariant old) (
     variables = λ w. same w ∙ said.variables w ∙ sym (ap (λ d. shape d (user_of new w)) (put.kept w) ∙ ap (shape (data_at old w)) (user_at w));
     solver_names = λ w. said.solver_names w ∙ ap (λ m. target m.fwd w) (sym put.solvers);
     unused = λ w e. said.unused w (sym (ap (λ m. target m.fwd w) put.solvers) ∙ e);
-    units = λ w e b. said.units w (sym (ap (λ m. target m.fwd w) put.solvers) ∙ e) b ∙ ap (λ d. says_unit d.unit b) (sym (put.kept w));
+    units = λ w e b. said.units w (sym (ap (λ m. target m.fwd w) put.solvers) ∙ e) b ∙ ap (λ d. is_unit_value d.unit b) (sym (put.kept w));
     marked = λ w. ap (λ d. d.assumed) (sym (put.kept w));
   }
 
@@ -171,13 +171,13 @@ spelt_live n user (x ∷ xs) tidy h v e = go (spelt_live n user xs tidy h.1 v) (
         ap (λ k. (data_at n k).deleted) (sym same) ∙ tidy.indexed i.variable_is i.index_is i.indexed
     go rest false t f = rest f
 
-pub assumptions_written : (old new : Variables) (from to : List Step) (user ls : List ℕ) → NamesInvariant old from → SameLiterals old user ls → PutsMarks old new ls → to ≡ Assumptions ls ∷ from → (o : Outcome) → NamesEffect old new from to (λ j. j) (λ j. Opens (map user_literal user) o ∷ [])
+pub assumptions_written : (old new : Variables) (from to : List Step) (user ls : List ℕ) → NamesInvariant old from → SameLiterals old user ls → StoresMarks old new ls → to ≡ Assumptions ls ∷ from → (o : Outcome) → ChangesScriptState old new from to (λ j. j) (λ j. Opens (map user_literal user) o ∷ [])
 assumptions_written old new from to user ls valid same put e o = record {
   valid = record {
     tidy = tidy_marked old new ls valid.tidy live put;
     said = subst (λ steps. NamesMatchSteps new (session_after steps)) (sym e) (said_marked old new ls valid.tidy live put (session_after from) valid.said (λ v. known_same (session_after from) ls v (all_known old from user ls valid same)));
     may = subst AreAllowedSteps (sym e) (valid.may, tt);
-    read = λ u. ap (λ steps. variable_of steps (u + 1)) e ∙ valid.read u ∙ ap (λ m. target m.fwd u) (sym put.users);
+    read = λ u. ap (λ steps. variable_named steps (u + 1)) e ∙ valid.read u ∙ ap (λ m. target m.fwd u) (sym put.users);
   };
   kept = λ j list a. subst (λ steps. ReachesScriptState new from steps j (Opens (map user_literal user) o ∷ [])) (sym e) (record {
     live = list;

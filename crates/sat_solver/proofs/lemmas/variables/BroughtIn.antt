@@ -9,7 +9,7 @@ use Rattle.sat_solver.specs.variables.Live.{given_of}
 use Rattle.sat_solver.specs.variables.Variables.{data_at, global_of, names_used, VariablesInvariant, NamesMatchState}
 use Rattle.sat_solver.specs.variables.Naming.{IsNextUser}
 use Rattle.sat_checker.specs.matching.Expected.{NewName}
-use Rattle.sat_solver.specs.variables.Calls.{NamesInvariant, ReachesScriptState, NamesOne, NamesAll, IntroducesName, IntroducesNameUnseen}
+use Rattle.sat_solver.specs.variables.Calls.{NamesInvariant, ReachesScriptState, IntroducesOne, IntroducesAll, IntroducesName, IntroducesNameUnseen}
 use Rattle.sat_solver.specs.declared.variables.Variables.{Variables}
 use Rattle.sat_solver.proofs.lemmas.variables.NamingSteps.{none_brought, one_then, none_yet, last_came}
 use Rattle.sat_solver.proofs.lemmas.variables.Extending.{extends_same}
@@ -19,13 +19,13 @@ use Rattle.sat_solver.specs.variables.VariableRoom.{LeavesRoom}
 use Rattle.sat_solver.proofs.lemmas.variables.RoomLemmas.{room_one, room_none}
 use Rattle.sat_solver.proofs.lemmas.session.ComingLemmas.{comes_none, comes_one}
 
-as_new : (old new : Variables) (from to : List Step) (user : ℕ) (names : List ℕ) → ((j : ScriptState) (live : LiveVariables) → NamesMatchState old j live → new_names (user + 1) j ≡ names) → NamesAll old new from to names → IntroducesName old new from to user
+as_new : (old new : Variables) (from to : List Step) (user : ℕ) (names : List ℕ) → ((j : ScriptState) (live : LiveVariables) → NamesMatchState old j live → new_names (user + 1) j ≡ names) → IntroducesAll old new from to names → IntroducesName old new from to user
 as_new old new from to user names is all = record {
   valid = all.valid;
   kept = λ j live a. subst (λ ns. ReachesScriptState new from to (with_names ns j) (map NewName ns)) (sym (is j live a.judged)) (all.kept j live a);
 }
 
-pub brings_new : (old new : Variables) (from to : List Step) (user : ℕ) → names_used old ≤ user → NamesAll old new from to (names_from (user + 1 - names_used old) (names_used old + 1)) → IntroducesName old new from to user
+pub brings_new : (old new : Variables) (from to : List Step) (user : ℕ) → names_used old ≤ user → IntroducesAll old new from to (names_from (user + 1 - names_used old) (names_used old + 1)) → IntroducesName old new from to user
 brings_new old new from to user le all = as_new old new from to user (names_from (user + 1 - names_used old) (names_used old + 1)) is all
   where
     is : (j : ScriptState) (live : LiveVariables) → NamesMatchState old j live → new_names (user + 1) j ≡ names_from (user + 1 - names_used old) (names_used old + 1)
@@ -48,7 +48,7 @@ brings_none old from user v valid lt e = as_new old old from from user [] is (no
         let alive : (data_at old v).deleted ≡ false = valid.tidy.named v user (valid.tidy.users.back user v e) in
         below old user lt j live judged ∙ ap (λ o. cond (is_some (given_of live o)) [] ((user + 1) ∷ [])) e ∙ ap (λ b. cond b [] ((user + 1) ∷ [])) (judged.in_use v ∙ ap not alive)
 
-pub brings_again : (old new : Variables) (from to : List Step) (user v : ℕ) → user < names_used old → global_of old user ≡ None → NamesOne old new from to user v → IntroducesName old new from to user
+pub brings_again : (old new : Variables) (from to : List Step) (user v : ℕ) → user < names_used old → global_of old user ≡ None → IntroducesOne old new from to user v → IntroducesName old new from to user
 brings_again old new from to user v lt e one = as_new old new from to user ((user + 1) ∷ []) is (one_then old new new from to to user v [] one (none_brought new to one.valid))
   where
     is : (j : ScriptState) (live : LiveVariables) → NamesMatchState old j live → new_names (user + 1) j ≡ (user + 1) ∷ []
@@ -57,11 +57,11 @@ brings_again old new from to user v lt e one = as_new old new from to user ((use
 pub brought_none : (old : Variables) (from : List Step) (user v : ℕ) → NamesInvariant old from → user < names_used old → global_of old user ≡ Some v → IntroducesNameUnseen old old from from user
 brought_none old from user v valid lt e = record { brings = brings_none old from user v valid lt e; extends = extends_same old; unseen = unseen_same old from; comes = comes_none IsDue from; room = λ us. room_none old user v us lt e }
 
-pub ok_new : {A E : Type 0} (r : Result A E) (old new : Variables) (from to : List Step) (user : ℕ) → names_used old ≤ user → OnOk r (NamesAll old new from to (names_from (user + 1 - names_used old) (names_used old + 1))) → OnOk r (LeavesRoom old new user) → OnOk r (IntroducesNameUnseen old new from to user)
+pub ok_new : {A E : Type 0} (r : Result A E) (old new : Variables) (from to : List Step) (user : ℕ) → names_used old ≤ user → OnOk r (IntroducesAll old new from to (names_from (user + 1 - names_used old) (names_used old + 1))) → OnOk r (LeavesRoom old new user) → OnOk r (IntroducesNameUnseen old new from to user)
 ok_new (Ok x) old new from to user le p room = record { brings = brings_new old new from to user le p; extends = p.extends; unseen = p.unseen; comes = p.comes; room = room }
 ok_new (Err e) old new from to user le p room = tt
 
-pub ok_again : {E : Type 0} (r : Result ℕ E) (old new : Variables) (from to : List Step) (user : ℕ) → user < names_used old → global_of old user ≡ None → IfOk r (λ v. NamesOne old new from to user v) → OnOk r (IntroducesNameUnseen old new from to user)
+pub ok_again : {E : Type 0} (r : Result ℕ E) (old new : Variables) (from to : List Step) (user : ℕ) → user < names_used old → global_of old user ≡ None → IfOk r (λ v. IntroducesOne old new from to user v) → OnOk r (IntroducesNameUnseen old new from to user)
 ok_again (Ok v) old new from to user lt e p = record {
   brings = brings_again old new from to user v lt e p;
   extends = p.extends;
@@ -80,7 +80,7 @@ hidden_name n u tidy e = go (ltb u (names_used n)) refl (global_of n u) refl (sy
     go false x o y f = absurd (cc)
 
 -- the next name was introduced
-pub brought_next : (old new : Variables) (from to : List Step) (user v : ℕ) → NamesInvariant old from → IsNextUser old user → NamesOne old new from to user v → IntroducesNameUnseen old new from to user
+pub brought_next : (old new : Variables) (from to : List Step) (user v : ℕ) → NamesInvariant old from → IsNextUser old user → IntroducesOne old new from to user v → IntroducesNameUnseen old new from to user
 brought_next old new from to user v valid next one = elim (cases_lt user (names_used old)) [
   | inl lt ↦ record { brings = brings_again old new from to user v lt next.unused one; extends = one.extends; unseen = one.unseen; comes = comes_one IsDue from to (UserVarName v (Some user)) one.step one.next; room = room_one old new user v next.unused next.reach one.named one.used one.live }
   | inr le ↦

@@ -5,29 +5,29 @@ use Rattle.std.proofs.lemmas.Result.{err_from_is_err_and}
 use Rattle.sat_base.specs.device.Device.{Writer}
 use Rattle.sat_base.specs.steps.Steps.{Step}
 use Rattle.sat_checker.specs.declared.processing.ProofProcessor.{Ghosts}
-use Rattle.sat_solver.specs.session.Making.{ComesByCheckedSteps, BreaksEmitting}
+use Rattle.sat_solver.specs.session.Emitting.{EmitsSomeChecked, FailsWhileEmitting}
 use Rattle.sat_solver.specs.proof.ProofView.{EmitsChecked, FailsToEmit, FailsCheck}
 use Rattle.sat_solver.specs.declared.proof.emitted.CheckFault.{CheckFault}
 use Rattle.sat_solver.specs.declared.proof.Proof.{Proof}
 use Rattle.sat_solver.specs.declared.variables.error.NameError.{NameError}
 use Rattle.sat_solver.specs.declared.variables.error.NameError.TheVariants as errors
-use Rattle.sat_solver.specs.variables.Failing.{EmitsUpTo, EmitsOrFails}
+use Rattle.sat_solver.specs.variables.NameFailures.{EmitsUpTo, EmitsOrFails}
 use Rattle.sat_solver.proofs.lemmas.session.ProofLemmas.{gains_adds, gains_more, fails_later, check_later}
 
 -- a step was accepted after others
-pub took_step : {W L : Type 0} {G : Ghosts L} (seen : W → Writer) (w a b : Proof W L G) (step : Step) → ComesByCheckedSteps seen w a → EmitsChecked seen (step ∷ []) a b → ComesByCheckedSteps seen w b
+pub took_step : {W L : Type 0} {G : Ghosts L} (seen : W → Writer) (w a b : Proof W L G) (step : Step) → EmitsSomeChecked seen w a → EmitsChecked seen (step ∷ []) a b → EmitsSomeChecked seen w b
 took_step seen w a b step t adds = (_, gains_more seen t.0 (step ∷ []) w a b t.1 adds)
 
 -- a call of the target failed while the text of a step was written; other facts still hold
-pub broke_step : {W L Kept : Type 0} {G : Ghosts L} (seen : W → Writer) (w a b : Proof W L G) (step : Step) → ComesByCheckedSteps seen w a → FailsToEmit seen (step ∷ []) a b × Kept → BreaksEmitting seen w b × Kept
+pub broke_step : {W L Kept : Type 0} {G : Ghosts L} (seen : W → Writer) (w a b : Proof W L G) (step : Step) → EmitsSomeChecked seen w a → FailsToEmit seen (step ∷ []) a b × Kept → FailsWhileEmitting seen w b × Kept
 broke_step seen w a b step t fails = ((_, fails_later seen t.0 (step ∷ []) w a b (gains_adds seen t.0 w a t.1) fails.0), fails.1)
 
 -- the checker failed at a step
-pub check_step : {W L Kept : Type 0} {G : Ghosts L} {fault : CheckFault} (seen : W → Writer) (w a b : Proof W L G) (step : Step) → ComesByCheckedSteps seen w a → FailsCheck seen fault (step ∷ []) a b × Kept → (steps : List Step) × FailsCheck seen fault steps w b × Kept
+pub check_step : {W L Kept : Type 0} {G : Ghosts L} {fault : CheckFault} (seen : W → Writer) (w a b : Proof W L G) (step : Step) → EmitsSomeChecked seen w a → FailsCheck seen fault (step ∷ []) a b × Kept → (steps : List Step) × FailsCheck seen fault steps w b × Kept
 check_step seen w a b step t fails = (_, check_later seen t.0 (step ∷ []) w a b (gains_adds seen t.0 w a t.1) fails.0, fails.1)
 
 -- memory ran out before a step was made
-pub took_none : {W L : Type 0} {G : Ghosts L} (seen : W → Writer) (w a b : Proof W L G) → ComesByCheckedSteps seen w a → EmitsChecked seen [] a b → ComesByCheckedSteps seen w b
+pub took_none : {W L : Type 0} {G : Ghosts L} (seen : W → Writer) (w a b : Proof W L G) → EmitsSomeChecked seen w a → EmitsChecked seen [] a b → EmitsSomeChecked seen w b
 took_none seen w a b t adds = (_, gains_more seen t.0 [] w a b t.1 adds)
 
 module _ {W : Type 0} (took : W → W → Type 0) (broke : W → NameError → W → Type 0) where

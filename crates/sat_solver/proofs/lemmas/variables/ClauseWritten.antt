@@ -11,18 +11,18 @@ use Rattle.sat_store.specs.declared.data.SamplingMode.TheVariants as kept
 use Rattle.sat_checker.specs.LiteralSets.{is_among, is_tautology, canonical, mentions, same_literals}
 use Rattle.sat_checker.proofs.lemmas.state.Forgetting.{mentions_set}
 use Rattle.sat_checker.proofs.lemmas.sets.Canonical.{canonical_among}
-use Rattle.sat_checker.specs.Stored.{Sample, Variable, unknown}
-use Rattle.sat_checker.specs.Contents.{more_if, same_side}
-use Rattle.sat_solver.specs.session.Session.{Session, IsAllowedStep, AreAllowedSteps, session_after, after, with_fact}
+use Rattle.sat_checker.specs.Stored.{Sample, Variable, initial_variable}
+use Rattle.sat_checker.specs.Contents.{plus_one_if, same_flag}
+use Rattle.sat_solver.specs.session.Session.{Session, IsAllowedStep, AreAllowedSteps, session_after, after, with_unit_added}
 use Rattle.sat_solver.proofs.lemmas.session.Changes.{knowing_literals, with_sorted, with_live_clause, session_if}
 use Rattle.sat_solver.proofs.lemmas.session.StepLemmas.{sessions_are_accepted}
 use Rattle.sat_solver.specs.variables.Variables.{data_at, user_of, solver_of, NamesMatchSteps, IsInNoNonUnitClause, checker_mode}
 use Rattle.sat_solver.specs.load.Literals.{user_literal, IsProofLiteralOf, SameLiterals}
-use Rattle.sat_checker.specs.matching.Checking.{variable_of}
+use Rattle.sat_checker.specs.matching.Checking.{variable_named}
 use Rattle.sat_checker.specs.matching.ProofChecking.{checker_rules}
-use Rattle.sat_checker.specs.matching.Expected.{Spells, SameSet, EachSpelt, Adds, adds}
+use Rattle.sat_checker.specs.matching.Expected.{IsLiteralOf, IsSameLiteralSet, EachHasItsLiteral, Adds, adds}
 use Rattle.sat_checker.specs.matching.Traces.{no_step, visible}
-use Rattle.sat_solver.specs.variables.Calls.{NamesInvariant, ReachesScriptState, NamesEffect}
+use Rattle.sat_solver.specs.variables.Calls.{NamesInvariant, ReachesScriptState, ChangesScriptState}
 use Rattle.sat_solver.specs.declared.variables.Variables.{Variables}
 use Rattle.sat_base.proofs.lemmas.script.LiteralValues.{coded_half, all_map}
 use Rattle.sat_checker.proofs.lemmas.matching.Bridge.{added}
@@ -34,7 +34,7 @@ record SameNames (s t : Session) : Type 0 where
   solver_names : t.solver_names ≡ s.solver_names
   assumed : t.assumed ≡ s.assumed
 
-fact_same : (l : ℕ) (s : Session) → SameNames s (with_fact l s)
+fact_same : (l : ℕ) (s : Session) → SameNames s (with_unit_added l s)
 fact_same l s = go (s.units l) (s.units (negated l))
   where
     go : (b d : Bool) → SameNames s (session_if b s (session_if d (record s { unsat = true }) (record s { units = λ m. eqb l m || s.units m })))
@@ -113,7 +113,7 @@ same_lists (x ∷ xs) [] e = absurd (true≢false (sym e))
 same_lists (x ∷ xs) (y ∷ ys) e = let h = and_left (eqb x y) (same_literals xs ys) e in let t = and_right (eqb x y) (same_literals xs ys) e in ap (λ k. k ∷ xs) (eqb-true x y h) ∙ ap (λ k. y ∷ k) (same_lists xs ys t)
 
 -- units of variables that aren't in the clause are unchanged
-fact_units : (l m : ℕ) (s : Session) → l ≢ m → (with_fact l s).units m ≡ s.units m
+fact_units : (l m : ℕ) (s : Session) → l ≢ m → (with_unit_added l s).units m ≡ s.units m
 fact_units l m s ne = go (s.units l) (s.units (negated l))
   where
     go : (b d : Bool) → (session_if b s (session_if d (record s { unsat = true }) (record s { units = λ k. eqb l k || s.units k }))).units m ≡ s.units m
@@ -158,11 +158,11 @@ added_unused s c w e h r set lt = go s.unsat lt
         fact true d y = h r q y
         fact false true y = h r q y
         fact false false y = h r q y
-    inner (l ∷ k ∷ ls) m q x = more_live (same_side false r && same_literals (l ∷ k ∷ ls) q) refl x
+    inner (l ∷ k ∷ ls) m q x = more_live (same_flag false r && same_literals (l ∷ k ∷ ls) q) refl x
       where
-        more_live : (b : Bool) → (same_side false r && same_literals (l ∷ k ∷ ls) q) ≡ b → 0 < more_if b (s.live r q) → mentions q w ≡ false
+        more_live : (b : Bool) → (same_flag false r && same_literals (l ∷ k ∷ ls) q) ≡ b → 0 < plus_one_if b (s.live r q) → mentions q w ≡ false
         more_live false t y = h r q y
-        more_live true t y = ap (λ z. mentions z w) (sym (same_lists (l ∷ k ∷ ls) q (and_right (same_side false r) (same_literals (l ∷ k ∷ ls) q) t))) ∙ m
+        more_live true t y = ap (λ z. mentions z w) (sym (same_lists (l ∷ k ∷ ls) q (and_right (same_flag false r) (same_literals (l ∷ k ∷ ls) q) t))) ∙ m
 
     go : (b : Bool) → 0 < (session_if b s (with_live_clause false c (knowing_literals c s))).live r set → mentions set w ≡ false
     go true x = h r set x
@@ -186,7 +186,7 @@ module _ (n : Variables) (from : List Step) (user clause : List ℕ) (valid : Na
       let alive = valid.tidy.named f.variable_is (variable l) name in
       let v : variable code ≡ f.variable_is = ap variable f.is ∙ coded_half f.variable_is (is_positive l) in
       ap (session_after from).variables v ∙ valid.said.variables f.variable_is
-      ∙ ap (λ b. cond b unknown (record { known = true; mode = checker_mode (data_at n f.variable_is).sampling_mode; name = user_of n f.variable_is })) alive
+      ∙ ap (λ b. cond b initial_variable (record { known = true; mode = checker_mode (data_at n f.variable_is).sampling_mode; name = user_of n f.variable_is })) alive
       ∙ made (data_at n f.variable_is).sampling_mode (user_of n f.variable_is) f.sampled name
     where
       made : (m : SamplingMode) (o : Option ℕ) → m ≡ kept.Sample → o ≡ Some (variable l) → (let x : Variable = record { known = true; mode = checker_mode m; name = o } in x) ≡ record { known = true; mode = Sample; name = Some (variable l) }
@@ -198,10 +198,10 @@ module _ (n : Variables) (from : List Step) (user clause : List ℕ) (valid : Na
   pub may_add : IsAllowedStep (session_after from) (AddClause clause)
   may_add = inr (all_map (λ code. (l : ℕ) × IsProofLiteralOf n l code × Among l user) (λ code. ((session_after from).variables (variable code)).mode ≡ Sample) clause (λ code x. ap (λ y. y.mode) (at x.0 code x.1)) same.only)
 
-  spells : (l code : ℕ) → IsProofLiteralOf n l code → Spells (variable_of from) (user_literal l) code
+  spells : (l code : ℕ) → IsProofLiteralOf n l code → IsLiteralOf (variable_named from) (user_literal l) code
   spells l code f = record { variable = f.variable_is; named = valid.read (variable l) ∙ f.named; is = f.is }
 
-  spelt : (ls : List ℕ) → AllByRecursion (λ l. (code : ℕ) × IsProofLiteralOf n l code × Among code clause) ls → EachSpelt (variable_of from) (map user_literal ls) clause
+  spelt : (ls : List ℕ) → AllByRecursion (λ l. (code : ℕ) × IsProofLiteralOf n l code × Among code clause) ls → EachHasItsLiteral (variable_named from) (map user_literal ls) clause
   spelt [] h = tt
   spelt (l ∷ ls) h = ((h.0.0, spells l h.0.0 h.0.1, h.0.2), spelt ls h.1)
 
@@ -210,14 +210,14 @@ module _ (n : Variables) (from : List Step) (user clause : List ℕ) (valid : Na
   among_named l (x ∷ xs) (inl e) = inl (ap user_literal e)
   among_named l (x ∷ xs) (inr m) = inr (among_named l xs m)
 
-  pub same_set : SameSet (variable_of from) (map user_literal user) clause
+  pub same_set : IsSameLiteralSet (variable_named from) (map user_literal user) clause
   same_set = (
     spelt user same.there,
-    all_map (λ code. (l : ℕ) × IsProofLiteralOf n l code × Among l user) (λ code. (l : Literal) × Spells (variable_of from) l code × Among l (map user_literal user)) clause
+    all_map (λ code. (l : ℕ) × IsProofLiteralOf n l code × Among l user) (λ code. (l : Literal) × IsLiteralOf (variable_named from) l code × Among l (map user_literal user)) clause
         (λ code x. (user_literal x.0, spells x.0 code x.1, among_named x.0 user x.2)) same.only,
   )
 
-  pub clause_written : (to : List Step) → to ≡ AddClause clause ∷ from → NamesEffect n n from to (with_clause (map user_literal user)) (λ j. Adds (map user_literal user) ∷ [])
+  pub clause_written : (to : List Step) → to ≡ AddClause clause ∷ from → ChangesScriptState n n from to (with_clause (map user_literal user)) (λ j. Adds (map user_literal user) ∷ [])
   clause_written to e = record {
     valid = record {
       tidy = valid.tidy;
@@ -229,7 +229,7 @@ module _ (n : Variables) (from : List Step) (user clause : List ℕ) (valid : Na
         marked = λ w. ap (λ ls. mentions ls w) (added_assumed (session_after from) clause) ∙ valid.said.marked w;
       });
       may = subst AreAllowedSteps (sym e) (valid.may, may_add);
-      read = λ u. ap (λ steps. variable_of steps (u + 1)) e ∙ valid.read u;
+      read = λ u. ap (λ steps. variable_named steps (u + 1)) e ∙ valid.read u;
     };
     kept = λ j live a. subst (λ steps. ReachesScriptState n from steps (with_clause (map user_literal user) j) (Adds (map user_literal user) ∷ [])) (sym e) (record {
       live = live;

@@ -6,13 +6,13 @@ use Rattle.sat_base.specs.values.Literals.{variable}
 use Rattle.sat_base.specs.script.Script.{Among}
 use Rattle.sat_base.specs.steps.Steps.{Step, SolverVarName, UserVarName, DeleteVar, ChangeSamplingMode, DeleteClause, ChangeHashBits}
 use Rattle.sat_checker.specs.LiteralSets.{mentions}
-use Rattle.sat_solver.specs.session.AllowedSteps.{OnlyAllowedSteps, DeletesAdded}
+use Rattle.sat_solver.specs.session.AllowedSteps.{OnlyAllowedSteps, DeletesJustAdded}
 use Rattle.sat_solver.specs.session.Session.{session_after}
-use Rattle.sat_checker.specs.matching.Checking.{variable_of}
-use Rattle.sat_solver.specs.variables.NamingSteps.{ForgetsIdle, IsDue, IsNextSolver, LeavesNoneIdle, IsLiteralsStep, IsClauseStep, IsHidingStep, TurnsMode, IsModeStep}
+use Rattle.sat_checker.specs.matching.Checking.{variable_named}
+use Rattle.sat_solver.specs.variables.NamingSteps.{DeletesIdleVariable, IsDue, IsNextIndexInSession, LeavesNoIdleVariable, IsLiteralsStep, IsClauseStep, IsHidingStep, ChangesModeTo, IsModeStep}
 use Rattle.sat_solver.specs.variables.Naming.{ExtendsNames}
 use Rattle.sat_solver.specs.variables.Refusing.{IsAssumed, names_in}
-use Rattle.sat_solver.specs.variables.Search.{IsUnseen}
+use Rattle.sat_solver.specs.variables.Search.{KeepsWhatSearchSees}
 use Rattle.sat_solver.specs.variables.Variables.{NamesMatchSteps, VariablesInvariant, data_at, global_of}
 use Rattle.sat_solver.specs.declared.variables.Variables.{Variables}
 use Rattle.sat_solver.proofs.lemmas.session.ComingLemmas.{comes_none, comes_one, comes_both, comes_map}
@@ -32,7 +32,7 @@ take_add : (names : List ℕ) (earlier : List Step) (step : Step) → IsLiterals
 take_add names earlier (DeleteClause clause proof) h = absurd (true≢false (sym h))
 take_add names earlier step h = h
 
-delete_add : (names : List ℕ) (earlier : List Step) (step : Step) → DeletesAdded earlier step → IsClauseStep names earlier step
+delete_add : (names : List ℕ) (earlier : List Step) (step : Step) → DeletesJustAdded earlier step → IsClauseStep names earlier step
 delete_add names earlier (DeleteClause clause proof) h = h
 delete_add names earlier step h = absurd h
 
@@ -43,11 +43,11 @@ module _ (names : List ℕ) (from to : List Step) where
   pub comes_added : OnlyAllowedSteps (IsLiteralsStep names) from to → OnlyAllowedSteps (IsClauseStep names) from to
   comes_added c = comes_map (IsLiteralsStep names) (IsClauseStep names) (take_add names) from to c
 
-  pub comes_deleted : OnlyAllowedSteps DeletesAdded from to → OnlyAllowedSteps (IsClauseStep names) from to
-  comes_deleted c = comes_map DeletesAdded (IsClauseStep names) (delete_add names) from to c
+  pub comes_deleted : OnlyAllowedSteps DeletesJustAdded from to → OnlyAllowedSteps (IsClauseStep names) from to
+  comes_deleted c = comes_map DeletesJustAdded (IsClauseStep names) (delete_add names) from to c
 
   -- the variable of a name got an index
-  pub comes_index : (name v x : ℕ) → Among name names → variable_of from name ≡ Some v → (to ≡ from) ⊎ ((to ≡ SolverVarName v (Some x) ∷ from) × ((session_after from).solver_names v ≡ None) × IsNextSolver (session_after from) (Some x)) → OnlyAllowedSteps (IsLiteralsStep names) from to
+  pub comes_index : (name v x : ℕ) → Among name names → variable_named from name ≡ Some v → (to ≡ from) ⊎ ((to ≡ SolverVarName v (Some x) ∷ from) × ((session_after from).solver_names v ≡ None) × IsNextIndexInSession (session_after from) (Some x)) → OnlyAllowedSteps (IsLiteralsStep names) from to
   comes_index name v x among named step = elim step [
     | inl e ↦ subst (OnlyAllowedSteps (IsLiteralsStep names) from) (sym e) (comes_none (IsLiteralsStep names) from)
     | inr e ↦ comes_one (IsLiteralsStep names) from to (SolverVarName v (Some x)) e.0 (e.2, e.1, (name, among, named))
@@ -64,7 +64,7 @@ due_set user sample earlier (ChangeSamplingMode v mode) h = absurd (true≢false
 due_set user sample earlier step h = h
 
 -- a name was introduced and hidden, and its variable may have been deleted
-pub comes_hidden : {A E : Type 0} (r : Result A E) (n : Variables) (from mids hides to : List Step) (v : ℕ) → NamesMatchSteps n (session_after hides) → OnlyAllowedSteps IsDue from mids → hides ≡ UserVarName v None ∷ mids → OnOk r (ForgetsIdle n hides to v) → OnOk r (OnlyAllowedSteps IsHidingStep from to)
+pub comes_hidden : {A E : Type 0} (r : Result A E) (n : Variables) (from mids hides to : List Step) (v : ℕ) → NamesMatchSteps n (session_after hides) → OnlyAllowedSteps IsDue from mids → hides ≡ UserVarName v None ∷ mids → OnOk r (DeletesIdleVariable n hides to v) → OnOk r (OnlyAllowedSteps IsHidingStep from to)
 comes_hidden (Err e) n from mids hides to v said brought hidden gone = tt
 comes_hidden (Ok x) n from mids hides to v said brought hidden gone = comes_both IsHidingStep from hides to (comes_both IsHidingStep from mids hides (comes_map IsDue IsHidingStep due_hide from mids brought) (comes_one IsHidingStep mids hides (UserVarName v None) hidden refl)) (elim gone [
   | inl e ↦ comes_one IsHidingStep hides to (DeleteVar v) e.0 (record { before = mids; last = hidden; without = said.solver_names v ∙ e.1 })
@@ -72,7 +72,7 @@ comes_hidden (Ok x) n from mids hides to v said brought hidden gone = comes_both
 ])
 
 -- if a name that isn't assumed was introduced and hidden, its variable isn't assumed
-pub hidden_unmarked : (n m h : Variables) (from mids hides : List Step) (user v : ℕ) → VariablesInvariant n → NamesMatchSteps n (session_after from) → ExtendsNames n m → IsUnseen n m from mids → (IsAssumed n user → ⊥) → global_of m user ≡ Some v →
+pub hidden_unmarked : (n m h : Variables) (from mids hides : List Step) (user v : ℕ) → VariablesInvariant n → NamesMatchSteps n (session_after from) → ExtendsNames n m → KeepsWhatSearchSees n m from mids → (IsAssumed n user → ⊥) → global_of m user ≡ Some v →
     NamesMatchSteps h (session_after hides) → hides ≡ UserVarName v None ∷ mids → (data_at h v).assumed ≡ false
 hidden_unmarked n m h from mids hides user v tidy said extends unseen free named then hidden =
     sym (then.marked v) ∙ ap (λ ss. mentions (session_after ss).assumed v) hidden ∙ ap (λ ls. mentions ls v) unseen.search.assumed ∙ said.marked v ∙ before (global_of n user) refl
@@ -92,7 +92,7 @@ hidden_by (UserVarName v None ∷ steps) = Some v
 hidden_by steps = None
 
 -- this variable was deleted, unless it has an index
-pub leaves_none : {A E : Type 0} (r : Result A E) (n : Variables) (mids hides to : List Step) (v : ℕ) → NamesMatchSteps n (session_after hides) → hides ≡ UserVarName v None ∷ mids → (data_at n v).assumed ≡ false → OnOk r (ForgetsIdle n hides to v) → OnOk r (LeavesNoneIdle to)
+pub leaves_none : {A E : Type 0} (r : Result A E) (n : Variables) (mids hides to : List Step) (v : ℕ) → NamesMatchSteps n (session_after hides) → hides ≡ UserVarName v None ∷ mids → (data_at n v).assumed ≡ false → OnOk r (DeletesIdleVariable n hides to v) → OnOk r (LeavesNoIdleVariable to)
 leaves_none (Err e) n mids hides to v said hidden free gone = tt
 leaves_none (Ok x) n mids hides to v said hidden free gone = λ w h. elim gone [
   | inl e ↦ none-some w (sym (ap hidden_by e.0) ∙ ap hidden_by h.last)
@@ -105,7 +105,7 @@ leaves_none (Ok x) n mids hides to v said hidden free gone = λ w h. elim gone [
 ]
 
 -- a name was introduced, and the mode of its variable may have changed
-pub comes_set : {A E : Type 0} (r : Result A E) (from mids to : List Step) (name v : ℕ) (sample : Bool) → OnlyAllowedSteps IsDue from mids → variable_of mids name ≡ Some v → OnOk r ((to ≡ mids) ⊎ ((to ≡ ChangeSamplingMode v sample ∷ mids) × TurnsMode (session_after mids) v sample)) → OnOk r (OnlyAllowedSteps (IsModeStep name sample) from to)
+pub comes_set : {A E : Type 0} (r : Result A E) (from mids to : List Step) (name v : ℕ) (sample : Bool) → OnlyAllowedSteps IsDue from mids → variable_named mids name ≡ Some v → OnOk r ((to ≡ mids) ⊎ ((to ≡ ChangeSamplingMode v sample ∷ mids) × ChangesModeTo (session_after mids) v sample)) → OnOk r (OnlyAllowedSteps (IsModeStep name sample) from to)
 comes_set (Err e) from mids to name v sample brought named set = tt
 comes_set (Ok x) from mids to name v sample brought named set = comes_both (IsModeStep name sample) from mids to (comes_map IsDue (IsModeStep name sample) (due_set name sample) from mids brought) (elim set [
   | inl e ↦ subst (OnlyAllowedSteps (IsModeStep name sample) mids) (sym e) (comes_none (IsModeStep name sample) mids)

@@ -2,7 +2,7 @@
 use Rattle.std.proofs.Common.{ℕ, zero, suc, ◌+◌, ◌-◌, ◌<◌, ◌≤◌, ◌≡◌, ◌≢◌, max, Bool, true, false, not, cond, eqb, List, length, Option, Some, None, is_some, refl, sym, ◌∙◌, ap, arith, inl, inr}
 use Rattle.std.proofs.lemmas.Bool.{eqb-true, eq-eqb, ne_eqb, cases_eq, cases_lt, true≢false}
 use Rattle.std.proofs.lemmas.List.{get_or_past}
-use Rattle.sat_store.specs.variables.Maps.{MapAndInverse, AreInverse, target, PutsTarget, Links, Unlinks}
+use Rattle.sat_store.specs.variables.Maps.{MapAndInverse, AreInverse, target, SetsTarget, Links, Unlinks}
 use Rattle.sat_solver.proofs.lemmas.variables.MapLemmas.{some_within}
 use Rattle.sat_solver.specs.variables.Counting.{count_to, mapped_count, HasEqualCounts}
 
@@ -135,12 +135,12 @@ pub count_mapped : (map : List (Option ℕ)) (n : ℕ) → length map ≤ n → 
 count_mapped map n le = count_reach (length map) n (λ v. is_some (target map v)) le (past_none map)
 
 -- one more key is mapped
-pub mapped_more : (old new : List (Option ℕ)) (i u : ℕ) → target old i ≡ None → PutsTarget old new i (Some u) → length new ≡ max (length old) (i + 1) → mapped_count new ≡ mapped_count old + 1
+pub mapped_more : (old new : List (Option ℕ)) (i u : ℕ) → target old i ≡ None → SetsTarget old new i (Some u) → length new ≡ max (length old) (i + 1) → mapped_count new ≡ mapped_count old + 1
 mapped_more old new i u none put size =
     count_more (length new) i (λ v. is_some (target old v)) (λ v. is_some (target new v)) (omega arith) (ap is_some none) (ap is_some (put i ∙ ap (λ b. cond b (Some u) (target old i)) (eq-eqb i i refl))) (λ k ne. ap is_some (put k ∙ ap (λ b. cond b (Some u) (target old k)) (ne_eqb k i ne)))
     ∙ ap (λ m. m + 1) (count_mapped old (length new) (omega arith))
 
-pub mapped_fewer : (old new : List (Option ℕ)) (i u : ℕ) → target old i ≡ Some u → PutsTarget old new i None → length new ≡ length old → i < length old → mapped_count new + 1 ≡ mapped_count old
+pub mapped_fewer : (old new : List (Option ℕ)) (i u : ℕ) → target old i ≡ Some u → SetsTarget old new i None → length new ≡ length old → i < length old → mapped_count new + 1 ≡ mapped_count old
 mapped_fewer old new i u some put size lt =
     ap (λ m. m + 1) (sym (count_mapped new (length old) (omega arith)))
     ∙ sym (count_more (length old) i (λ v. is_some (target new v)) (λ v. is_some (target old v)) lt (ap is_some (put i ∙ ap (λ b. cond b None (target old i)) (eq-eqb i i refl))) (ap is_some some) (λ k ne. ap is_some (sym (put k ∙ ap (λ b. cond b None (target old k)) (ne_eqb k i ne)))))
@@ -155,13 +155,13 @@ pub unlinks_inverse : (old new : MapAndInverse) (from into : ℕ) → AreInverse
 unlinks_inverse old new from into inverse e l even = let back = inverse.back from into e in unlinks_even old new from into e back (some_within old.fwd from into e) (some_within old.bwd into from back) l even
 
 -- the same for lists of any lengths
-pub mapped_one_more : (old new : List (Option ℕ)) (i u : ℕ) → target old i ≡ None → PutsTarget old new i (Some u) → mapped_count new ≡ mapped_count old + 1
+pub mapped_one_more : (old new : List (Option ℕ)) (i u : ℕ) → target old i ≡ None → SetsTarget old new i (Some u) → mapped_count new ≡ mapped_count old + 1
 mapped_one_more old new i u none put =
     sym (count_mapped new (length old + length new + (i + 1)) (omega arith))
     ∙ count_more (length old + length new + (i + 1)) i (λ v. is_some (target old v)) (λ v. is_some (target new v)) (omega arith) (ap is_some none) (ap is_some (put i ∙ ap (λ b. cond b (Some u) (target old i)) (eq-eqb i i refl))) (λ k ne. ap is_some (put k ∙ ap (λ b. cond b (Some u) (target old k)) (ne_eqb k i ne)))
     ∙ ap (λ m. m + 1) (count_mapped old (length old + length new + (i + 1)) (omega arith))
 
-pub mapped_one_fewer : (old new : List (Option ℕ)) (i u : ℕ) → target old i ≡ Some u → PutsTarget old new i None → mapped_count old ≡ mapped_count new + 1
+pub mapped_one_fewer : (old new : List (Option ℕ)) (i u : ℕ) → target old i ≡ Some u → SetsTarget old new i None → mapped_count old ≡ mapped_count new + 1
 mapped_one_fewer old new i u some put = mapped_one_more new old i u (put i ∙ ap (λ b. cond b None (target old i)) (eq-eqb i i refl)) (λ k. go k (eqb k i) refl)
   where
     go : (k : ℕ) (b : Bool) → eqb k i ≡ b → target old k ≡ cond (eqb k i) (Some u) (target new k)

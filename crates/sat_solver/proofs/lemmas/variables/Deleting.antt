@@ -8,16 +8,16 @@ use Rattle.sat_store.specs.declared.data.SamplingMode.TheVariants as kept
 use Rattle.sat_store.specs.variables.VarData.{unused_variable}
 use Rattle.sat_store.specs.variables.Maps.{AreInverse, target}
 use Rattle.sat_checker.specs.LiteralSets.{mentions}
-use Rattle.sat_checker.specs.Stored.{unknown}
-use Rattle.sat_solver.specs.session.Session.{Session, AreAllowedSteps, MayDeleteVar, session_after, after}
+use Rattle.sat_checker.specs.Stored.{initial_variable}
+use Rattle.sat_solver.specs.session.Session.{Session, AreAllowedSteps, CanDeleteVar, session_after, after}
 use Rattle.sat_solver.proofs.lemmas.session.StepLemmas.{sessions_are_accepted}
 use Rattle.sat_solver.specs.variables.Counting.{HasEqualCounts}
 use Rattle.sat_solver.specs.variables.Free.{is_free, IsTree}
 use Rattle.sat_checker.specs.matching.Bridge.{LiveVariables, IsBridge}
 use Rattle.sat_solver.specs.variables.Live.{given_of, given}
-use Rattle.sat_solver.specs.variables.Variables.{data_at, global_of, user_of, solver_of, variables_used, VariablesInvariant, checker_mode, checker_variable_at, NamesMatchSteps, IsModeOf, NamesMatchState, says_unit, is_witness_kept}
-use Rattle.sat_solver.specs.variables.Naming.{PutsDeleted}
-use Rattle.sat_checker.specs.matching.Checking.{variable_of}
+use Rattle.sat_solver.specs.variables.Variables.{data_at, global_of, user_of, solver_of, variables_used, VariablesInvariant, checker_mode, checker_variable_at, NamesMatchSteps, IsModeOf, NamesMatchState, is_unit_value, is_witness_kept}
+use Rattle.sat_solver.specs.variables.Naming.{StoresDeletion}
+use Rattle.sat_checker.specs.matching.Checking.{variable_named}
 use Rattle.sat_checker.specs.matching.ProofChecking.{checker_rules}
 use Rattle.sat_checker.specs.matching.Traces.{no_step, silent}
 use Rattle.sat_solver.specs.variables.Calls.{NamesInvariant, ReachesScriptState, KeepsScriptState}
@@ -57,7 +57,7 @@ given_without v (p ∷ ps) w = go (eqb p.0 v) refl (eqb p.0 w) refl (eqb w v) re
         there = ne_eqb w v (λ q. eqb-false p.0 v x (eqb-true p.0 w y ∙ q))
     go false x false y c z ih = ap (λ t. cond t (Some p.1) (given (without v ps) w)) y ∙ ih ∙ ap (λ t. cond (eqb w v) None (cond t (Some p.1) (given ps w))) (sym y)
 
-module _ (old new : Variables) (v : ℕ) (tidy : VariablesInvariant old) (alive : (data_at old v).deleted ≡ false) (nameless : user_of old v ≡ None) (noindex : solver_of old v ≡ None) (put : PutsDeleted old new v) where
+module _ (old new : Variables) (v : ℕ) (tidy : VariablesInvariant old) (alive : (data_at old v).deleted ≡ false) (nameless : user_of old v ≡ None) (noindex : solver_of old v ≡ None) (put : StoresDeletion old new v) where
   user_at : (w : ℕ) → user_of new w ≡ user_of old w
   user_at w = ap (λ m. target m.bwd w) put.users
 
@@ -149,18 +149,18 @@ module _ (old new : Variables) (v : ℕ) (tidy : VariablesInvariant old) (alive 
     marked = λ w. marked w (eqb w v) refl (put.kept w);
   }
     where
-      units : (w : ℕ) → solver_of new w ≡ None → (b : Bool) → (s.units (mk_lit w b) && not (eqb (variable (mk_lit w b)) v)) ≡ says_unit (data_at new w).unit b
+      units : (w : ℕ) → solver_of new w ≡ None → (b : Bool) → (s.units (mk_lit w b) && not (eqb (variable (mk_lit w b)) v)) ≡ is_unit_value (data_at new w).unit b
       units w e b = ap (λ k. s.units (mk_lit w b) && not (eqb k v)) (coded_half w b) ∙ at (eqb w v) (put.kept w)
         where
-          at : (q : Bool) → data_at new w ≡ cond q unused_variable (data_at old w) → (s.units (mk_lit w b) && not q) ≡ says_unit (data_at new w).unit b
-          at true x = and_false (s.units (mk_lit w b)) ∙ sym (ap (λ d. says_unit d.unit b) x)
-          at false x = and_true (s.units (mk_lit w b)) ∙ said.units w (sym (ap (λ m. target m.fwd w) put.solvers) ∙ e) b ∙ sym (ap (λ d. says_unit d.unit b) x)
+          at : (q : Bool) → data_at new w ≡ cond q unused_variable (data_at old w) → (s.units (mk_lit w b) && not q) ≡ is_unit_value (data_at new w).unit b
+          at true x = and_false (s.units (mk_lit w b)) ∙ sym (ap (λ d. is_unit_value d.unit b) x)
+          at false x = and_true (s.units (mk_lit w b)) ∙ said.units w (sym (ap (λ m. target m.fwd w) put.solvers) ∙ e) b ∙ sym (ap (λ d. is_unit_value d.unit b) x)
 
       marked : (w : ℕ) (q : Bool) → eqb w v ≡ q → data_at new w ≡ cond q unused_variable (data_at old w) → mentions s.assumed w ≡ (data_at new w).assumed
       marked w true t x = ap (mentions s.assumed) (eqb-true w v t) ∙ unmarked ∙ sym (ap (λ d. d.assumed) x)
       marked w false t x = said.marked w ∙ sym (ap (λ d. d.assumed) x)
 
-      go : (w : ℕ) (b : Bool) → data_at new w ≡ cond b unused_variable (data_at old w) → cond b unknown (s.variables w) ≡ checker_variable_at new w
+      go : (w : ℕ) (b : Bool) → data_at new w ≡ cond b unused_variable (data_at old w) → cond b initial_variable (s.variables w) ≡ checker_variable_at new w
       go w true x = sym (ap (λ d. shape d (user_of new w)) x)
       go w false x = said.variables w ∙ sym (ap (λ d. shape d (user_of new w)) x ∙ ap (shape (data_at old w)) (user_at w))
 
@@ -209,7 +209,7 @@ module _ (old new : Variables) (v : ℕ) (tidy : VariablesInvariant old) (alive 
           go true x = subst (λ d. IsModeOf d.sampling_mode (get_or j.modes i Sampled)) (sym x) tt
           go false x = subst (λ d. IsModeOf d.sampling_mode (get_or j.modes i Sampled)) (sym x) (judged.modes w i (was w i e))
 
-pub may_delete : (old : Variables) (v : ℕ) (s : Session) → VariablesInvariant old → NamesMatchSteps old s → (data_at old v).deleted ≡ false → user_of old v ≡ None → solver_of old v ≡ None → (data_at old v).assumed ≡ false → MayDeleteVar s v
+pub may_delete : (old : Variables) (v : ℕ) (s : Session) → VariablesInvariant old → NamesMatchSteps old s → (data_at old v).deleted ≡ false → user_of old v ≡ None → solver_of old v ≡ None → (data_at old v).assumed ≡ false → CanDeleteVar s v
 may_delete old v s tidy said alive nameless noindex unmarked = record {
   known = ap (λ x. x.known) at;
   nameless = ap (λ x. x.name) at ∙ nameless;
@@ -219,16 +219,16 @@ may_delete old v s tidy said alive nameless noindex unmarked = record {
 }
   where
     at : s.variables v ≡ record { known = true; mode = checker_mode (data_at old v).sampling_mode; name = user_of old v }
-    at = said.variables v ∙ ap (λ b. cond b unknown (record { known = true; mode = checker_mode (data_at old v).sampling_mode; name = user_of old v })) alive
+    at = said.variables v ∙ ap (λ b. cond b initial_variable (record { known = true; mode = checker_mode (data_at old v).sampling_mode; name = user_of old v })) alive
 
-pub var_deleted : (old new : Variables) (from to : List Step) (v : ℕ) → NamesInvariant old from → (data_at old v).deleted ≡ false → user_of old v ≡ None → solver_of old v ≡ None → (data_at old v).assumed ≡ false → PutsDeleted old new v
+pub var_deleted : (old new : Variables) (from to : List Step) (v : ℕ) → NamesInvariant old from → (data_at old v).deleted ≡ false → user_of old v ≡ None → solver_of old v ≡ None → (data_at old v).assumed ≡ false → StoresDeletion old new v
     → to ≡ DeleteVar v ∷ from → KeepsScriptState old new from to
 var_deleted old new from to v valid alive nameless noindex unmarked put e = record {
   valid = record {
     tidy = tidy_deleted old new v valid.tidy alive nameless noindex put;
     said = subst (λ steps. NamesMatchSteps new (session_after steps)) (sym e) (said_deleted old new v valid.tidy alive nameless noindex put (session_after from) valid.said (valid.said.marked v ∙ unmarked));
     may = subst AreAllowedSteps (sym e) (valid.may, may_delete old v (session_after from) valid.tidy valid.said alive nameless noindex unmarked);
-    read = λ u. ap (λ steps. variable_of steps (u + 1)) e ∙ valid.read u ∙ ap (λ m. target m.fwd u) (sym put.users);
+    read = λ u. ap (λ steps. variable_named steps (u + 1)) e ∙ valid.read u ∙ ap (λ m. target m.fwd u) (sym put.users);
   };
   kept = λ j live a. subst (λ steps. ReachesScriptState new from steps j []) (sym e) (
       let b = deleted checker_rules the_checking_sound j from live a.bridge v accepted in

@@ -5,7 +5,7 @@ use Rattle.sat_store.specs.declared.data.SamplingMode.TheVariants as kept
 use Rattle.sat_store.specs.variables.VarData.{user_variable, unused_variable}
 use Rattle.sat_store.specs.variables.Maps.{target}
 use Rattle.sat_solver.specs.variables.Variables.{data_at, global_of, VariablesInvariant}
-use Rattle.sat_solver.specs.variables.Naming.{IsVariableForName, PutsName, ExtendsNames, VariablesAreKeptOrNew}
+use Rattle.sat_solver.specs.variables.Naming.{IsVariableForName, StoresName, ExtendsNames, VariablesAreKeptOrNew}
 use Rattle.sat_solver.specs.declared.variables.Variables.{Variables}
 
 none_some : {x : ℕ} {o : Option ℕ} → o ≡ None → o ≡ Some x → ⊥
@@ -57,7 +57,7 @@ are_fresh old new x = record { same = λ u v w e f. some_same f (x.stays u v e).
 pub fresh_only : (old mid new : Variables) → VariablesAreKeptOrNew old mid → ((u v : ℕ) → global_of new u ≡ Some v → global_of mid u ≡ Some v) → VariablesAreKeptOrNew old new
 fresh_only old mid new x only = record { same = λ u v w e f. x.same u v w e (only u w f); fresh = λ u v e f. x.fresh u v e (only u v f) }
 
-pub extends_named : (old new : Variables) (user v : ℕ) → VariablesInvariant old → IsVariableForName old user v → global_of old user ≡ None → PutsName old new user v → ExtendsNames old new
+pub extends_named : (old new : Variables) (user v : ℕ) → VariablesInvariant old → IsVariableForName old user v → global_of old user ≡ None → StoresName old new user v → ExtendsNames old new
 extends_named old new user v tidy room free put = record { stays = stays; came = came; fresh = fresh; lives = lives }
   where
     fresh : (u w : ℕ) → global_of old u ≡ None → global_of new u ≡ Some w → (data_at old w).deleted ≡ true

@@ -9,9 +9,9 @@ use Rattle.sat_checker.specs.Fold.{Holds}
 use Rattle.sat_checker.specs.LiteralSets.{mentions}
 use Rattle.sat_store.specs.variables.Maps.{AreInverse, target}
 use Rattle.sat_solver.specs.session.Session.{Session, session_after}
-use Rattle.sat_solver.specs.variables.Variables.{global_at, user_of, solver_of, says_unit}
-use Rattle.sat_solver.specs.variables.Naming.{PutsIndex, KeepsOthers, VariablesAreKeptOrNew}
-use Rattle.sat_solver.specs.variables.Search.{KeepsSearch, KeepsUnits, IsUnseen, IsLeftOn, IsAlike, ForgetsUnits, IsGiven, IndicesDistinct, HasGiven, GivesIndices}
+use Rattle.sat_solver.specs.variables.Variables.{global_at, user_of, solver_of, is_unit_value}
+use Rattle.sat_solver.specs.variables.Naming.{StoresIndex, KeepsOthers, VariablesAreKeptOrNew}
+use Rattle.sat_solver.specs.variables.Search.{KeepsSearch, KeepsUnits, KeepsWhatSearchSees, AgreesWithAdmitted, KeepsSearchUpToUnits, ForgetsUnits, IsGiven, IndicesDistinct, HasGiven, GivesIndices}
 use Rattle.sat_solver.specs.declared.variables.solver_vars.Given.{Given}
 use Rattle.sat_solver.specs.declared.variables.Variables.{Variables}
 use Rattle.sat_solver.proofs.lemmas.variables.Extending.{fresh_only}
@@ -30,10 +30,10 @@ keeps_same s = record { live = refl; units = refl; unsat = refl; width = refl; a
 pub keeps_both : (a b c : Session) → KeepsSearch a b → KeepsSearch b c → KeepsSearch a c
 keeps_both a b c x y = record { live = y.live ∙ x.live; units = y.units ∙ x.units; unsat = y.unsat ∙ x.unsat; width = y.width ∙ x.width; assumed = y.assumed ∙ x.assumed }
 
-pub unseen_same : (n : Variables) (steps : List Step) → IsUnseen n n steps steps
+pub unseen_same : (n : Variables) (steps : List Step) → KeepsWhatSearchSees n n steps steps
 unseen_same n steps = record { solvers = refl; globals = refl; search = keeps_same (session_after steps); leaves = λ a h. h }
 
-pub unseen_both : (a b c : Variables) (from mids to : List Step) → IsUnseen a b from mids → IsUnseen b c mids to → IsUnseen a c from to
+pub unseen_both : (a b c : Variables) (from mids to : List Step) → KeepsWhatSearchSees a b from mids → KeepsWhatSearchSees b c mids to → KeepsWhatSearchSees a c from to
 unseen_both a b c from mids to x y = record { solvers = y.solvers ∙ x.solvers; globals = y.globals ∙ x.globals; search = keeps_both (session_after from) (session_after mids) (session_after to) x.search y.search; leaves = λ a h. x.leaves a (y.leaves a h) }
 
 pub gives_none : (n : Variables) (s : Session) → GivesIndices n n s []
@@ -87,7 +87,7 @@ gives_both a b c s t xs ys ia ib ic units one two = record {
     apart (g ∷ gs) i h = (all_both (λ k. k.solver ≢ g.solver) gs ys h.0 (all_map (IsGiven b c t) (λ k. k.solver ≢ g.solver) ys (λ k j same. none_some j.free (ap (global_at b) same ∙ i.0.taken)) two.each), apart gs i.1 h.1)
 
 -- one index is given
-pub gives_one : (old new : Variables) (s : Session) (v : ℕ) (g : Given) → solver_of old v ≡ None → global_at old g.solver ≡ None → PutsIndex old new v g.solver true → ((b : Bool) → s.units (mk_lit v b) ≡ says_unit g.unit b) → GivesIndices old new s (g ∷ [])
+pub gives_one : (old new : Variables) (s : Session) (v : ℕ) (g : Given) → solver_of old v ≡ None → global_at old g.solver ≡ None → StoresIndex old new v g.solver true → ((b : Bool) → s.units (mk_lit v b) ≡ is_unit_value g.unit b) → GivesIndices old new s (g ∷ [])
 gives_one old new s v g without free put unit = record {
   stays = stays;
   each = (record { variable = v; without = without; free = free; taken = put.globals g.solver ∙ ap (λ b. cond b (Some v) (global_at old g.solver)) (eq-eqb g.solver g.solver refl); unit = unit }, tt);
@@ -113,14 +113,14 @@ gives_one old new s v g without free put unit = record {
             one h = cc
         go false f = inl (sym f ∙ e)
 
-pub ok_unseen : {A E : Type 0} (r : Result A E) (a b c : Variables) (from mids to : List Step) → IsUnseen a b from mids → OnOk r (IsUnseen b c mids to) → OnOk r (IsUnseen a c from to)
+pub ok_unseen : {A E : Type 0} (r : Result A E) (a b c : Variables) (from mids to : List Step) → KeepsWhatSearchSees a b from mids → OnOk r (KeepsWhatSearchSees b c mids to) → OnOk r (KeepsWhatSearchSees a c from to)
 ok_unseen (Ok x) a b c from mids to one two = unseen_both a b c from mids to one two
 ok_unseen (Err x) a b c from mids to one two = tt
 
-pub alike_unseen : (a b : Variables) (from to : List Step) → IsUnseen a b from to → IsAlike a b from to
+pub alike_unseen : (a b : Variables) (from to : List Step) → KeepsWhatSearchSees a b from to → KeepsSearchUpToUnits a b from to
 alike_unseen a b from to u = record { solvers = u.solvers; globals = u.globals; live = u.search.live; units = λ v x d e. ap (λ f. f (mk_lit v d)) u.search.units; unsat = u.search.unsat; width = u.search.width; assumed = u.search.assumed; leaves = λ a h. (a, u.leaves a h, λ v t. refl) }
 
-pub alike_both : (a b c : Variables) (from mids to : List Step) → IsAlike a b from mids → IsAlike b c mids to → IsAlike a c from to
+pub alike_both : (a b c : Variables) (from mids to : List Step) → KeepsSearchUpToUnits a b from mids → KeepsSearchUpToUnits b c mids to → KeepsSearchUpToUnits a c from to
 alike_both a b c from mids to x y = record {
   solvers = y.solvers ∙ x.solvers;
   globals = y.globals ∙ x.globals;
@@ -137,7 +137,7 @@ alike_both a b c from mids to x y = record {
 
 -- a variable that wasn't assumed was deleted, which the search does not see
 pub alike_forgets : (a b : Variables) (from to : List Step) (v : ℕ) → b.solver_from_global ≡ a.solver_from_global → b.globals ≡ a.globals → solver_of a v ≡ None → to ≡ DeleteVar v ∷ from → mentions (session_after from).assumed v ≡ false →
-    ForgetsUnits (session_after from) (session_after to) v → IsAlike a b from to
+    ForgetsUnits (session_after from) (session_after to) v → KeepsSearchUpToUnits a b from to
 alike_forgets a b from to v solvers globals none step unmarked f = record {
   solvers = solvers;
   globals = globals;
@@ -149,7 +149,7 @@ alike_forgets a b from to v solvers globals none step unmarked f = record {
   leaves = λ w h. left w (subst (λ ss. Holds ss w) step h);
 }
   where
-    left : (w : Valuation) → Holds from w ⊎ Holds from (flipped v w) → IsLeftOn from (session_after from).assumed w
+    left : (w : Valuation) → Holds from w ⊎ Holds from (flipped v w) → AgreesWithAdmitted from (session_after from).assumed w
     left w (inl h) = (w, h, λ u t. refl)
     left w (inr h) = (flipped v w, h, λ u t. ap (λ q. cond q (not (w u)) (w u)) (ne_eqb u v (λ e. true≢false (sym t ∙ ap (mentions (session_after from).assumed) e ∙ unmarked))))
 
@@ -157,7 +157,7 @@ alike_forgets a b from to v solvers globals none step unmarked f = record {
     and_true true = refl
     and_true false = refl
 
-pub ok_alike : {A E : Type 0} (r : Result A E) (a b c : Variables) (from mids to : List Step) → IsAlike a b from mids → OnOk r (IsAlike b c mids to) → OnOk r (IsAlike a c from to)
+pub ok_alike : {A E : Type 0} (r : Result A E) (a b c : Variables) (from mids to : List Step) → KeepsSearchUpToUnits a b from mids → OnOk r (KeepsSearchUpToUnits b c mids to) → OnOk r (KeepsSearchUpToUnits a c from to)
 ok_alike (Ok x) a b c from mids to one two = alike_both a b c from mids to one two
 ok_alike (Err x) a b c from mids to one two = tt
 

@@ -9,21 +9,21 @@ use Rattle.sat_store.specs.declared.data.VarData.{VarData}
 use Rattle.sat_store.specs.declared.data.SamplingMode.TheVariants as kept
 use Rattle.sat_store.specs.variables.VarData.{unused_variable}
 use Rattle.sat_store.specs.variables.Maps.{AreInverse, target}
-use Rattle.sat_checker.specs.Stored.{Hide, Variable, unknown}
+use Rattle.sat_checker.specs.Stored.{Hide, Variable, initial_variable}
 use Rattle.sat_solver.specs.session.Session.{Session, AreAllowedSteps, session_after, after}
 use Rattle.sat_solver.proofs.lemmas.session.StepLemmas.{sessions_are_accepted}
 use Rattle.sat_solver.specs.variables.Counting.{HasEqualCounts}
 use Rattle.sat_solver.specs.variables.Free.{is_free, IsTree}
 use Rattle.sat_checker.specs.matching.Bridge.{LiveVariables}
 use Rattle.sat_solver.specs.variables.Live.{given_of, given}
-use Rattle.sat_solver.specs.variables.Variables.{data_at, global_of, user_of, names_used, variables_used, VariablesInvariant, checker_mode, checker_variable_at, NamesMatchSteps, IsModeOf, NamesMatchState, says_unit, is_witness_kept}
-use Rattle.sat_solver.specs.variables.Naming.{PutsHidden, KeepsOthers}
-use Rattle.sat_checker.specs.matching.Checking.{is_variable, variable_of}
+use Rattle.sat_solver.specs.variables.Variables.{data_at, global_of, user_of, names_used, variables_used, VariablesInvariant, checker_mode, checker_variable_at, NamesMatchSteps, IsModeOf, NamesMatchState, is_unit_value, is_witness_kept}
+use Rattle.sat_solver.specs.variables.Naming.{StoresHiding, KeepsOthers}
+use Rattle.sat_checker.specs.matching.Checking.{is_variable, variable_named}
 use Rattle.sat_checker.specs.matching.ProofChecking.{checker_rules}
 use Rattle.sat_checker.specs.matching.Expected.{NoName, no_name}
 use Rattle.sat_checker.specs.matching.Traces.{no_step, visible}
-use Rattle.sat_solver.specs.variables.Calls.{NamesInvariant, ReachesScriptState, NamesEffect}
-use Rattle.sat_solver.specs.variables.Search.{KeepsSearch, IsUnseen}
+use Rattle.sat_solver.specs.variables.Calls.{NamesInvariant, ReachesScriptState, ChangesScriptState}
+use Rattle.sat_solver.specs.variables.Search.{KeepsSearch, KeepsWhatSearchSees}
 use Rattle.sat_solver.specs.declared.variables.Variables.{Variables}
 use Rattle.sat_solver.proofs.lemmas.variables.MapLemmas.{some_within}
 use Rattle.sat_solver.proofs.lemmas.variables.Counts.{unlinks_inverse}
@@ -38,7 +38,7 @@ none_some e f = cc
 some_same : {x y : ℕ} {o : Option ℕ} → o ≡ Some x → o ≡ Some y → x ≡ y
 some_same e f = cc
 
-module _ (old new : Variables) (user v : ℕ) (tidy : VariablesInvariant old) (had : global_of old user ≡ Some v) (put : PutsHidden old new user v) where
+module _ (old new : Variables) (user v : ℕ) (tidy : VariablesInvariant old) (had : global_of old user ≡ Some v) (put : StoresHiding old new user v) where
   name : user_of old v ≡ Some user
   name = tidy.users.back user v had
 
@@ -129,7 +129,7 @@ module _ (old new : Variables) (user v : ℕ) (tidy : VariablesInvariant old) (h
     variables = variables;
     solver_names = λ w. said.solver_names w ∙ ap (λ m. target m.fwd w) (sym put.solvers);
     unused = λ w e. said.unused w (sym (ap (λ m. target m.fwd w) put.solvers) ∙ e);
-    units = λ w e b. said.units w (sym (ap (λ m. target m.fwd w) put.solvers) ∙ e) b ∙ ap (λ o. says_unit o b) (unit_kept w);
+    units = λ w e b. said.units w (sym (ap (λ m. target m.fwd w) put.solvers) ∙ e) b ∙ ap (λ o. is_unit_value o b) (unit_kept w);
     marked = λ w. said.marked w ∙ mark_kept w;
   }
     where
@@ -149,7 +149,7 @@ module _ (old new : Variables) (user v : ℕ) (tidy : VariablesInvariant old) (h
       variables : (w : ℕ) → cond (eqb w v) (record (s.variables v) { mode = Hide; name = None }) (s.variables w) ≡ checker_variable_at new w
       variables w = go (eqb w v) (put.kept w) (put.users.bwd w)
         where
-          here : (b : Bool) → b ≡ false → (let z : Variable = cond b unknown (record { known = true; mode = checker_mode (data_at old v).sampling_mode; name = user_of old v }) in record z { mode = Hide; name = None }) ≡ cond b unknown (record { known = true; mode = Hide; name = None })
+          here : (b : Bool) → b ≡ false → (let z : Variable = cond b initial_variable (record { known = true; mode = checker_mode (data_at old v).sampling_mode; name = user_of old v }) in record z { mode = Hide; name = None }) ≡ cond b initial_variable (record { known = true; mode = Hide; name = None })
           here false e = refl
           here true e = absurd (true≢false e)
 
@@ -190,7 +190,7 @@ module _ (old new : Variables) (user v : ℕ) (tidy : VariablesInvariant old) (h
   pub may_hide : (s : Session) → NamesMatchSteps old s → (s.variables v).name ≢ None
   may_hide s said e = none_some (sym (ap (λ x. x.name) (said.variables v)) ∙ e) (at (data_at old v).deleted alive)
     where
-      at : (b : Bool) → b ≡ false → (let z : Variable = cond b unknown (record { known = true; mode = checker_mode (data_at old v).sampling_mode; name = user_of old v }) in z).name ≡ Some user
+      at : (b : Bool) → b ≡ false → (let z : Variable = cond b initial_variable (record { known = true; mode = checker_mode (data_at old v).sampling_mode; name = user_of old v }) in z).name ≡ Some user
       at false f = name
       at true f = absurd (true≢false f)
 
@@ -205,14 +205,14 @@ module _ (old new : Variables) (user v : ℕ) (tidy : VariablesInvariant old) (h
       go true t x = ap (λ o. cond (is_variable v o) None o) (ap (global_of old) (eqb-true u user t) ∙ had) ∙ ap (λ b. cond b None (Some v)) (eq-eqb v v refl) ∙ sym x
       go false t x = others (global_of old u) refl (λ e. eqb-false u user t (some_same (tidy.users.back u v e) name)) ∙ sym x
 
-pub name_hidden : (old new : Variables) (from to : List Step) (user v : ℕ) → NamesInvariant old from → global_of old user ≡ Some v → PutsHidden old new user v
-    → to ≡ UserVarName v None ∷ from → NamesEffect old new from to (without_name (user + 1)) (λ j. NoName (user + 1) ∷ [])
+pub name_hidden : (old new : Variables) (from to : List Step) (user v : ℕ) → NamesInvariant old from → global_of old user ≡ Some v → StoresHiding old new user v
+    → to ≡ UserVarName v None ∷ from → ChangesScriptState old new from to (without_name (user + 1)) (λ j. NoName (user + 1) ∷ [])
 name_hidden old new from to user v valid had put e = record {
   valid = record {
     tidy = tidy_hidden old new user v valid.tidy had put;
     said = subst (λ steps. NamesMatchSteps new (session_after steps)) (sym e) (said_hidden old new user v valid.tidy had put (session_after from) valid.said);
     may = subst AreAllowedSteps (sym e) (valid.may, may_hide old new user v valid.tidy had put (session_after from) valid.said);
-    read = λ u. ap (λ steps. variable_of steps (u + 1)) e ∙ read_hidden old new user v valid.tidy had put (variable_of from) valid.read u;
+    read = λ u. ap (λ steps. variable_named steps (u + 1)) e ∙ read_hidden old new user v valid.tidy had put (variable_named from) valid.read u;
   };
   kept = λ j live a. subst (λ steps. ReachesScriptState new from steps (without_name (user + 1) j) (NoName (user + 1) ∷ [])) (sym e) (record {
     live = live;
@@ -224,13 +224,13 @@ name_hidden old new from to user v valid had put e = record {
   });
 }
   where
-    at : variable_of from (user + 1) ≡ Some v
+    at : variable_named from (user + 1) ≡ Some v
     at = valid.read user ∙ had
 
     accepted : checker_rules.Accepts from (UserVarName v None)
     accepted = (sessions_are_accepted (UserVarName v None ∷ from) (valid.may, may_hide old new user v valid.tidy had put (session_after from) valid.said)).0.1
 
-pub hidden_unseen : (old new : Variables) (from to : List Step) (user v : ℕ) → PutsHidden old new user v → to ≡ UserVarName v None ∷ from → IsUnseen old new from to
+pub hidden_unseen : (old new : Variables) (from to : List Step) (user v : ℕ) → StoresHiding old new user v → to ≡ UserVarName v None ∷ from → KeepsWhatSearchSees old new from to
 hidden_unseen old new from to user v put e = record {
   solvers = put.solvers;
   globals = put.globals;
@@ -239,7 +239,7 @@ hidden_unseen old new from to user v put e = record {
 }
 
 -- no name was introduced
-pub hidden_only : (old new : Variables) (user v : ℕ) → PutsHidden old new user v → (u w : ℕ) → global_of new u ≡ Some w → global_of old u ≡ Some w
+pub hidden_only : (old new : Variables) (user v : ℕ) → StoresHiding old new user v → (u w : ℕ) → global_of new u ≡ Some w → global_of old u ≡ Some w
 hidden_only old new user v put u w e = go (eqb u user) (put.users.fwd u)
   where
     go : (b : Bool) → global_of new u ≡ cond b None (global_of old u) → global_of old u ≡ Some w
@@ -247,11 +247,11 @@ hidden_only old new user v put u w e = go (eqb u user) (put.users.fwd u)
     go false x = sym x ∙ e
 
 -- other names keep their variables
-pub hidden_others : (old new : Variables) (user v : ℕ) → PutsHidden old new user v → KeepsOthers old new user
+pub hidden_others : (old new : Variables) (user v : ℕ) → StoresHiding old new user v → KeepsOthers old new user
 hidden_others old new user v put u w n e = put.users.fwd u ∙ ap (λ b. cond b None (global_of old u)) (ne_eqb u user n) ∙ e
 
-pub hidden_live : (old new : Variables) (user v : ℕ) → VariablesInvariant old → global_of old user ≡ Some v → PutsHidden old new user v → (data_at new v).deleted ≡ false
+pub hidden_live : (old new : Variables) (user v : ℕ) → VariablesInvariant old → global_of old user ≡ Some v → StoresHiding old new user v → (data_at new v).deleted ≡ false
 hidden_live old new user v tidy had put = deleted_at old new user v tidy had put v ∙ alive old new user v tidy had put
 
-pub hidden_nameless : (old new : Variables) (user v : ℕ) → PutsHidden old new user v → user_of new v ≡ None
+pub hidden_nameless : (old new : Variables) (user v : ℕ) → StoresHiding old new user v → user_of new v ≡ None
 hidden_nameless old new user v put = put.users.bwd v ∙ ap (λ b. cond b None (user_of old v)) (eq-eqb v v refl)

@@ -8,22 +8,22 @@ use Rattle.sat_base.specs.steps.Steps.{Step, SolverVarName}
 use Rattle.sat_store.specs.variables.VarData.{unused_variable}
 use Rattle.sat_store.specs.variables.Maps.{AreInverse, target}
 use Rattle.sat_checker.specs.LiteralSets.{mentions}
-use Rattle.sat_checker.specs.Stored.{Variable, unknown}
+use Rattle.sat_checker.specs.Stored.{Variable, initial_variable}
 use Rattle.sat_solver.specs.session.Session.{Session, AreAllowedSteps, session_after, after}
 use Rattle.sat_solver.specs.variables.Counting.{HasEqualCounts, mapped_count}
 use Rattle.sat_solver.proofs.lemmas.variables.Counts.{mapped_one_more, mapped_one_fewer}
 use Rattle.sat_solver.specs.variables.Free.{is_free, IsTree}
 use Rattle.sat_checker.specs.matching.Bridge.{LiveVariables}
 use Rattle.sat_solver.specs.variables.Live.{given_of}
-use Rattle.sat_solver.specs.variables.Variables.{data_at, user_of, solver_of, global_at, indices_used, variables_used, VariablesInvariant, checker_mode, checker_variable_at, NamesMatchSteps, IsModeOf, NamesMatchState, says_unit, IsUnitOf, IsInNoNonUnitClause, is_witness_kept}
-use Rattle.sat_solver.specs.variables.Naming.{PutsIndex, IsNextIndex}
+use Rattle.sat_solver.specs.variables.Variables.{data_at, user_of, solver_of, global_at, indices_used, variables_used, VariablesInvariant, checker_mode, checker_variable_at, NamesMatchSteps, IsModeOf, NamesMatchState, is_unit_value, IsUnitOf, IsInNoNonUnitClause, is_witness_kept}
+use Rattle.sat_solver.specs.variables.Naming.{StoresIndex, IsNextIndex}
 use Rattle.sat_solver.specs.variables.Search.{KeepsSearch}
 use Rattle.sat_solver.specs.variables.Indexing.{Indexes, Unindexes}
 use Rattle.sat_solver.specs.declared.variables.solver_vars.Given.{Given}
 use Rattle.sat_checker.specs.matching.ProofChecking.{checker_rules}
 use Rattle.sat_checker.specs.matching.Traces.{no_step, silent}
 use Rattle.sat_solver.specs.variables.Calls.{NamesInvariant, ReachesScriptState, KeepsScriptState}
-use Rattle.sat_checker.specs.matching.Checking.{variable_of}
+use Rattle.sat_checker.specs.matching.Checking.{variable_named}
 use Rattle.sat_solver.specs.declared.variables.Variables.{Variables}
 use Rattle.sat_solver.proofs.lemmas.variables.ScriptStateLemmas.{same_below}
 use Rattle.sat_solver.proofs.lemmas.variables.MapLemmas.{some_within}
@@ -61,7 +61,7 @@ some_is e = cc
 not_some_false : (b : Bool) (o : Option ℕ) → o ≡ None → b ≡ true → (b && not (is_some o)) ≡ true
 not_some_false b o e f = ap (λ p. b && not (is_some p)) e ∙ ap (λ c. c && true) f
 
-module _ (old new : Variables) (v x : ℕ) (there : Bool) (tidy : VariablesInvariant old) (alive : (data_at old v).deleted ≡ false) (low : there ≡ true → x ≤ indices_used old) (had : there ≡ false → solver_of old v ≡ Some x) (fresh : there ≡ true → (solver_of old v ≡ None) × (global_at old x ≡ None)) (room : there ≡ true → x < variables_used old) (put : PutsIndex old new v x there) where
+module _ (old new : Variables) (v x : ℕ) (there : Bool) (tidy : VariablesInvariant old) (alive : (data_at old v).deleted ≡ false) (low : there ≡ true → x ≤ indices_used old) (had : there ≡ false → solver_of old v ≡ Some x) (fresh : there ≡ true → (solver_of old v ≡ None) × (global_at old x ≡ None)) (room : there ≡ true → x < variables_used old) (put : StoresIndex old new v x there) where
   kept_at : (w : ℕ) → data_at new w ≡ data_at old w
   kept_at w = ap (λ d. get_or d.items w unused_variable) put.kept
 
@@ -162,15 +162,15 @@ module _ (old new : Variables) (v x : ℕ) (there : Bool) (tidy : VariablesInvar
   said_index s said its_unit its_unused = by_case there refl
     where
       unit_at : (w : ℕ) → solver_of new w ≡ None → IsUnitOf new s w
-      unit_at w e b = was ∙ sym (ap (λ d. says_unit d.unit b) (kept_at w))
+      unit_at w e b = was ∙ sym (ap (λ d. is_unit_value d.unit b) (kept_at w))
         where
-          go : (c q : Bool) → there ≡ c → eqb w v ≡ q → cond q (cond c (Some x) None) (solver_of old w) ≡ None → s.units (mk_lit w b) ≡ says_unit (data_at old w).unit b
+          go : (c q : Bool) → there ≡ c → eqb w v ≡ q → cond q (cond c (Some x) None) (solver_of old w) ≡ None → s.units (mk_lit w b) ≡ is_unit_value (data_at old w).unit b
           go true true c t f = absurd (none_is (Some x) f x refl)
-          go false true c t f = subst (λ k. s.units (mk_lit k b) ≡ says_unit (data_at old k).unit b) (sym (eqb-true w v t)) (its_unit c b)
+          go false true c t f = subst (λ k. s.units (mk_lit k b) ≡ is_unit_value (data_at old k).unit b) (sym (eqb-true w v t)) (its_unit c b)
           go true false c t f = said.units w f b
           go false false c t f = said.units w f b
 
-          was : s.units (mk_lit w b) ≡ says_unit (data_at old w).unit b
+          was : s.units (mk_lit w b) ≡ is_unit_value (data_at old w).unit b
           was = go there (eqb w v) refl refl (sym (put.solvers w) ∙ e)
 
       unused_at : (w : ℕ) → solver_of new w ≡ None → IsInNoNonUnitClause s w
@@ -204,7 +204,7 @@ module _ (old new : Variables) (v x : ℕ) (there : Bool) (tidy : VariablesInvar
                   let here : (data_at old w).deleted ≡ false = ap (λ k. (data_at old k).deleted) (sym (eqb-true v w t)) ∙ alive in
                   ap {A = Variable} (λ z. record z { known = true }) (said.variables w) ∙ still (data_at old w).deleted here
                 where
-                  still : (d : Bool) → d ≡ false → (let z : Variable = cond d unknown (record { known = true; mode = checker_mode (data_at old w).sampling_mode; name = user_of old w }) in record z { known = true }) ≡ cond d unknown (record { known = true; mode = checker_mode (data_at old w).sampling_mode; name = user_of old w })
+                  still : (d : Bool) → d ≡ false → (let z : Variable = cond d initial_variable (record { known = true; mode = checker_mode (data_at old w).sampling_mode; name = user_of old w }) in record z { known = true }) ≡ cond d initial_variable (record { known = true; mode = checker_mode (data_at old w).sampling_mode; name = user_of old w })
                   still false f = refl
                   still true f = absurd (true≢false f)
 
@@ -216,14 +216,14 @@ index_search from to v name e = subst (λ steps. KeepsSearch (session_after from
     go None = record { live = refl; units = refl; unsat = refl; width = refl; assumed = refl }
     go (Some x) = record { live = refl; units = refl; unsat = refl; width = refl; assumed = refl }
 
-pub index_put : (old new : Variables) (from to : List Step) (v x : ℕ) (there : Bool) → NamesInvariant old from → (data_at old v).deleted ≡ false → (there ≡ true → x ≤ indices_used old) → (there ≡ false → solver_of old v ≡ Some x) → (there ≡ true → (solver_of old v ≡ None) × (global_at old x ≡ None)) → (there ≡ true → x < variables_used old) → (there ≡ false → IsUnitOf old (session_after from) v) → (there ≡ false → IsInNoNonUnitClause (session_after from) v) → PutsIndex old new v x there
+pub index_put : (old new : Variables) (from to : List Step) (v x : ℕ) (there : Bool) → NamesInvariant old from → (data_at old v).deleted ≡ false → (there ≡ true → x ≤ indices_used old) → (there ≡ false → solver_of old v ≡ Some x) → (there ≡ true → (solver_of old v ≡ None) × (global_at old x ≡ None)) → (there ≡ true → x < variables_used old) → (there ≡ false → IsUnitOf old (session_after from) v) → (there ≡ false → IsInNoNonUnitClause (session_after from) v) → StoresIndex old new v x there
     → to ≡ SolverVarName v (cond there (Some x) None) ∷ from → KeepsScriptState old new from to
 index_put old new from to v x there valid alive low had fresh room its_unit its_unused put e = record {
   valid = record {
     tidy = tidy_index old new v x there valid.tidy alive low had fresh room put;
     said = subst (λ steps. NamesMatchSteps new (session_after steps)) (sym e) (said_index old new v x there valid.tidy alive low had fresh room put (session_after from) valid.said its_unit its_unused);
     may = subst AreAllowedSteps (sym e) (valid.may, tt);
-    read = λ u. ap (λ steps. variable_of steps (u + 1)) e ∙ valid.read u ∙ ap (λ m. target m.fwd u) (sym put.users);
+    read = λ u. ap (λ steps. variable_named steps (u + 1)) e ∙ valid.read u ∙ ap (λ m. target m.fwd u) (sym put.users);
   };
   kept = λ j live a. subst (λ steps. ReachesScriptState new from steps j []) (sym e) (record {
     live = live;
@@ -235,7 +235,7 @@ index_put old new from to v x there valid alive low had fresh room its_unit its_
   });
 }
 
-pub index_given : (old new : Variables) (from to : List Step) (before after : List Given) (v : ℕ) (g : Given) → NamesInvariant old from → (data_at old v).deleted ≡ false → solver_of old v ≡ None → IsNextIndex old g.solver → g.unit ≡ (data_at old v).unit → PutsIndex old new v g.solver true
+pub index_given : (old new : Variables) (from to : List Step) (before after : List Given) (v : ℕ) (g : Given) → NamesInvariant old from → (data_at old v).deleted ≡ false → solver_of old v ≡ None → IsNextIndex old g.solver → g.unit ≡ (data_at old v).unit → StoresIndex old new v g.solver true
     → to ≡ SolverVarName v (Some g.solver) ∷ from → after ≡ before ++ g ∷ [] → Indexes old new from to before after v g.solver
 index_given old new from to before after v g valid alive without next unit put e l = record {
   does = index_put old new from to v g.solver true valid alive (λ f. next.reach) (λ f. absurd (true≢false f)) (λ f. (without, next.free)) (λ f. index_below old v g.solver valid.tidy alive without next) (λ f. absurd (true≢false f)) (λ f. absurd (true≢false f)) put e;
@@ -245,7 +245,7 @@ index_given old new from to before after v g valid alive without next unit put e
   search = index_search from to v (Some g.solver) e;
   fresh = g ∷ [];
   listed = l;
-  gives = gives_one old new (session_after from) v g without next.free put (λ b. valid.said.units v without b ∙ ap (λ o. says_unit o b) (sym unit));
+  gives = gives_one old new (session_after from) v g without next.free put (λ b. valid.said.units v without b ∙ ap (λ o. is_unit_value o b) (sym unit));
   step = inr (e, without, next);
 }
 
@@ -262,7 +262,7 @@ index_had old from given v x valid e = record {
   step = inl refl;
 }
 
-pub index_taken : (old new : Variables) (from to : List Step) (v x : ℕ) → NamesInvariant old from → solver_of old v ≡ Some x → IsUnitOf old (session_after from) v → IsInNoNonUnitClause (session_after from) v → PutsIndex old new v x false → new.globals ≡ old.globals → to ≡ SolverVarName v None ∷ from → Unindexes old new from to v x
+pub index_taken : (old new : Variables) (from to : List Step) (v x : ℕ) → NamesInvariant old from → solver_of old v ≡ Some x → IsUnitOf old (session_after from) v → IsInNoNonUnitClause (session_after from) v → StoresIndex old new v x false → new.globals ≡ old.globals → to ≡ SolverVarName v None ∷ from → Unindexes old new from to v x
 index_taken old new from to v x valid there unit unused put globals e = record {
   does = index_put old new from to v x false valid (valid.tidy.indexed v x there) (λ f. absurd (true≢false (sym f))) (λ f. there) (λ f. absurd (true≢false (sym f))) (λ f. absurd (true≢false (sym f))) (λ f. unit) (λ f. unused) put e;
   solvers = put.solvers;

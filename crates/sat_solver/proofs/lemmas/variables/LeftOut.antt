@@ -12,10 +12,10 @@ use Rattle.sat_solver.specs.variables.Live.{given, given_of}
 use Rattle.sat_solver.specs.variables.Variables.{global_of, NamesMatchState}
 use Rattle.sat_solver.specs.variables.Refusing.{names_in}
 use Rattle.sat_solver.specs.load.Literals.{user_literal}
-use Rattle.sat_solver.specs.load.Clauses.{LeavesOut}
+use Rattle.sat_solver.specs.load.Clauses.{OmitsClause}
 use Rattle.sat_checker.specs.matching.ProofChecking.{checker_rules}
-use Rattle.sat_checker.specs.matching.Expected.{NewName, introducing}
-use Rattle.sat_solver.specs.variables.Search.{IsUnseen}
+use Rattle.sat_checker.specs.matching.Expected.{NewName, steps_introducing}
+use Rattle.sat_solver.specs.variables.Search.{KeepsWhatSearchSees}
 use Rattle.sat_solver.specs.variables.Calls.{NamesInvariant, IntroducesNameUnseen}
 use Rattle.sat_solver.specs.declared.variables.Variables.{Variables}
 use Rattle.sat_checker.proofs.lemmas.matching.CheckerIsSound.{the_checking_sound}
@@ -34,7 +34,7 @@ use Rattle.sat_solver.proofs.lemmas.session.ComingLemmas.{comes_none, comes_both
 pub record Bringing (old now : Variables) (from steps : List Step) (all : List ℕ) (index : ℕ) : Type 0 where
   pub valid : NamesInvariant now steps
   pub extends : ExtendsNames old now
-  pub unseen : IsUnseen old now from steps
+  pub unseen : KeepsWhatSearchSees old now from steps
   pub comes : OnlyAllowedSteps IsDue from steps
   pub named : (k : ℕ) → k < index → (v : ℕ) × (global_of now (variable (get_or all k 0)) ≡ Some v)
   pub rest : (new : Variables) (to : List Step) → Brings now new steps to (drop index all) → Brings old new from to all
@@ -53,7 +53,7 @@ bring_goes old now new from steps to all index l v b lt at brought named = recor
     | inr differ ↦ (let p = b.named k (omega arith) in (p.0, (brought.extends.stays (variable (get_or all k 0)) p.0 p.1).0))
   ];
   rest = λ last end more. b.rest last end (subst (Brings now last steps end) (sym (drop_more all index 0 lt ∙ ap (λ y. y ∷ drop (index + 1) all) (sym at)))
-      (does_both now new last steps to end (introduce (variable l + 1)) (introduce_all (names_in (drop (index + 1) all))) (λ j. map NewName (new_names (variable l + 1) j)) (introducing (names_in (drop (index + 1) all))) brought.brings more));
+      (does_both now new last steps to end (introduce (variable l + 1)) (introduce_all (names_in (drop (index + 1) all))) (λ j. map NewName (new_names (variable l + 1) j)) (steps_introducing (names_in (drop (index + 1) all))) brought.brings more));
 }
 
 -- a name in use has an identity
@@ -67,7 +67,7 @@ all_used : (n : Variables) (steps : List Step) (j : ScriptState) (live : LiveVar
 all_used n steps j live [] valid judged h = tt
 all_used n steps j live (l ∷ ls) valid judged h = let p = h 0 (omega arith) in (in_use n steps j live (variable l) p.0 valid judged p.1, all_used n steps j live ls valid judged (λ k lt. h (suc k) (omega arith)))
 
-pub brought_out : (old new : Variables) (from to : List Step) (all : List ℕ) (index : ℕ) → length all ≤ index → (session_after from).unsat ≡ true → Bringing old new from to all index → LeavesOut old new from to all
+pub brought_out : (old new : Variables) (from to : List Step) (all : List ℕ) (index : ℕ) → length all ≤ index → (session_after from).unsat ≡ true → Bringing old new from to all index → OmitsClause old new from to all
 brought_out old new from to all index le unsat b = record {
   does = record {
     valid = b.valid;

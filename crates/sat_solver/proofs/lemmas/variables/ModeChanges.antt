@@ -12,21 +12,21 @@ use Rattle.sat_store.specs.declared.data.SamplingMode.{SamplingMode}
 use Rattle.sat_store.specs.declared.data.SamplingMode.TheVariants as kept
 use Rattle.sat_store.specs.variables.VarData.{unused_variable}
 use Rattle.sat_store.specs.variables.Maps.{AreInverse, target}
-use Rattle.sat_checker.specs.Stored.{Sample, Witness, Hide, Variable, unknown}
+use Rattle.sat_checker.specs.Stored.{Sample, Witness, Hide, Variable, initial_variable}
 use Rattle.sat_solver.specs.session.Session.{Session, AreAllowedSteps, session_after, after}
 use Rattle.sat_solver.proofs.lemmas.session.StepLemmas.{sessions_are_accepted}
 use Rattle.sat_solver.specs.variables.Counting.{HasEqualCounts}
 use Rattle.sat_solver.specs.variables.Free.{is_free, IsTree}
 use Rattle.sat_checker.specs.matching.Bridge.{LiveVariables, IsBridge}
 use Rattle.sat_solver.specs.variables.Live.{given_of, given}
-use Rattle.sat_solver.specs.variables.Variables.{data_at, global_of, user_of, variables_used, VariablesInvariant, checker_mode, checker_variable_at, NamesMatchSteps, IsModeOf, NamesMatchState, mode_for, script_mode, says_unit, is_witness_kept}
-use Rattle.sat_solver.specs.variables.Naming.{PutsMode}
-use Rattle.sat_checker.specs.matching.Checking.{variable_of}
-use Rattle.sat_solver.specs.variables.NamingSteps.{mode_said, TurnsMode}
+use Rattle.sat_solver.specs.variables.Variables.{data_at, global_of, user_of, variables_used, VariablesInvariant, checker_mode, checker_variable_at, NamesMatchSteps, IsModeOf, NamesMatchState, mode_for, script_mode, is_unit_value, is_witness_kept}
+use Rattle.sat_solver.specs.variables.Naming.{StoresMode}
+use Rattle.sat_checker.specs.matching.Checking.{variable_named}
+use Rattle.sat_solver.specs.variables.NamingSteps.{mode_of_flag, ChangesModeTo}
 use Rattle.sat_checker.specs.matching.ProofChecking.{checker_rules}
 use Rattle.sat_checker.specs.matching.Traces.{no_step, silent}
-use Rattle.sat_solver.specs.variables.Calls.{NamesInvariant, ReachesScriptState, NamesEffect}
-use Rattle.sat_solver.specs.variables.Search.{KeepsSearch, IsUnseen}
+use Rattle.sat_solver.specs.variables.Calls.{NamesInvariant, ReachesScriptState, ChangesScriptState}
+use Rattle.sat_solver.specs.variables.Search.{KeepsSearch, KeepsWhatSearchSees}
 use Rattle.sat_solver.specs.declared.variables.Variables.{Variables}
 use Rattle.sat_solver.proofs.lemmas.variables.ScriptStateLemmas.{given_has}
 use Rattle.sat_solver.proofs.lemmas.variables.NewName.{shape, none_or}
@@ -47,7 +47,7 @@ not_hide true e = cc
 not_hide false e = cc
 
 -- the variable has this mode already
-pub same_mode : (n : Variables) (v : ℕ) (mode : SamplingMode) → VariablesInvariant n → (data_at n v).sampling_mode ≡ mode → PutsMode n n v mode
+pub same_mode : (n : Variables) (v : ℕ) (mode : SamplingMode) → VariablesInvariant n → (data_at n v).sampling_mode ≡ mode → StoresMode n n v mode
 same_mode n v mode tidy e = record {
   users = refl;
   solvers = refl;
@@ -70,7 +70,7 @@ same_mode n v mode tidy e = record {
     go w true t = ap (data_at n) (eqb-true w v t) ∙ ap {A = SamplingMode} (λ m. record (data_at n v) { sampling_mode = m }) e
     go w false t = refl
 
-module _ (old new : Variables) (user v : ℕ) (sample : Bool) (tidy : VariablesInvariant old) (had : global_of old user ≡ Some v) (put : PutsMode old new v (mode_for sample)) where
+module _ (old new : Variables) (user v : ℕ) (sample : Bool) (tidy : VariablesInvariant old) (had : global_of old user ≡ Some v) (put : StoresMode old new v (mode_for sample)) where
   name : user_of old v ≡ Some user
   name = tidy.users.back user v had
 
@@ -150,7 +150,7 @@ module _ (old new : Variables) (user v : ℕ) (sample : Bool) (tidy : VariablesI
     variables = variables;
     solver_names = λ w. said.solver_names w ∙ ap (λ m. target m.fwd w) (sym put.solvers);
     unused = λ w e. said.unused w (sym (ap (λ m. target m.fwd w) put.solvers) ∙ e);
-    units = λ w e b. said.units w (sym (ap (λ m. target m.fwd w) put.solvers) ∙ e) b ∙ ap (λ o. says_unit o b) (unit_kept w);
+    units = λ w e b. said.units w (sym (ap (λ m. target m.fwd w) put.solvers) ∙ e) b ∙ ap (λ o. is_unit_value o b) (unit_kept w);
     marked = λ w. said.marked w ∙ mark_kept w;
   }
     where
@@ -170,7 +170,7 @@ module _ (old new : Variables) (user v : ℕ) (sample : Bool) (tidy : VariablesI
       variables : (w : ℕ) → cond (eqb w v) (record (s.variables v) { mode = cond sample Sample Witness }) (s.variables w) ≡ checker_variable_at new w
       variables w = go (eqb w v) refl (put.kept w)
         where
-          here : (c b : Bool) → b ≡ false → (let z : Variable = cond b unknown (record { known = true; mode = checker_mode (data_at old v).sampling_mode; name = user_of old v }) in record z { mode = cond c Sample Witness }) ≡ cond b unknown (record { known = true; mode = checker_mode (mode_for c); name = user_of old v })
+          here : (c b : Bool) → b ≡ false → (let z : Variable = cond b initial_variable (record { known = true; mode = checker_mode (data_at old v).sampling_mode; name = user_of old v }) in record z { mode = cond c Sample Witness }) ≡ cond b initial_variable (record { known = true; mode = checker_mode (mode_for c); name = user_of old v })
           here true false e = refl
           here false false e = refl
           here c true e = absurd (true≢false e)
@@ -241,12 +241,12 @@ bridged j steps live mode number b = record {
 }
 
 pub known_at : (old : Variables) (v : ℕ) (s : Session) → NamesMatchSteps old s → (data_at old v).deleted ≡ false → (s.variables v).known ≡ true
-known_at old v s said alive = ap (λ x. x.known) (said.variables v) ∙ ap (λ b. (let z : Variable = cond b unknown (record { known = true; mode = checker_mode (data_at old v).sampling_mode; name = user_of old v }) in z).known) alive
+known_at old v s said alive = ap (λ x. x.known) (said.variables v) ∙ ap (λ b. (let z : Variable = cond b initial_variable (record { known = true; mode = checker_mode (data_at old v).sampling_mode; name = user_of old v }) in z).known) alive
 
 pub may_mode : (old : Variables) (user v : ℕ) (s : Session) → VariablesInvariant old → NamesMatchSteps old s → global_of old user ≡ Some v → (s.variables v).known ≡ true
 may_mode old user v s tidy said had = known_at old v s said (tidy.named v user (tidy.users.back user v had))
 
-pub mode_kept : (old : Variables) (from : List Step) (user v : ℕ) (sample : Bool) → NamesInvariant old from → global_of old user ≡ Some v → (data_at old v).sampling_mode ≡ mode_for sample → NamesEffect old old from from (with_mode (script_mode sample) (user + 1)) (λ j. [])
+pub mode_kept : (old : Variables) (from : List Step) (user v : ℕ) (sample : Bool) → NamesInvariant old from → global_of old user ≡ Some v → (data_at old v).sampling_mode ≡ mode_for sample → ChangesScriptState old old from from (with_mode (script_mode sample) (user + 1)) (λ j. [])
 mode_kept old from user v sample valid had e = record {
   valid = valid;
   kept = λ j live a. record {
@@ -259,14 +259,14 @@ mode_kept old from user v sample valid had e = record {
   };
 }
 
-pub mode_set : (old new : Variables) (from to : List Step) (user v : ℕ) (sample : Bool) → NamesInvariant old from → global_of old user ≡ Some v → PutsMode old new v (mode_for sample)
-    → to ≡ ChangeSamplingMode v sample ∷ from → NamesEffect old new from to (with_mode (script_mode sample) (user + 1)) (λ j. [])
+pub mode_set : (old new : Variables) (from to : List Step) (user v : ℕ) (sample : Bool) → NamesInvariant old from → global_of old user ≡ Some v → StoresMode old new v (mode_for sample)
+    → to ≡ ChangeSamplingMode v sample ∷ from → ChangesScriptState old new from to (with_mode (script_mode sample) (user + 1)) (λ j. [])
 mode_set old new from to user v sample valid had put e = record {
   valid = record {
     tidy = tidy_mode old new user v sample valid.tidy had put;
     said = subst (λ steps. NamesMatchSteps new (session_after steps)) (sym e) (said_mode old new user v sample valid.tidy had put (session_after from) valid.said);
     may = subst AreAllowedSteps (sym e) (valid.may, may_mode old user v (session_after from) valid.tidy valid.said had);
-    read = λ u. ap (λ steps. variable_of steps (u + 1)) e ∙ valid.read u ∙ ap (λ m. target m.fwd u) (sym put.users);
+    read = λ u. ap (λ steps. variable_named steps (u + 1)) e ∙ valid.read u ∙ ap (λ m. target m.fwd u) (sym put.users);
   };
   kept = λ j live a. subst (λ steps. ReachesScriptState new from steps (with_mode (script_mode sample) (user + 1) j) []) (sym e) (record {
     live = live;
@@ -282,7 +282,7 @@ mode_set old new from to user v sample valid had put e = record {
     accepted : checker_rules.Accepts from (ChangeSamplingMode v sample)
     accepted = (sessions_are_accepted (ChangeSamplingMode v sample ∷ from) (valid.may, may_mode old user v (session_after from) valid.tidy valid.said had)).0.1
 
-pub mode_unseen : (old new : Variables) (from to : List Step) (v : ℕ) (mode : SamplingMode) (sample : Bool) → PutsMode old new v mode → to ≡ ChangeSamplingMode v sample ∷ from → IsUnseen old new from to
+pub mode_unseen : (old new : Variables) (from to : List Step) (v : ℕ) (mode : SamplingMode) (sample : Bool) → StoresMode old new v mode → to ≡ ChangeSamplingMode v sample ∷ from → KeepsWhatSearchSees old new from to
 mode_unseen old new from to v mode sample put e = record {
   solvers = put.solvers;
   globals = put.globals;
@@ -292,7 +292,7 @@ mode_unseen old new from to v mode sample put e = record {
 
 -- MODES AS STEPS STATE THEM
 
-mode_back : (m : SamplingMode) (sample : Bool) → checker_mode m ≡ mode_said sample → m ≡ mode_for sample
+mode_back : (m : SamplingMode) (sample : Bool) → checker_mode m ≡ mode_of_flag sample → m ≡ mode_for sample
 mode_back kept.Sample true e = refl
 mode_back kept.Sample false e = absurd (let d : Sample ≡ Witness = e in cc)
 mode_back kept.Witness true e = absurd (let d : Witness ≡ Sample = e in cc)
@@ -301,8 +301,8 @@ mode_back kept.Hide true e = absurd (let d : Hide ≡ Sample = e in cc)
 mode_back kept.Hide false e = absurd (let d : Hide ≡ Witness = e in cc)
 
 -- the step changes the mode that the session has
-pub turns_mode : (n : Variables) (from : List Step) (user v : ℕ) (sample : Bool) → NamesInvariant n from → global_of n user ≡ Some v → ((data_at n v).sampling_mode ≡ mode_for sample → ⊥) → TurnsMode (session_after from) v sample
-turns_mode n from user v sample valid had differs e = differs (mode_back (data_at n v).sampling_mode sample (sym (ap (λ (x : Variable). x.mode) (valid.said.variables v) ∙ ap (λ b. (cond b unknown live).mode) (valid.tidy.named v user (valid.tidy.users.back user v had))) ∙ e))
+pub turns_mode : (n : Variables) (from : List Step) (user v : ℕ) (sample : Bool) → NamesInvariant n from → global_of n user ≡ Some v → ((data_at n v).sampling_mode ≡ mode_for sample → ⊥) → ChangesModeTo (session_after from) v sample
+turns_mode n from user v sample valid had differs e = differs (mode_back (data_at n v).sampling_mode sample (sym (ap (λ (x : Variable). x.mode) (valid.said.variables v) ∙ ap (λ b. (cond b initial_variable live).mode) (valid.tidy.named v user (valid.tidy.users.back user v had))) ∙ e))
   where
     live : Variable
     live = record { known = true; mode = checker_mode (data_at n v).sampling_mode; name = user_of n v }

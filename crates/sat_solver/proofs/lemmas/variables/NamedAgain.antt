@@ -6,12 +6,12 @@ use Rattle.sat_base.specs.script.Script.{Literal, Among}
 use Rattle.sat_base.specs.script.ScriptState.{ScriptState, identity_in, identity_of, identity_lit, with_clause}
 use Rattle.sat_base.specs.values.Literals.{mk_lit}
 use Rattle.sat_base.specs.steps.Steps.{Step, UserVarName}
-use Rattle.sat_checker.specs.matching.Checking.{variable_of, CheckerRules, IsSound}
+use Rattle.sat_checker.specs.matching.Checking.{variable_named, CheckerRules, IsSound}
 use Rattle.sat_checker.specs.matching.Bridge.{LiveVariables, IsBridge}
 use Rattle.sat_solver.specs.variables.Observing.{observed}
 use Rattle.sat_base.proofs.lemmas.script.LiteralValues.{placed_found, all_map, all_at, coded_half}
 
-pub named_again : (k : CheckerRules) → IsSound k → (j : ScriptState) (earlier : List Step) (live : LiveVariables) → IsBridge k j earlier live → (name v index i : ℕ) → index + 1 ≡ name → Among (v, i) live → ((m : ℕ) → variable_of earlier m ≡ Some v → ⊥)
+pub named_again : (k : CheckerRules) → IsSound k → (j : ScriptState) (earlier : List Step) (live : LiveVariables) → IsBridge k j earlier live → (name v index i : ℕ) → index + 1 ≡ name → Among (v, i) live → ((m : ℕ) → variable_named earlier m ≡ Some v → ⊥)
     → k.Accepts earlier (UserVarName v (Some index)) → IsBridge k (observed name i j) (UserVarName v (Some index) ∷ earlier) live
 named_again k sound j earlier live bridge name v index i is there hidden acc = record {
   accepted = (bridge.accepted, acc);
@@ -26,7 +26,7 @@ named_again k sound j earlier live bridge name v index i is there hidden acc = r
   back = bridge.back;
 }
   where
-    found : (m w : ℕ) (b : Bool) → eqb (index + 1) m ≡ b → cond b (Some v) (variable_of earlier m) ≡ Some w → (n : ℕ) × (identity_of (observed name i j) m ≡ Some n) × Among (w, n) live
+    found : (m w : ℕ) (b : Bool) → eqb (index + 1) m ≡ b → cond b (Some v) (variable_named earlier m) ≡ Some w → (n : ℕ) × (identity_of (observed name i j) m ≡ Some n) × Among (w, n) live
     found m w true e f =
         let x : eqb name m ≡ true = eq-eqb name m (sym is ∙ eqb-true (index + 1) m e) in
         let vw : v ≡ w = cc in
@@ -36,17 +36,17 @@ named_again k sound j earlier live bridge name v index i is there hidden acc = r
         let p = bridge.named m w f in
         (p.0, placed_found (record { name = name; identity = i }) j.in_use m ∙ ap (λ b. cond b (Some i) (identity_in j.in_use m)) x ∙ p.1, p.2)
 
-    has : (m n : ℕ) (b : Bool) → eqb name m ≡ b → cond b (Some i) (identity_in j.in_use m) ≡ Some n → (w : ℕ) × (variable_of (UserVarName v (Some index) ∷ earlier) m ≡ Some w) × Among (w, n) live
+    has : (m n : ℕ) (b : Bool) → eqb name m ≡ b → cond b (Some i) (identity_in j.in_use m) ≡ Some n → (w : ℕ) × (variable_named (UserVarName v (Some index) ∷ earlier) m ≡ Some w) × Among (w, n) live
     has m n true e f =
         let x : eqb (index + 1) m ≡ true = eq-eqb (index + 1) m (is ∙ eqb-true name m e) in
         let same : i ≡ n = cc in
-        (v, ap (λ b. cond b (Some v) (variable_of earlier m)) x, subst (λ u. Among (v, u) live) same there)
+        (v, ap (λ b. cond b (Some v) (variable_named earlier m)) x, subst (λ u. Among (v, u) live) same there)
     has m n false e f =
         let x : eqb (index + 1) m ≡ false = ne_eqb (index + 1) m (λ y. eqb-false name m e (sym is ∙ y)) in
         let p = bridge.in_use m n f in
-        (p.0, ap (λ b. cond b (Some v) (variable_of earlier m)) x ∙ p.1, p.2)
+        (p.0, ap (λ b. cond b (Some v) (variable_named earlier m)) x ∙ p.1, p.2)
 
-    one : (m n w : ℕ) (b : Bool) → eqb (index + 1) m ≡ b → (d : Bool) → eqb (index + 1) n ≡ d → cond b (Some v) (variable_of earlier m) ≡ Some w → cond d (Some v) (variable_of earlier n) ≡ Some w → m ≡ n
+    one : (m n w : ℕ) (b : Bool) → eqb (index + 1) m ≡ b → (d : Bool) → eqb (index + 1) n ≡ d → cond b (Some v) (variable_named earlier m) ≡ Some w → cond d (Some v) (variable_named earlier n) ≡ Some w → m ≡ n
     one m n w true x true y e f = sym (eqb-true (index + 1) m x) ∙ eqb-true (index + 1) n y
     one m n w true x false y e f = absurd (hidden n (f ∙ sym e))
     one m n w false x true y e f = absurd (hidden m (e ∙ sym f))

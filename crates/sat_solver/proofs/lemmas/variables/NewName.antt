@@ -11,14 +11,14 @@ use Rattle.sat_store.specs.declared.data.VarData.{VarData}
 use Rattle.sat_store.specs.declared.data.SamplingMode.TheVariants as kept
 use Rattle.sat_store.specs.variables.VarData.{user_variable, unused_variable}
 use Rattle.sat_store.specs.variables.Maps.{AreInverse, target}
-use Rattle.sat_checker.specs.Stored.{Hide, Sample, Variable, unknown}
-use Rattle.sat_solver.specs.session.Session.{Session, MayNameVar, after}
+use Rattle.sat_checker.specs.Stored.{Hide, Sample, Variable, initial_variable}
+use Rattle.sat_solver.specs.session.Session.{Session, CanNameVar, after}
 use Rattle.sat_solver.specs.variables.Counting.{HasEqualCounts}
 use Rattle.sat_solver.specs.variables.Free.{is_free, IsTree}
 use Rattle.sat_checker.specs.matching.Bridge.{LiveVariables}
 use Rattle.sat_solver.specs.variables.Live.{given, given_of}
-use Rattle.sat_solver.specs.variables.Variables.{data_at, global_of, user_of, solver_of, global_at, names_used, variables_used, indices_used, VariablesInvariant, checker_mode, checker_variable_at, NamesMatchSteps, IsModeOf, NamesMatchState, says_unit, is_witness_kept}
-use Rattle.sat_solver.specs.variables.Naming.{IsVariableForName, PutsName}
+use Rattle.sat_solver.specs.variables.Variables.{data_at, global_of, user_of, solver_of, global_at, names_used, variables_used, indices_used, VariablesInvariant, checker_mode, checker_variable_at, NamesMatchSteps, IsModeOf, NamesMatchState, is_unit_value, is_witness_kept}
+use Rattle.sat_solver.specs.variables.Naming.{IsVariableForName, StoresName}
 use Rattle.sat_solver.specs.declared.variables.Variables.{Variables}
 use Rattle.sat_solver.proofs.lemmas.variables.MapLemmas.{pushed}
 use Rattle.sat_solver.proofs.lemmas.variables.Counts.{links_even}
@@ -45,9 +45,9 @@ pub nameless : (n : Variables) (v : ℕ) → VariablesInvariant n → (data_at n
 nameless n v tidy d = is_none (user_of n v) (λ u e. true≢false (sym d ∙ tidy.named v u e))
 
 abbrev pub shape : VarData → Option ℕ → Variable
-shape d u = cond d.deleted unknown (record { known = true; mode = checker_mode d.sampling_mode; name = u })
+shape d u = cond d.deleted initial_variable (record { known = true; mode = checker_mode d.sampling_mode; name = u })
 
-module _ (old new : Variables) (user v : ℕ) (tidy : VariablesInvariant old) (room : IsVariableForName old user v) (free : global_of old user ≡ None) (within : user ≤ names_used old) (small : v < var_limit) (put : PutsName old new user v) where
+module _ (old new : Variables) (user v : ℕ) (tidy : VariablesInvariant old) (room : IsVariableForName old user v) (free : global_of old user ≡ None) (within : user ≤ names_used old) (small : v < var_limit) (put : StoresName old new user v) where
   pub tidy_named : VariablesInvariant new
   tidy_named = record {
     users = put.inverse;
@@ -156,20 +156,20 @@ module _ (old new : Variables) (user v : ℕ) (tidy : VariablesInvariant old) (r
       free_solvers x = ap (λ f. is_free f x) put.free_solvers ∙ tidy.free_solvers x ∙ ap (λ m. ltb x (length m.bwd) && not (is_some (target m.bwd x))) (sym put.solvers)
 
   -- the name may be given to the variable
-  pub may_name : (s : Session) → NamesMatchSteps old s → MayNameVar s v user
+  pub may_name : (s : Session) → NamesMatchSteps old s → CanNameVar s v user
   may_name s said = record {
     free = λ w e. none_some free (tidy.users.forth user w (name_at w (sym (ap (λ x. x.name) (said.variables w)) ∙ e)));
     nameless = ap (λ x. x.name) at;
     not_hidden = λ e. let z : Sample ≡ Hide = sym (ap (λ x. x.mode) at) ∙ e in cc;
   }
     where
-      at : s.variables v ≡ unknown
-      at = said.variables v ∙ ap (λ b. cond b unknown (record { known = true; mode = checker_mode (data_at old v).sampling_mode; name = user_of old v })) room.unused
+      at : s.variables v ≡ initial_variable
+      at = said.variables v ∙ ap (λ b. cond b initial_variable (record { known = true; mode = checker_mode (data_at old v).sampling_mode; name = user_of old v })) room.unused
 
       name_at : (w : ℕ) → (checker_variable_at old w).name ≡ Some user → user_of old w ≡ Some user
       name_at w e = go (data_at old w).deleted e
         where
-          go : (b : Bool) → (let x : Variable = cond b unknown (record { known = true; mode = checker_mode (data_at old w).sampling_mode; name = user_of old w }) in x).name ≡ Some user → user_of old w ≡ Some user
+          go : (b : Bool) → (let x : Variable = cond b initial_variable (record { known = true; mode = checker_mode (data_at old w).sampling_mode; name = user_of old w }) in x).name ≡ Some user → user_of old w ≡ Some user
           go true x = cc
           go false x = x
 
@@ -178,7 +178,7 @@ module _ (old new : Variables) (user v : ℕ) (tidy : VariablesInvariant old) (r
     variables = variables;
     solver_names = λ w. said.solver_names w ∙ ap (λ m. target m.fwd w) (sym put.solvers);
     unused = λ w e. said.unused w (sym (ap (λ m. target m.fwd w) put.solvers) ∙ e);
-    units = λ w e b. said.units w (sym (ap (λ m. target m.fwd w) put.solvers) ∙ e) b ∙ ap (λ o. says_unit o b) (unit_kept w);
+    units = λ w e b. said.units w (sym (ap (λ m. target m.fwd w) put.solvers) ∙ e) b ∙ ap (λ o. is_unit_value o b) (unit_kept w);
     marked = λ w. said.marked w ∙ mark_kept w;
   }
     where
@@ -201,7 +201,7 @@ module _ (old new : Variables) (user v : ℕ) (tidy : VariablesInvariant old) (r
           go : (b : Bool) → eqb w v ≡ b → user_of new w ≡ cond b (Some user) (user_of old w) → data_at new w ≡ cond b user_variable (data_at old w)
               → cond b (record (s.variables v) { known = true; name = Some user }) (s.variables w) ≡ checker_variable_at new w
           go true t x y =
-              let at : s.variables v ≡ unknown = said.variables v ∙ ap (λ b. cond b unknown (record { known = true; mode = checker_mode (data_at old v).sampling_mode; name = user_of old v })) room.unused in
+              let at : s.variables v ≡ initial_variable = said.variables v ∙ ap (λ b. cond b initial_variable (record { known = true; mode = checker_mode (data_at old v).sampling_mode; name = user_of old v })) room.unused in
               ap {A = Variable} (λ z. record z { known = true; name = Some user }) at ∙ sym (ap (λ d. shape d (user_of new w)) y ∙ ap (shape user_variable) x)
           go false t x y = said.variables w ∙ sym (ap (λ d. shape d (user_of new w)) y ∙ ap (shape (data_at old w)) x)
 

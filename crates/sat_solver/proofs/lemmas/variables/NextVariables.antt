@@ -4,9 +4,9 @@ use Rattle.std.proofs.lemmas.Bool.{ltb-true, true≢false}
 use Rattle.std.proofs.lemmas.List.{get_or_past}
 use Rattle.sat_store.specs.variables.VarData.{unused_variable}
 use Rattle.sat_store.specs.variables.Maps.{target}
-use Rattle.sat_checker.specs.Stored.{Variable, unknown}
+use Rattle.sat_checker.specs.Stored.{Variable, initial_variable}
 use Rattle.sat_solver.specs.session.Session.{Session}
-use Rattle.sat_solver.specs.variables.NamingSteps.{IsNextVariable, IsNextSolver}
+use Rattle.sat_solver.specs.variables.NamingSteps.{IsNextVariable, IsNextIndexInSession}
 use Rattle.sat_solver.specs.variables.Free.{is_free, IsLowest}
 use Rattle.sat_solver.specs.variables.Naming.{IsVariableForName, IsNextIndex}
 use Rattle.sat_solver.specs.variables.Variables.{VariablesInvariant, NamesMatchSteps, data_at, user_of, global_at, names_used, variables_used, checker_mode}
@@ -49,7 +49,7 @@ pub ruleset finding_room = (room_own, room_freed, room_new)
 known_of : (n : Variables) (s : Session) (w : ℕ) → NamesMatchSteps n s → (s.variables w).known ≡ not (data_at n w).deleted
 known_of n s w said = ap (λ x. x.known) (said.variables w) ∙ go (data_at n w).deleted
   where
-    go : (b : Bool) → (let x : Variable = cond b unknown (record { known = true; mode = checker_mode (data_at n w).sampling_mode; name = user_of n w }) in x).known ≡ not b
+    go : (b : Bool) → (let x : Variable = cond b initial_variable (record { known = true; mode = checker_mode (data_at n w).sampling_mode; name = user_of n w }) in x).known ≡ not b
     go true = refl
     go false = refl
 
@@ -70,7 +70,7 @@ next_variable n s user v said room = (
   ),
 )
 
-pub next_solver : (n : Variables) (s : Session) (x : ℕ) → VariablesInvariant n → NamesMatchSteps n s → IsNextIndex n x → IsNextSolver s (Some x)
+pub next_solver : (n : Variables) (s : Session) (x : ℕ) → VariablesInvariant n → NamesMatchSteps n s → IsNextIndex n x → IsNextIndexInSession s (Some x)
 next_solver n s x tidy said next = (
   λ v e. free v (sym (said.solver_names v) ∙ e),
   λ y lt. (let p = none_or (global_at n y) (next.lowest y lt) in (p.0, said.solver_names p.0 ∙ tidy.solvers.forth p.0 y p.1)),

@@ -8,24 +8,24 @@ use Rattle.sat_base.proofs.lemmas.script.ScriptStates.{placed_order}
 use Rattle.sat_base.specs.script.ScriptState.{ScriptState, Named, Sampled, Witnessed, identity_in, identity_of}
 use Rattle.sat_base.specs.steps.Steps.{Step, UserVarName, ChangeSamplingMode}
 use Rattle.sat_checker.specs.Fold.{Holds}
-use Rattle.sat_checker.specs.Stored.{Hide, Witness, Variable, unknown}
+use Rattle.sat_checker.specs.Stored.{Hide, Witness, Variable, initial_variable}
 use Rattle.sat_store.specs.declared.data.VarData.{VarData}
 use Rattle.sat_store.specs.declared.data.SamplingMode.TheVariants as kept
 use Rattle.sat_store.specs.variables.VarData.{unused_variable}
 use Rattle.sat_store.specs.variables.Maps.{AreInverse, target}
-use Rattle.sat_solver.specs.session.Session.{Session, AreAllowedSteps, IsAllowedStep, MayNameVar, session_after, after}
+use Rattle.sat_solver.specs.session.Session.{Session, AreAllowedSteps, IsAllowedStep, CanNameVar, session_after, after}
 use Rattle.sat_solver.proofs.lemmas.session.StepLemmas.{sessions_are_accepted}
 use Rattle.sat_checker.specs.matching.Bridge.{IsBridge, LiveVariables}
 use Rattle.sat_solver.specs.variables.Counting.{HasEqualCounts, count_to, mapped_count}
 use Rattle.sat_solver.specs.variables.Free.{is_free, IsTree}
 use Rattle.sat_solver.specs.variables.Live.{given, given_of}
-use Rattle.sat_checker.specs.matching.Checking.{variable_of}
+use Rattle.sat_checker.specs.matching.Checking.{variable_named}
 use Rattle.sat_checker.specs.matching.ProofChecking.{checker_rules}
 use Rattle.sat_solver.specs.variables.Calls.{NamesInvariant, NamesAgree}
-use Rattle.sat_solver.specs.variables.Naming.{IsNextUser, NamesFull, NoVariableLeft, PutsObserved, KeepsNames}
+use Rattle.sat_solver.specs.variables.Naming.{IsNextUser, NamesFull, NoVariableLeft, StoresObserving, KeepsNames}
 use Rattle.sat_solver.specs.variables.Observing.{observed, Observes, all_named, one_more, IsHidden, NamesHidden, NamesAllHidden}
-use Rattle.sat_solver.specs.variables.Search.{KeepsSearch, IsUnseen}
-use Rattle.sat_solver.specs.variables.Variables.{data_at, global_of, user_of, names_used, variables_used, VariablesInvariant, checker_mode, checker_variable_at, NamesMatchSteps, IsModeOf, NamesMatchState, says_unit}
+use Rattle.sat_solver.specs.variables.Search.{KeepsSearch, KeepsWhatSearchSees}
+use Rattle.sat_solver.specs.variables.Variables.{data_at, global_of, user_of, names_used, variables_used, VariablesInvariant, checker_mode, checker_variable_at, NamesMatchSteps, IsModeOf, NamesMatchState, is_unit_value}
 use Rattle.sat_solver.specs.declared.variables.Variables.{Variables}
 use Rattle.sat_checker.proofs.lemmas.matching.Bridge.{nothing_new}
 use Rattle.sat_checker.proofs.lemmas.matching.CheckerIsSound.{the_checking_sound}
@@ -111,7 +111,7 @@ none_left n tidy full v lt = go (data_at n v).deleted refl
         omega arith
         )
 
-module _ (old new : Variables) (user v : ℕ) (tidy : VariablesInvariant old) (here : IsHidden old v) (next : IsNextUser old user) (put : PutsObserved old new user v) where
+module _ (old new : Variables) (user v : ℕ) (tidy : VariablesInvariant old) (here : IsHidden old v) (next : IsNextUser old user) (put : StoresObserving old new user v) where
   deleted_at : (w : ℕ) → (data_at new w).deleted ≡ (data_at old w).deleted
   deleted_at w = go (eqb w v) refl (put.kept w)
     where
@@ -200,7 +200,7 @@ module _ (old new : Variables) (user v : ℕ) (tidy : VariablesInvariant old) (h
 
   module _ (s : Session) (said : NamesMatchSteps old s) where
     at : s.variables v ≡ record { known = true; mode = Hide; name = None }
-    at = said.variables v ∙ ap (λ b. cond b unknown (record { known = true; mode = checker_mode (data_at old v).sampling_mode; name = user_of old v })) here.live
+    at = said.variables v ∙ ap (λ b. cond b initial_variable (record { known = true; mode = checker_mode (data_at old v).sampling_mode; name = user_of old v })) here.live
         ∙ ap (λ m. (let x : Variable = record { known = true; mode = checker_mode m; name = user_of old v } in x)) (tidy.hidden v here.live here.nameless)
         ∙ ap (λ o. (let x : Variable = record { known = true; mode = Hide; name = o } in x)) here.nameless
 
@@ -215,7 +215,7 @@ module _ (old new : Variables) (user v : ℕ) (tidy : VariablesInvariant old) (h
     may_witness = ap (λ x. x.known) at
 
     -- then the name may be written
-    pub may_observe : MayNameVar witnessed v user
+    pub may_observe : CanNameVar witnessed v user
     may_observe = record {
       free = λ w e. free w (eqb w v) refl e;
       nameless = ap (λ x. x.name) at_mode;
@@ -225,7 +225,7 @@ module _ (old new : Variables) (user v : ℕ) (tidy : VariablesInvariant old) (h
         name_at : (w : ℕ) → (checker_variable_at old w).name ≡ Some user → user_of old w ≡ Some user
         name_at w e = go (data_at old w).deleted e
           where
-            go : (b : Bool) → (let x : Variable = cond b unknown (record { known = true; mode = checker_mode (data_at old w).sampling_mode; name = user_of old w }) in x).name ≡ Some user → user_of old w ≡ Some user
+            go : (b : Bool) → (let x : Variable = cond b initial_variable (record { known = true; mode = checker_mode (data_at old w).sampling_mode; name = user_of old w }) in x).name ≡ Some user → user_of old w ≡ Some user
             go true x = cc
             go false x = x
 
@@ -241,7 +241,7 @@ module _ (old new : Variables) (user v : ℕ) (tidy : VariablesInvariant old) (h
       variables = variables;
       solver_names = λ w. said.solver_names w ∙ ap (λ m. target m.fwd w) (sym put.solvers);
       unused = λ w e. said.unused w (sym (ap (λ m. target m.fwd w) put.solvers) ∙ e);
-      units = λ w e b. said.units w (sym (ap (λ m. target m.fwd w) put.solvers) ∙ e) b ∙ ap (λ o. says_unit o b) (same w (λ d. d.unit) refl);
+      units = λ w e b. said.units w (sym (ap (λ m. target m.fwd w) put.solvers) ∙ e) b ∙ ap (λ o. is_unit_value o b) (same w (λ d. d.unit) refl);
       marked = λ w. said.marked w ∙ same w (λ d. d.assumed) refl;
     }
       where
@@ -255,7 +255,7 @@ module _ (old new : Variables) (user v : ℕ) (tidy : VariablesInvariant old) (h
         variables : (w : ℕ) → cond (eqb w v) (record (witnessed.variables v) { known = true; name = Some user }) (witnessed.variables w) ≡ checker_variable_at new w
         variables w = go (eqb w v) refl (put.users.bwd w) (put.kept w)
           where
-            now : (b : Bool) → b ≡ false → (let z : Variable = record { known = true; mode = Witness; name = Some user } in z) ≡ cond b unknown (record { known = true; mode = Witness; name = Some user })
+            now : (b : Bool) → b ≡ false → (let z : Variable = record { known = true; mode = Witness; name = Some user } in z) ≡ cond b initial_variable (record { known = true; mode = Witness; name = Some user })
             now false e = refl
             now true e = absurd (true≢false e)
 
@@ -311,12 +311,12 @@ module _ (old new : Variables) (user v : ℕ) (tidy : VariablesInvariant old) (h
 -- A HIDDEN VARIABLE GETS A NAME
 
 -- no name in use has a hidden variable
-pub nameless_in : (n : Variables) (from : List Step) (v : ℕ) (j : ScriptState) (live : LiveVariables) → NamesInvariant n from → NamesAgree n from j live → IsHidden n v → (name : ℕ) → variable_of from name ≡ Some v → ⊥
+pub nameless_in : (n : Variables) (from : List Step) (v : ℕ) (j : ScriptState) (live : LiveVariables) → NamesInvariant n from → NamesAgree n from j live → IsHidden n v → (name : ℕ) → variable_named from name ≡ Some v → ⊥
 nameless_in n from v j live valid agree here zero e = (let p = agree.bridge.named 0 v e in none_some agree.judged.no_zero p.1)
 nameless_in n from v j live valid agree here (suc m) e =
-    none_some here.nameless (valid.tidy.users.back m v (sym (valid.read m) ∙ ap (variable_of from) (let q : m + 1 ≡ suc m = omega arith in q) ∙ e))
+    none_some here.nameless (valid.tidy.users.back m v (sym (valid.read m) ∙ ap (variable_named from) (let q : m + 1 ≡ suc m = omega arith in q) ∙ e))
 
-module _ (old new : Variables) (from to : List Step) (user v : ℕ) (valid : NamesInvariant old from) (here : IsHidden old v) (next : IsNextUser old user) (put : PutsObserved old new user v) (written : to ≡ UserVarName v (Some user) ∷ ChangeSamplingMode v false ∷ from) where
+module _ (old new : Variables) (from to : List Step) (user v : ℕ) (valid : NamesInvariant old from) (here : IsHidden old v) (next : IsNextUser old user) (put : StoresObserving old new user v) (written : to ≡ UserVarName v (Some user) ∷ ChangeSamplingMode v false ∷ from) where
   may_both : AreAllowedSteps (UserVarName v (Some user) ∷ ChangeSamplingMode v false ∷ from)
   may_both = ((valid.may, may_witness old new user v valid.tidy here next put (session_after from) valid.said), may_observe old new user v valid.tidy here next put (session_after from) valid.said)
 
@@ -326,7 +326,7 @@ module _ (old new : Variables) (from to : List Step) (user v : ℕ) (valid : Nam
       tidy = tidy_observed old new user v valid.tidy here next put;
       said = subst (λ ss. NamesMatchSteps new (session_after ss)) (sym written) (said_observed old new user v valid.tidy here next put (session_after from) valid.said);
       may = subst AreAllowedSteps (sym written) may_both;
-      read = λ u. ap (λ ss. variable_of ss (u + 1)) written ∙ ap (λ b. cond b (Some v) (variable_of from (u + 1))) (next_same user u) ∙ ap (cond (eqb u user) (Some v)) (valid.read u) ∙ sym (put.users.fwd u);
+      read = λ u. ap (λ ss. variable_named ss (u + 1)) written ∙ ap (λ b. cond b (Some v) (variable_named from (u + 1))) (next_same user u) ∙ ap (cond (eqb u user) (Some v)) (valid.read u) ∙ sym (put.users.fwd u);
     };
     next = next;
     step = written;
@@ -367,7 +367,7 @@ pub record Observing (old now : Variables) (from steps : List Step) (users : Lis
   pub valid : NamesInvariant now steps
   pub none : (v : ℕ) → v < index → IsHidden now v → ⊥
   pub names : KeepsNames old now
-  pub unseen : IsUnseen old now from steps
+  pub unseen : KeepsWhatSearchSees old now from steps
   pub count : variables_used now ≡ variables_used old
   pub kept : (j : ScriptState) (live : LiveVariables) → NamesAgree old from j live → (m : ScriptState) × NamesAgree now steps m live × ((to : List Step) (k : ScriptState) (more : List ℕ) → Observes index steps m live to k more → Observes 0 from j live to k (users ++ more))
 

@@ -1,7 +1,7 @@
 -- Names of mode witness.
 use Rattle.std.proofs.Common.{ℕ, ◌+◌, ◌≡◌, ◌≢◌, false, not, List, get_or, Option, Some, None, is_some, refl, sym, ◌∙◌, ap}
 use Rattle.std.proofs.lemmas.Bool.{true≢false}
-use Rattle.sat_base.specs.script.ScriptState.{ScriptState, Sampled, identity_of, is_witness, has_witness, refused_literal}
+use Rattle.sat_base.specs.script.ScriptState.{ScriptState, Sampled, identity_of, is_witness, has_witness, refusal_of_names}
 use Rattle.sat_base.specs.script.ScriptState as judged
 use Rattle.sat_store.specs.declared.data.SamplingMode.{SamplingMode}
 use Rattle.sat_store.specs.declared.data.SamplingMode.TheVariants as kept
@@ -27,7 +27,7 @@ witness_some n user v tidy e j live judged =
 
 -- only the remaining literals can be refused
 abbrev pub IsLeft : Variables → List ℕ → List ℕ → Type 0
-IsLeft n all rest = (j : ScriptState) (live : LiveVariables) → NamesMatchState n j live → refused_literal j (names_in all) ≡ refused_literal j (names_in rest)
+IsLeft n all rest = (j : ScriptState) (live : LiveVariables) → NamesMatchState n j live → refusal_of_names j (names_in all) ≡ refusal_of_names j (names_in rest)
 
 sampled_kept : (m : SamplingMode) → m ≢ kept.Hide → is_witness_kept m ≡ false → m ≡ kept.Sample
 sampled_kept kept.Sample n e = refl

@@ -12,9 +12,9 @@ use Rattle.sat_solver.specs.declared.variables.error.NameError.{NameError}
 use Rattle.sat_solver.specs.declared.variables.error.NameError.TheVariants as errors
 use Rattle.sat_solver.specs.declared.variables.Variables.{Variables}
 use Rattle.sat_solver.specs.variables.Counting.{count_to}
-use Rattle.sat_solver.specs.variables.Failing.{IsFailure, Limits}
+use Rattle.sat_solver.specs.variables.NameFailures.{IsFailure, FailsByVariableLimitOrFault}
 use Rattle.sat_solver.specs.variables.Free.{is_free}
-use Rattle.sat_solver.specs.variables.Naming.{IsVariableForName, NoVariableLeft, PutsName}
+use Rattle.sat_solver.specs.variables.Naming.{IsVariableForName, NoVariableLeft, StoresName}
 use Rattle.sat_solver.specs.variables.VariableRoom.{live_count, is_listed, reach, introduced_count, is_hidden_name, hidden_count, HasVariablesFor, ReportsRoom, user_vars_in}
 use Rattle.sat_solver.specs.variables.Variables.{VariablesInvariant, data_at, global_of, names_used, variables_used}
 use Rattle.sat_solver.proofs.lemmas.variables.Counts.{count_zero, count_changed, count_suc, count_same, count_reach, count_more, count_le, count_full, count_some, count_not}
@@ -51,7 +51,7 @@ live_full n tidy none = ap (λ k. count_to k (is_live n)) same ∙ count_full va
     ]
 
 -- one more variable is in use
-pub live_named : (old new : Variables) (user v : ℕ) → IsVariableForName old user v → PutsName old new user v → live_count new ≡ live_count old + 1
+pub live_named : (old new : Variables) (user v : ℕ) → IsVariableForName old user v → StoresName old new user v → live_count new ≡ live_count old + 1
 live_named old new user v room put =
     let size = put.count in
     count_more (variables_used new) v (is_live old) (is_live new) (omega arith) (ap not room.unused) (ap (λ d. not d.deleted) (put.kept v ∙ ap (λ b. cond b user_variable (data_at old v)) (eq-eqb v v refl)))
@@ -149,7 +149,7 @@ room_at n all index user lt at h = subst (HasVariablesFor n) (ap user_vars_in (d
 -- FAULTS
 
 -- if a variable is left, the call failed for another reason
-pub limit_fails : {W : Type 0} (e : NameError) (old new : Variables) (from to : W) → VariablesInvariant old → live_count old < var_limit → Limits e old new from to → IsFailure e
+pub limit_fails : {W : Type 0} (e : NameError) (old new : Variables) (from to : W) → VariablesInvariant old → live_count old < var_limit → FailsByVariableLimitOrFault e old new from to → IsFailure e
 limit_fails errors.VariableLimit old new from to tidy lt h = let e = live_full old tidy h.none in absurd (omega arith)
 limit_fails x old new from to tidy lt h = tt
 
@@ -157,7 +157,7 @@ limit_fails x old new from to tidy lt h = tt
 pub fails_on : {A : Type 0} (r : Result A NameError) (e : NameError) → IsErrAnd r (λ f. f ≡ e) → IsFailure e → IfErr r IsFailure
 fails_on r e h f = let p = err_from_is_err_and r h in subst (λ r. IfErr r IsFailure) (sym p.1) (subst IsFailure (sym p.2) f)
 
-pub if_limit_fails : {A W : Type 0} (r : Result A NameError) (old new : Variables) (from to : W) → VariablesInvariant old → live_count old < var_limit → IfErr r (λ e. Limits e old new from to) → IfErr r IsFailure
+pub if_limit_fails : {A W : Type 0} (r : Result A NameError) (old new : Variables) (from to : W) → VariablesInvariant old → live_count old < var_limit → IfErr r (λ e. FailsByVariableLimitOrFault e old new from to) → IfErr r IsFailure
 if_limit_fails (Ok x) old new from to tidy lt h = tt
 if_limit_fails (Err e) old new from to tidy lt h = limit_fails e old new from to tidy lt h
 

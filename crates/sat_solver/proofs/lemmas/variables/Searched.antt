@@ -7,15 +7,15 @@ use Rattle.sat_base.specs.steps.Steps.{Step, AtClause, UnitClauses, DeleteClause
 use Rattle.sat_checker.specs.LiteralSets.{is_among, is_tautology, canonical, mentions, same_literals}
 use Rattle.sat_checker.proofs.lemmas.sets.Canonical.{canonical_among}
 use Rattle.sat_checker.proofs.lemmas.state.Forgetting.{mentions_set}
-use Rattle.sat_checker.specs.Contents.{more_if, less_if, same_side}
-use Rattle.sat_solver.specs.session.Session.{Session, session_after, after, with_fact}
+use Rattle.sat_checker.specs.Contents.{plus_one_if, minus_one_if, same_flag}
+use Rattle.sat_solver.specs.session.Session.{Session, session_after, after, with_unit_added}
 use Rattle.sat_solver.proofs.lemmas.session.Changes.{with_facts, with_sorted, with_live, without_live, knowing_literals, with_live_clause, session_if}
 use Rattle.sat_solver.proofs.lemmas.session.StepLemmas.{sessions_are_accepted}
 use Rattle.sat_solver.specs.variables.Variables.{data_at, solver_of, VariablesInvariant, NamesMatchSteps, IsInNoNonUnitClause}
 use Rattle.sat_checker.specs.matching.Bridge.{IsBridge}
-use Rattle.sat_checker.specs.matching.Checking.{variable_of}
+use Rattle.sat_checker.specs.matching.Checking.{variable_named}
 use Rattle.sat_checker.specs.matching.ProofChecking.{checker_rules}
-use Rattle.sat_solver.specs.variables.Searching.{AreIndexed, IsOfSearch, SearchesPreserveNames, SearchesAgree}
+use Rattle.sat_solver.specs.variables.Searching.{AreIndexed, IsSearchStepOver, SearchesPreserveNames, SearchesAgree}
 use Rattle.sat_solver.specs.declared.variables.Variables.{Variables}
 use Rattle.sat_checker.proofs.lemmas.matching.Bridge.{nothing_new}
 use Rattle.sat_checker.proofs.lemmas.matching.CheckerIsSound.{the_checking_sound}
@@ -50,7 +50,7 @@ leaves_both n a b c x y = record {
 differs : (n : Variables) (l v x : ℕ) (b : Bool) → solver_of n (variable l) ≡ Some x → solver_of n v ≡ None → l ≢ mk_lit v b
 differs n l v x b e f q = none_some (ap (solver_of n) (ap variable q ∙ coded_half v b) ∙ f) e
 
-leaves_fact : (n : Variables) (l x : ℕ) (s : Session) → solver_of n (variable l) ≡ Some x → Leaves n s (with_fact l s)
+leaves_fact : (n : Variables) (l x : ℕ) (s : Session) → solver_of n (variable l) ≡ Some x → Leaves n s (with_unit_added l s)
 leaves_fact n l x s e = go (s.units l) (s.units (negated l))
   where
     go : (b d : Bool) → Leaves n s (session_if b s (session_if d (record s { unsat = true }) (record s { units = λ m. eqb l m || s.units m })))
@@ -60,7 +60,7 @@ leaves_fact n l x s e = go (s.units l) (s.units (negated l))
 
 leaves_facts : (n : Variables) (ls : List ℕ) (s : Session) → AreIndexed n ls → Leaves n s (with_facts ls s)
 leaves_facts n [] s h = leaves_same n s
-leaves_facts n (l ∷ ls) s h = leaves_both n s (with_fact l s) (with_facts ls (with_fact l s)) (leaves_fact n l h.0.0 s h.0.1) (leaves_facts n ls (with_fact l s) h.1)
+leaves_facts n (l ∷ ls) s h = leaves_both n s (with_unit_added l s) (with_facts ls (with_unit_added l s)) (leaves_fact n l h.0.0 s h.0.1) (leaves_facts n ls (with_unit_added l s) h.1)
 
 -- a clause over variables with indices does not mention one without
 unmentioned : (n : Variables) (c : List ℕ) (v : ℕ) → solver_of n v ≡ None → AreIndexed n c → mentions c v ≡ false
@@ -73,12 +73,12 @@ leaves_live n r set s none = record {
   solver_names = refl;
   assumed = refl;
   units = λ v e b. refl;
-  unused = λ v e h q other lt. go v e h q other (same_side r q && same_literals set other) refl lt;
+  unused = λ v e h q other lt. go v e h q other (same_flag r q && same_literals set other) refl lt;
 }
   where
-    go : (v : ℕ) → solver_of n v ≡ None → IsInNoNonUnitClause s v → (q : Bool) (other : List ℕ) (b : Bool) → (same_side r q && same_literals set other) ≡ b → 0 < more_if b (s.live q other) → mentions other v ≡ false
+    go : (v : ℕ) → solver_of n v ≡ None → IsInNoNonUnitClause s v → (q : Bool) (other : List ℕ) (b : Bool) → (same_flag r q && same_literals set other) ≡ b → 0 < plus_one_if b (s.live q other) → mentions other v ≡ false
     go v e h q other false t lt = h q other lt
-    go v e h q other true t lt = ap (λ z. mentions z v) (sym (same_lists set other (and_right (same_side r q) (same_literals set other) t))) ∙ none v e
+    go v e h q other true t lt = ap (λ z. mentions z v) (sym (same_lists set other (and_right (same_flag r q) (same_literals set other) t))) ∙ none v e
 
 leaves_sorted : (n : Variables) (r : Bool) (set c : List ℕ) (s : Session) → AreIndexed n c → set ≡ canonical c → Leaves n s (with_sorted r set s)
 leaves_sorted n r [] c s h e = record { variables = λ v. refl; solver_names = refl; assumed = refl; units = λ v f b. refl; unused = λ v f k. k }
@@ -106,10 +106,10 @@ leaves_less n r set s = record {
   solver_names = refl;
   assumed = refl;
   units = λ v e b. refl;
-  unused = λ v e h q other lt. h q other (fewer (same_side r q && same_literals set other) (s.live q other) lt);
+  unused = λ v e h q other lt. h q other (fewer (same_flag r q && same_literals set other) (s.live q other) lt);
 }
   where
-    fewer : (b : Bool) (m : ℕ) → 0 < less_if b m → 0 < m
+    fewer : (b : Bool) (m : ℕ) → 0 < minus_one_if b m → 0 < m
     fewer true m lt = let z : 0 < m - 1 = lt in omega arith
     fewer false m lt = lt
 
@@ -120,7 +120,7 @@ leaves_known n ls s h = record { variables = λ v. known_same s ls v h; solver_n
 known_indexed : (n : Variables) (ls : List ℕ) (s : Session) → VariablesInvariant n → NamesMatchSteps n s → AreIndexed n ls → AllByRecursion (λ l. (s.variables (variable l)).known ≡ true) ls
 known_indexed n ls s tidy said = all_map (λ l. (x : ℕ) × (solver_of n (variable l) ≡ Some x)) (λ l. (s.variables (variable l)).known ≡ true) ls (λ l i. known_at n (variable l) s said (tidy.indexed (variable l) i.0 i.1))
 
-step_leaves : (n : Variables) (step : Step) (s : Session) → VariablesInvariant n → NamesMatchSteps n s → IsOfSearch n step → Leaves n s (after step s)
+step_leaves : (n : Variables) (step : Step) (s : Session) → VariablesInvariant n → NamesMatchSteps n s → IsSearchStepOver n step → Leaves n s (after step s)
 step_leaves n (AtClause r c hs) s tidy said h =
     let l = leaves_both n s (knowing_literals c s) (with_live_clause r c (knowing_literals c s)) (leaves_known n c s (known_indexed n c s tidy said h)) (leaves_clause n r c (knowing_literals c s) h) in
     record { variables = l.variables; solver_names = l.solver_names; assumed = l.assumed; units = l.units; unused = l.unused }
@@ -147,7 +147,7 @@ said_kept n s t l said = record {
   marked = λ v. ap (λ ls. mentions ls v) l.assumed ∙ said.marked v;
 }
 
-read_same : (n : Variables) (step : Step) (steps : List Step) → IsOfSearch n step → (name : ℕ) → variable_of (step ∷ steps) name ≡ variable_of steps name
+read_same : (n : Variables) (step : Step) (steps : List Step) → IsSearchStepOver n step → (name : ℕ) → variable_named (step ∷ steps) name ≡ variable_named steps name
 read_same n (AtClause r c hs) steps h name = refl
 read_same n (UnitClauses us) steps h name = refl
 read_same n (DeleteClause c proof) steps h name = refl
@@ -171,7 +171,7 @@ searches_agree n steps step valid may h j live a = record { judged = a.judged; b
     accepted : checker_rules.Accepts steps step
     accepted = (sessions_are_accepted (step ∷ steps) (valid.may, may)).0.1
 
-    go : (step : Step) → IsOfSearch n step → checker_rules.Accepts steps step → IsBridge checker_rules j (step ∷ steps) live
+    go : (step : Step) → IsSearchStepOver n step → checker_rules.Accepts steps step → IsBridge checker_rules j (step ∷ steps) live
     go (AtClause r c hs) h acc = nothing_new checker_rules the_checking_sound j steps live a.bridge (AtClause r c hs) acc (λ v e. cc) (λ m. refl) (λ b k. k) (λ b k. k)
     go (UnitClauses us) h acc = nothing_new checker_rules the_checking_sound j steps live a.bridge (UnitClauses us) acc (λ v e. cc) (λ m. refl) (λ b k. k) (λ b k. k)
     go (DeleteClause c proof) h acc = nothing_new checker_rules the_checking_sound j steps live a.bridge (DeleteClause c proof) acc (λ v e. cc) (λ m. refl) (λ b k. k) (λ b k. k)

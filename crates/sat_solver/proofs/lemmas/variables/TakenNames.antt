@@ -19,9 +19,9 @@ use Rattle.sat_solver.specs.declared.variables.solver_vars.Given.{Given}
 use Rattle.sat_solver.specs.declared.load.literals.MappedLits.{MappedLits}
 use Rattle.sat_solver.specs.variables.Naming.{ExtendsNames}
 use Rattle.sat_solver.specs.variables.Refusing.{names_in}
-use Rattle.sat_solver.specs.load.Literals.{IsProofLiteralOf, SameLiterals, Image, Images, NoWitness, global_with_index, IntroducesLiterals}
-use Rattle.sat_checker.specs.matching.Expected.{NewName, introducing}
-use Rattle.sat_solver.specs.variables.Calls.{NamesInvariant, NamesEffect, IntroducesNameUnseen}
+use Rattle.sat_solver.specs.load.Literals.{IsProofLiteralOf, SameLiterals, IsImage, AreImages, HaveNoWitness, global_with_index, IntroducesLiterals}
+use Rattle.sat_checker.specs.matching.Expected.{NewName, steps_introducing}
+use Rattle.sat_solver.specs.variables.Calls.{NamesInvariant, ChangesScriptState, IntroducesNameUnseen}
 use Rattle.sat_solver.specs.declared.variables.Variables.{Variables}
 use Rattle.sat_solver.proofs.lemmas.variables.MapLemmas.{pushed, some_within}
 use Rattle.sat_base.proofs.lemmas.script.LiteralValues.{all_from, coded_half}
@@ -30,14 +30,14 @@ use Rattle.sat_solver.proofs.lemmas.variables.Extending.{extends_same, extends_b
 use Rattle.sat_solver.specs.session.AllowedSteps.{OnlyAllowedSteps}
 use Rattle.sat_solver.specs.variables.NamingSteps.{IsLiteralsStep}
 use Rattle.sat_solver.proofs.lemmas.session.ComingLemmas.{comes_none, comes_both}
-use Rattle.sat_solver.specs.variables.NamingSteps.{IsNextSolver}
+use Rattle.sat_solver.specs.variables.NamingSteps.{IsNextIndexInSession}
 use Rattle.sat_solver.proofs.lemmas.variables.NextVariables.{next_solver}
 use Rattle.sat_solver.proofs.lemmas.variables.ComingSteps.{name_among, comes_due, comes_index}
 use Rattle.sat_solver.proofs.lemmas.variables.Giving.{keeps_same, keeps_both, gives_none, gives_unseen, gives_both}
 
 -- the names of these literals are introduced
 abbrev pub Brings : Variables → Variables → List Step → List Step → List ℕ → Type 0
-Brings old new from to lits = NamesEffect old new from to (introduce_all (names_in lits)) (introducing (names_in lits))
+Brings old new from to lits = ChangesScriptState old new from to (introduce_all (names_in lits)) (steps_introducing (names_in lits))
 
 -- the literals before position `index` were taken; taking the rest introduces all names
 pub record Taking (old now : Variables) (from steps : List Step) (all : List ℕ) (index : ℕ) (items : List ℕ) (given : List Given) : Type 0 where
@@ -45,13 +45,13 @@ pub record Taking (old now : Variables) (from steps : List Step) (all : List ℕ
   pub valid : NamesInvariant now steps
   pub extends : ExtendsNames old now
   pub count : length items ≡ index
-  pub each : (k : ℕ) → k < index → Image now (get_or all k 0) (get_or items k 0)
+  pub each : (k : ℕ) → k < index → IsImage now (get_or all k 0) (get_or items k 0)
   pub gives : GivesIndices old now (session_after from) given
   pub search : KeepsSearch (session_after from) (session_after steps)
   pub comes : OnlyAllowedSteps (IsLiteralsStep (names_in all)) from steps
   pub rest : (new : Variables) (to : List Step) → Brings now new steps to (drop index all) → Brings old new from to all
 
-image_stays : (old new : Variables) (l code : ℕ) → ExtendsNames old new → ((v x : ℕ) → solver_of old v ≡ Some x → solver_of new v ≡ Some x) → Image old l code → Image new l code
+image_stays : (old new : Variables) (l code : ℕ) → ExtendsNames old new → ((v x : ℕ) → solver_of old v ≡ Some x → solver_of new v ≡ Some x) → IsImage old l code → IsImage new l code
 image_stays old new l code e stays i = record { variable_is = i.variable_is; index_is = i.index_is; named = (e.stays (variable l) i.variable_is i.named).0; indexed = stays i.variable_is i.index_is i.indexed; is = i.is }
 
 -- the name and the index of one literal
@@ -70,11 +70,11 @@ one_taken old now mid new from log mids to all items next before after index l v
   comes = comes_both (IsLiteralsStep (names_in all)) from log to t.comes (comes_both (IsLiteralsStep (names_in all)) log mids to (comes_due (names_in all) log mids brought.comes)
       (comes_index (names_in all) mids to (variable l + 1) v x (subst (λ k. Among (variable k + 1) (names_in all)) (sym at) (name_among all index lt)) (brought.brings.valid.read (variable l) ∙ named) lowest));
   rest = λ last end more. t.rest last end (subst (Brings now last log end) (sym (drop_more all index 0 lt ∙ ap (λ y. y ∷ drop (index + 1) all) (sym at))) (
-      does_both now mid last log mids end (introduce (variable l + 1)) (introduce_all (names_in (drop (index + 1) all))) (λ j. map NewName (new_names (variable l + 1) j)) (introducing (names_in (drop (index + 1) all))) brought.brings
-      (does_both mid new last mids to end (λ j. j) (introduce_all (names_in (drop (index + 1) all))) (λ j. []) (introducing (names_in (drop (index + 1) all))) indexes.does more)));
+      does_both now mid last log mids end (introduce (variable l + 1)) (introduce_all (names_in (drop (index + 1) all))) (λ j. map NewName (new_names (variable l + 1) j)) (steps_introducing (names_in (drop (index + 1) all))) brought.brings
+      (does_both mid new last mids to end (λ j. j) (introduce_all (names_in (drop (index + 1) all))) (λ j. []) (steps_introducing (names_in (drop (index + 1) all))) indexes.does more)));
 }
   where
-    lowest : (to ≡ mids) ⊎ ((to ≡ SolverVarName v (Some x) ∷ mids) × ((session_after mids).solver_names v ≡ None) × IsNextSolver (session_after mids) (Some x))
+    lowest : (to ≡ mids) ⊎ ((to ≡ SolverVarName v (Some x) ∷ mids) × ((session_after mids).solver_names v ≡ None) × IsNextIndexInSession (session_after mids) (Some x))
     lowest = elim indexes.step [ inl e ↦ inl e | inr e ↦ inr (e.0, brought.brings.valid.said.solver_names v ∙ e.1, next_solver mid (session_after mids) x brought.brings.valid.tidy brought.brings.valid.said e.2) ]
 
     both : ExtendsNames now new
@@ -83,16 +83,16 @@ one_taken old now mid new from log mids to all items next before after index l v
     stays : (w y : ℕ) → solver_of now w ≡ Some y → solver_of new w ≡ Some y
     stays w y f = indexes.gives.stays w y (ap (λ m. target m.fwd w) brought.unseen.solvers ∙ f)
 
-    image : Image new l code
+    image : IsImage new l code
     image = record { variable_is = v; index_is = x; named = ap (λ m. target m.fwd (variable l)) indexes.users ∙ named; indexed = indexes.has; is = is }
 
     item : (k : ℕ) → get_or next k 0 ≡ cond (eqb k index) code (get_or items k 0)
     item k = ap (λ xs. get_or xs k 0) e ∙ pushed items k index code 0 (sym t.count)
 
-    each : (k : ℕ) → k < index + 1 → Image new (get_or all k 0) (get_or next k 0)
+    each : (k : ℕ) → k < index + 1 → IsImage new (get_or all k 0) (get_or next k 0)
     each k m = elim (cases_eq k index) [
-      | inl same ↦ subst (λ y. Image new (get_or all k 0) y) (sym (item k ∙ ap (λ b. cond b code (get_or items k 0)) (eq-eqb k index same))) (subst (λ y. Image new y code) (at ∙ ap (λ i. get_or all i 0) (sym same)) image)
-      | inr differ ↦ subst (λ y. Image new (get_or all k 0) y) (sym (item k ∙ ap (λ b. cond b code (get_or items k 0)) (ne_eqb k index differ))) (image_stays now new (get_or all k 0) (get_or items k 0) both stays (t.each k (omega arith)))
+      | inl same ↦ subst (λ y. IsImage new (get_or all k 0) y) (sym (item k ∙ ap (λ b. cond b code (get_or items k 0)) (eq-eqb k index same))) (subst (λ y. IsImage new y code) (at ∙ ap (λ i. get_or all i 0) (sym same)) image)
+      | inr differ ↦ subst (λ y. IsImage new (get_or all k 0) y) (sym (item k ∙ ap (λ b. cond b code (get_or items k 0)) (ne_eqb k index differ))) (image_stays now new (get_or all k 0) (get_or items k 0) both stays (t.each k (omega arith)))
     ]
 
 pub none_taken : (old : Variables) (from : List Step) (all items : List ℕ) (given : List Given) → NamesInvariant old from → items ≡ [] → given ≡ [] → Taking old old from from all 0 items given
@@ -130,13 +130,13 @@ among_place [] k lt = absurd (omega arith)
 among_place (y ∷ ys) zero lt = inl refl
 among_place (y ∷ ys) (suc k) lt = inr (among_place ys k (omega arith))
 
-no_witness_at : (n : Variables) (ls : List ℕ) (l : ℕ) → NoWitness n ls → Among l ls → (v : ℕ) → global_of n (variable l) ≡ Some v → (data_at n v).sampling_mode ≡ kept.Sample
+no_witness_at : (n : Variables) (ls : List ℕ) (l : ℕ) → HaveNoWitness n ls → Among l ls → (v : ℕ) → global_of n (variable l) ≡ Some v → (data_at n v).sampling_mode ≡ kept.Sample
 no_witness_at n [] l h m = absurd m
 no_witness_at n (x ∷ xs) l h (inl e) = subst (λ y. (v : ℕ) → global_of n (variable y) ≡ Some v → (data_at n v).sampling_mode ≡ kept.Sample) (sym e) h.0
 no_witness_at n (x ∷ xs) l h (inr m) = no_witness_at n xs l h.1 m
 
 -- the proof literal for a literal of the search
-pub mapped_is : (n : Variables) (l code : ℕ) (i : Image n l code) → VariablesInvariant n → with_var (global_with_index n) code ≡ mk_lit i.variable_is (is_positive l)
+pub mapped_is : (n : Variables) (l code : ℕ) (i : IsImage n l code) → VariablesInvariant n → with_var (global_with_index n) code ≡ mk_lit i.variable_is (is_positive l)
 mapped_is n l code i tidy =
     ap (with_var (global_with_index n)) i.is
     ∙ ap (λ k. 2 * global_with_index n k + mk_lit i.index_is (is_positive l) % 2) (coded_half i.index_is (is_positive l))
@@ -158,13 +158,13 @@ map_among f y (x ∷ xs) (inl e) = (x, inl refl, e)
 map_among f y (x ∷ xs) (inr m) = let p = map_among f y xs m in (p.0, inr p.1, p.2)
 
 -- a clause with the members of these literals, over proof variables
-pub same_literals : (old new : Variables) (user order set clause : List ℕ) → VariablesInvariant new → ExtendsNames old new → NoWitness old user → Images new user order → ((x : ℕ) → Among x order → Among x set) → ((x : ℕ) → Among x set → Among x order) → clause ≡ map (with_var (global_with_index new)) set → SameLiterals new user clause
+pub same_literals : (old new : Variables) (user order set clause : List ℕ) → VariablesInvariant new → ExtendsNames old new → HaveNoWitness old user → AreImages new user order → ((x : ℕ) → Among x order → Among x set) → ((x : ℕ) → Among x set → Among x order) → clause ≡ map (with_var (global_with_index new)) set → SameLiterals new user clause
 same_literals old new user order set clause tidy extends none images more less e = record {
   there = all_from (λ l. (code : ℕ) × IsProofLiteralOf new l code × Among code clause) user (λ l m.
       let p = at_place user l m in
       let lt = p.1 in
       let c = images.count in
-      let image = subst (λ x. Image new x (get_or order p.0 0)) p.2 (images.each p.0 p.1) in
+      let image = subst (λ x. IsImage new x (get_or order p.0 0)) p.2 (images.each p.0 p.1) in
       (with_var (global_with_index new) (get_or order p.0 0), stands_for l (get_or order p.0 0) m image, subst (Among (with_var (global_with_index new) (get_or order p.0 0))) (sym e) (among_map (with_var (global_with_index new)) (get_or order p.0 0) set (more (get_or order p.0 0) (among_place order p.0 (omega arith))))));
   only = all_from (λ code. (l : ℕ) × IsProofLiteralOf new l code × Among l user) clause (λ code m.
       let q = map_among (with_var (global_with_index new)) code set (subst (Among code) e m) in
@@ -173,11 +173,11 @@ same_literals old new user order set clause tidy extends none images more less e
       let c = images.count in
       let within : p.0 < length user = omega arith in
       let there = among_place user p.0 within in
-      let image = subst (Image new (get_or user p.0 0)) p.2 (images.each p.0 within) in
+      let image = subst (IsImage new (get_or user p.0 0)) p.2 (images.each p.0 within) in
       (get_or user p.0 0, subst (IsProofLiteralOf new (get_or user p.0 0)) (sym q.2) (stands_for (get_or user p.0 0) q.0 there image), there));
 }
   where
-    stands_for : (l code : ℕ) → Among l user → Image new l code → IsProofLiteralOf new l (with_var (global_with_index new) code)
+    stands_for : (l code : ℕ) → Among l user → IsImage new l code → IsProofLiteralOf new l (with_var (global_with_index new) code)
     stands_for l code m i = record { variable_is = i.variable_is; index_is = i.index_is; named = i.named; indexed = i.indexed; sampled = go (global_of old (variable l)) refl; is = mapped_is new l code i tidy }
       where
         go : (o : Option ℕ) → global_of old (variable l) ≡ o → (data_at new i.variable_is).sampling_mode ≡ kept.Sample
@@ -207,18 +207,18 @@ pub canonical_less : (xs : List ℕ) (x : ℕ) → Among x (canonical xs) → Am
 canonical_less xs x m = test_among xs x (sym (canonical_among xs x) ∙ among_test (canonical xs) x m)
 
 -- every literal of the list is over an index that the names have
-pub images_within : (n : Variables) (user order : List ℕ) → VariablesInvariant n → Images n user order → (x : ℕ) → Among x order → variable x < length n.globals.items
+pub images_within : (n : Variables) (user order : List ℕ) → VariablesInvariant n → AreImages n user order → (x : ℕ) → Among x order → variable x < length n.globals.items
 images_within n user order tidy images x m =
     let p = at_place order x m in
     let lt = p.1 in
     let c = images.count in
-    let i : Image n (get_or user p.0 0) (get_or order p.0 0) = images.each p.0 (omega arith) in
+    let i : IsImage n (get_or user p.0 0) (get_or order p.0 0) = images.each p.0 (omega arith) in
     let here : variable x ≡ i.index_is = ap variable (sym p.2 ∙ i.is) ∙ coded_half i.index_is (is_positive (get_or user p.0 0)) in
     let low : i.index_is < length n.solver_from_global.bwd = some_within n.solver_from_global.bwd i.index_is i.variable_is (tidy.solvers.back i.variable_is i.index_is i.indexed) in
     let e = tidy.globals_count in
     omega arith
 
-pub within_all : (n : Variables) (user order set : List ℕ) → VariablesInvariant n → Images n user order → set ≡ canonical order → (k : ℕ) → k < length set → variable (get_or set k 0) < length n.globals.items
+pub within_all : (n : Variables) (user order set : List ℕ) → VariablesInvariant n → AreImages n user order → set ≡ canonical order → (k : ℕ) → k < length set → variable (get_or set k 0) < length n.globals.items
 within_all n user order set tidy images e k lt = images_within n user order tidy images (get_or set k 0) (canonical_less order (get_or set k 0) (subst (Among (get_or set k 0)) e (among_place set k lt)))
 
 pub any_default : (xs : List ℕ) (i d e : ℕ) → i < length xs → get_or xs i d ≡ get_or xs i e

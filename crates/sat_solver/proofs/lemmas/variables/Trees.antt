@@ -3,7 +3,7 @@ use Rattle.std.proofs.Common.{ℕ, zero, suc, ◌+◌, ◌-◌, ◌*◌, ◌/◌
 use Rattle.std.proofs.lemmas.Bool.{eqb-true, eqb-false, eq-eqb, ne_eqb, true≢false, or_left, or_right, cases_eq, cases_lt}
 use Rattle.std.proofs.lemmas.List.{get_or_past, get_or_append_left, get_or-append_right, take_all}
 use Rattle.sat_base.specs.values.Literals.{var_limit}
-use Rattle.sat_solver.specs.variables.Free.{tree_node_at, is_free, doubled, Powers, empty, power, IsTree, IsChild, IsLowest, CopiesLeaves, IsCounted}
+use Rattle.sat_solver.specs.variables.Free.{tree_node_at, is_free, doubled, HasPowerOfTwoLeaves, empty, power, IsTree, IsChild, IsLowest, CopiesLeaves, IsCounted}
 use Rattle.sat_solver.specs.declared.variables.free.FreeIndices.{FreeIndices}
 use Rattle.sat_solver.specs.variables.Counting.{count_to}
 use Rattle.sat_solver.proofs.lemmas.variables.Counts.{count_zero, count_same, count_reach, count_changed, count_some, count_le}
@@ -171,14 +171,14 @@ some_below f level at d lt = sym (d.tree.inner at (let a = d.low in let z = belo
 pub small : (f : FreeIndices) → IsTree f → f.room ≤ var_limit
 small f tree = go tree.powers
   where
-    go : Powers f → f.room ≤ var_limit
+    go : HasPowerOfTwoLeaves f → f.room ≤ var_limit
     go (empty e) = omega arith
     go (power e l) = l
 
 pub full : (f : FreeIndices) → IsTree f → (f.room ≡ 0 → ⊥) → f.room ≡ doubled f.height
 full f tree n = go tree.powers
   where
-    go : Powers f → f.room ≡ doubled f.height
+    go : HasPowerOfTwoLeaves f → f.room ≡ doubled f.height
     go (empty e) = absurd (n e)
     go (power e l) = e
 
@@ -240,7 +240,7 @@ mended f g index value at tree lt room height count m le = (
   free,
 )
   where
-    powers : Powers f → Powers g
+    powers : HasPowerOfTwoLeaves f → HasPowerOfTwoLeaves g
     powers (empty e) = empty (room ∙ e)
     powers (power e l) = power (room ∙ e ∙ ap doubled (sym height)) (omega arith)
 
@@ -293,7 +293,7 @@ grown f g h wide tree p size same c room leaves i = leaves i ∙ ap (λ r. tree_
   | inr le ↦ c.kept (2 * f.room + i) (omega arith) ∙ same (2 * f.room + i) ∙ get_or_past f.nodes.items (2 * f.room + i) false (let s = tree.size in omega arith) ∙ sym (get_or_past f.nodes.items (f.room + i) false (let s = tree.size in omega arith))
 ]
 
-pub grown_powers : (f g : FreeIndices) → IsTree f → (f.room ≡ 0 → ⊥) → f.room < var_limit → g.room ≡ 2 * f.room → g.height ≡ f.height + 1 → Powers g
+pub grown_powers : (f g : FreeIndices) → IsTree f → (f.room ≡ 0 → ⊥) → f.room < var_limit → g.room ≡ 2 * f.room → g.height ≡ f.height + 1 → HasPowerOfTwoLeaves g
 grown_powers f g tree n lt room height =
     let p = full f tree n in
     let s = doubled_small f.height (omega arith) in

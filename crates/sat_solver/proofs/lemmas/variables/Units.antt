@@ -10,8 +10,8 @@ use Rattle.sat_solver.specs.variables.Counting.{HasEqualCounts}
 use Rattle.sat_solver.specs.variables.Free.{is_free, IsTree}
 use Rattle.sat_checker.specs.matching.Bridge.{LiveVariables}
 use Rattle.sat_solver.specs.variables.Live.{given_of}
-use Rattle.sat_solver.specs.variables.Variables.{data_at, user_of, solver_of, variables_used, VariablesInvariant, NamesMatchState, IsModeOf, says_unit, is_witness_kept}
-use Rattle.sat_solver.specs.variables.Naming.{SameMaps, PutsUnit}
+use Rattle.sat_solver.specs.variables.Variables.{data_at, user_of, solver_of, variables_used, VariablesInvariant, NamesMatchState, IsModeOf, is_unit_value, is_witness_kept}
+use Rattle.sat_solver.specs.variables.Naming.{SameMaps, StoresUnit}
 use Rattle.sat_solver.specs.variables.Calls.{NamesInvariant, NamesAgree}
 use Rattle.sat_solver.specs.declared.variables.Variables.{Variables}
 use Rattle.sat_solver.proofs.lemmas.variables.NewName.{shape}
@@ -65,7 +65,7 @@ module _ (old new : Variables) (tidy : VariablesInvariant old) (maps : SameMaps 
 none_some : {x : ℕ} {o : Option ℕ} → o ≡ None → o ≡ Some x → ⊥
 none_some e f = cc
 
-module _ (old new : Variables) (steps : List Step) (v x : ℕ) (value : Option Bool) (valid : NamesInvariant old steps) (has : solver_of old v ≡ Some x) (put : PutsUnit old new v value) where
+module _ (old new : Variables) (steps : List Step) (v x : ℕ) (value : Option Bool) (valid : NamesInvariant old steps) (has : solver_of old v ≡ Some x) (put : StoresUnit old new v value) where
   same : {A : Type 0} (w : ℕ) (f : VarData → A) → f (record (data_at old v) { unit = value }) ≡ f (data_at old v) → f (data_at new w) ≡ f (data_at old w)
   same w f e = go (eqb w v) refl (put.kept w)
     where
@@ -98,7 +98,7 @@ module _ (old new : Variables) (steps : List Step) (v x : ℕ) (value : Option B
     said = record {
       variables = λ w. valid.said.variables w ∙ sym (seen w);
       solver_names = λ w. valid.said.solver_names w ∙ ap (λ m. target m.fwd w) (sym put.maps.solvers);
-      units = λ w e b. let f : solver_of old w ≡ None = sym (ap (λ m. target m.fwd w) put.maps.solvers) ∙ e in valid.said.units w f b ∙ ap (λ d. says_unit d.unit b) (sym (other w (λ q. none_some (ap (solver_of old) (sym q) ∙ f) has)));
+      units = λ w e b. let f : solver_of old w ≡ None = sym (ap (λ m. target m.fwd w) put.maps.solvers) ∙ e in valid.said.units w f b ∙ ap (λ d. is_unit_value d.unit b) (sym (other w (λ q. none_some (ap (solver_of old) (sym q) ∙ f) has)));
       unused = λ w e. valid.said.unused w (sym (ap (λ m. target m.fwd w) put.maps.solvers) ∙ e);
       marked = λ w. valid.said.marked w ∙ sym (same w (λ d. d.assumed) refl);
     };

@@ -4,11 +4,11 @@ use Rattle.std.proofs.lemmas.List.{get_or_read}
 use Rattle.sat_base.specs.values.Literals.{variable, negated}
 use Rattle.sat_parts.specs.declared.prop.graph.Reason.{Reason}
 use Rattle.sat_parts.specs.prop.Graphs.{node_of, has_no_clause}
-use Rattle.sat_parts.specs.prop.Causes.{falsified}
+use Rattle.sat_parts.specs.prop.ReasonLits.{conflict_lits}
 use Rattle.sat_parts.specs.prop.Ready.{state_of}
 use Rattle.sat_parts.specs.prop.State.{PropagationState, node}
 use Rattle.sat_solver.specs.analyze_conflict.AnalysisState.{AnalysisState}
-use Rattle.sat_solver.specs.analyze_conflict.Minimal.{MinimizationInvariant, MarksMore, SameWork, used_up, MayStart}
+use Rattle.sat_solver.specs.analyze_conflict.Minimization.{MinimizationInvariant, AddsMarks, SameAnalysis, with_used, CanStartSearch}
 use Rattle.sat_solver.proofs.lemmas.analyze_conflict.Minimized.{minimal_start, may_start, minimal_grounds, false_variable}
 use Rattle.sat_solver.proofs.lemmas.analyze_conflict.Loops.{HasAccepted, Goes, split, in_rest, not_first, lower_here, same_itself, goes_kept, goes_dropped, front_refl, minimal_asserting, minimal_among, minimal_cut}
 use Rattle.sat_solver.proofs.minimize.minimize_clause.Goals as goal
@@ -16,7 +16,7 @@ use Rattle.sat_solver.proofs.minimize.minimize_clause.Goals.{After-var, then-is_
 
 -- what a search that succeeded says
 abbrev Implied : (words : List ℕ) (s : PropagationState) (conflict : List ℕ) (low : ℕ) (w new : AnalysisState) (lit : ℕ) → Type 0
-Implied words s conflict low w new lit = MarksMore (used_up (negated lit) w) new × MinimizationInvariant words s conflict (get_or w.clause 0 0) low new (length new.used)
+Implied words s conflict low w new lit = AddsMarks (with_used (negated lit) w) new × MinimizationInvariant words s conflict (get_or w.clause 0 0) low new (length new.used)
 
 -- the literal of this iteration
 module _ (c : After-var) where
@@ -24,7 +24,7 @@ module _ (c : After-var) where
   s = state_of c.args.assignment.now c.args.graph.now c.args.trail.now
 
   abbrev conflict : List ℕ
-  conflict = falsified c.args.clauses.now c.args.conflict.now
+  conflict = conflict_lits c.args.clauses.now c.args.conflict.now
 
   abbrev first : ℕ
   first = get_or c.args.analysis.now.clause 0 0
@@ -70,7 +70,7 @@ is_implied-requires-clause-may c =
     let h = accepted x in
     let r_is : c.reason-reason.result ≡ (node (s x) (lit x)).reason = c.reason-reason.ensures ∙ ap (λ v. (node_of c.args.graph.now v).reason) (c.var.ensures ∙ ap (λ l. variable l) (lit_is x)) in
     let caused : has_no_clause (node (s x) (lit x)).reason ≡ false = ap (λ (r : Reason). has_no_clause r) (sym r_is) ∙ sym c.is_unit.ensures ∙ c.if-is_unit.false in
-    subst (λ l. MayStart (s x) c.loop-at.analysis l) (sym (lit_is x))
+    subst (λ l. CanStartSearch (s x) c.loop-at.analysis l) (sym (lit_is x))
     (may_start _ _ _ _ _ _ _ _ c.requires.can.agrees (split _ _ _ _ _ _ _ _ _ h) (in_rest _ _ _ h.following h.within) (not_first _ _ _ _ _ _ _ _ _ h) caused)
 
 pub loop-at-preserved : goal.loop-at-preserved
@@ -79,17 +79,17 @@ loop-at-preserved c =
     let w : AnalysisState = c.loop-at.analysis in
     let g : Goes c.args.clauses.now (s x) (conflict x) (first x) (low x) c.if-is_unit.kept (c.loop-at.at + 1) (length w.clause) c.args.analysis.now c.if-is_unit.analysis = elim c.if-is_unit.branch [
       | then-is_unit v ↦
-          let same : SameWork w v.then-is_unit.analysis = elim v.then-is_unit.branch [
+          let same : SameAnalysis w v.then-is_unit.analysis = elim v.then-is_unit.branch [
             | then-is_unit-via-then-is_unit u ↦ rw u.analysis-is (same_itself w)
             | then-is_unit-via-else-is_unit+in_ok-is_implied+then-not-branch u ↦
-                rw u.analysis-is (MatchBool-at_false (Implied c.args.clauses.now (s x) (conflict x) (low x) w u.is_implied.new.analysis c.index-clause-at.result) (SameWork w u.is_implied.new.analysis) u.if-not-branch.true u.in_ok-is_implied.ensures)
+                rw u.analysis-is (MatchBool-at_false (Implied c.args.clauses.now (s x) (conflict x) (low x) w u.is_implied.new.analysis c.index-clause-at.result) (SameAnalysis w u.is_implied.new.analysis) u.if-not-branch.true u.in_ok-is_implied.ensures)
           ] in
           let kept_is = v.set_clause_lit.ensures ∙ ap (λ l. record v.then-is_unit.analysis { clause = set v.then-is_unit.analysis.clause c.loop-at.kept l }) (lit_is x) in
           rw (v.kept-is, v.analysis-is) (goes_kept _ _ _ _ _ _ _ c.args.analysis.now w v.then-is_unit.analysis v.set_clause_lit.new.self c.loop-at.invariant.front (accepted x) same kept_is)
       | else-is_unit+in_ok-is_implied+else-not-branch v ↦
           let new : AnalysisState = v.is_implied.new.analysis in
-          let both = MatchBool-at_true (Implied c.args.clauses.now (s x) (conflict x) (low x) w new c.index-clause-at.result) (SameWork w new) v.if-not-branch.false v.in_ok-is_implied.ensures in
-          let more = subst (λ l. MarksMore (used_up (negated l) w) new) (lit_is x) both.0 in
+          let both = MatchBool-at_true (Implied c.args.clauses.now (s x) (conflict x) (low x) w new c.index-clause-at.result) (SameAnalysis w new) v.if-not-branch.false v.in_ok-is_implied.ensures in
+          let more = subst (λ l. AddsMarks (with_used (negated l) w) new) (lit_is x) both.0 in
           let searching = subst (λ z. MinimizationInvariant c.args.clauses.now (s x) (conflict x) z (low x) new (length new.used)) c.loop-at.invariant.first both.1 in
           rw (v.kept-is, v.analysis-is) (goes_dropped _ _ _ _ _ _ _ c.args.analysis.now w new c.loop-at.invariant.front (accepted x) more searching)
     ] in

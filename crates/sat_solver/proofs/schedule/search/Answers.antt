@@ -3,9 +3,9 @@ use Rattle.std.proofs.lemmas.Bool.{true≢false}
 use Rattle.std.proofs.lemmas.Result.{err_from_is_err_and}
 use Rattle.sat_parts.specs.parts.Words.{trail_letters}
 use Rattle.sat_solver.specs.declared.context.Context.{Context}
-use Rattle.sat_solver.specs.schedule.Climbing.{Climbs}
+use Rattle.sat_solver.specs.schedule.Climbing.{RaisesEachWord}
 use Rattle.sat_solver.specs.schedule.Rounds.{no_round, one_more as one_more_round}
-use Rattle.sat_solver.specs.schedule.Solving.{words_in, values_in, ComesByRounds, Ended, RoundOf}
+use Rattle.sat_solver.specs.schedule.Solving.{IsWordOf, search_var_count, RoundsLeadTo, AskEnds, RoundOf}
 use Rattle.sat_solver.proofs.lemmas.schedule.ProgressLemmas.{come_begins, come_climbs, come_keeps, few_rounds, none_left}
 use Rattle.sat_solver.proofs.lemmas.schedule.SolvingLemmas.{core_word, gone_none, reduced_at, reduced_sound, reduced_words, reduced_goes, reduced_fails, round_sound, round_most, round_words, round_goes, round_ends, round_fails}
 use Rattle.sat_solver.proofs.schedule.search.Goals as goal
@@ -30,8 +30,8 @@ loop-rounds-init g c =
       most = refl;
       before = omega arith;
       within = omega (arith, c.saturating_add-end.ensures);
-      come = λ few. come_begins words_in core (values_in core) c.args.rounds.now c.args.restarts.now.next c.args.restarts.now.sequence (trail_letters core.search.parts.trail) (core_word core) few;
-      goes = from_start (λ k. ComesByRounds g.W.CountedWrite.seen core c.args.names.now k core c.args.names.now) c.args.rounds.now (gone_none g.W.CountedWrite.seen core c.args.names.now c.requires.joined.valid);
+      come = λ few. come_begins IsWordOf core (search_var_count core) c.args.rounds.now c.args.restarts.now.next c.args.restarts.now.sequence (trail_letters core.search.parts.trail) (core_word core) few;
+      goes = from_start (λ k. RoundsLeadTo g.W.CountedWrite.seen core c.args.names.now k core c.args.names.now) c.args.rounds.now (gone_none g.W.CountedWrite.seen core c.args.names.now c.requires.joined.valid);
       rounds = no_round;
     }
 
@@ -47,14 +47,14 @@ pub loop-rounds-preserved : goal.loop-rounds-preserved
 loop-rounds-preserved g c =
     let seen = g.W.CountedWrite.seen in
     let i = c.loop-rounds.invariant in
-    let n : ℕ = values_in c.args.context.now in
+    let n : ℕ = search_var_count c.args.context.now in
     let b = c.restart_where_due.new.context in
     let r : Context g.row.W.Denot g.row.P.Denot g.P.ProofProcessor = record b { proof = c.reduce.new.proof; search = c.reduce.new.search } in
     let d : Context g.row.W.Denot g.row.P.Denot g.P.ProofProcessor = record b { proof = c.conflict_step.new.proof; search = c.conflict_step.new.search } in
     let learned = c.if-not-is_learned.ensures.0 refl in
     let restarted = c.restart_where_due.ensures.joined c.loop-rounds.names i.joined in
     let sound = reduced_sound seen b r c.loop-rounds.names c.loop-rounds.rounds refl restarted tt c.in_ok-reduce.ensures in
-    let most : values_in r ≡ n = c.in_ok-reduce.ensures.ends.0.moved.size ∙ c.restart_where_due.ensures.most ∙ i.most in
+    let most : search_var_count r ≡ n = c.in_ok-reduce.ensures.ends.0.moved.size ∙ c.restart_where_due.ensures.most ∙ i.most in
     let rounded = c.in_ok-outcome.ensures in
     let out = c.in_ok-outcome.outcome in
     let names = c.conflict_step.new.names in
@@ -66,13 +66,13 @@ loop-rounds-preserved g c =
       before = omega (arith, i.before);
       within = omega (arith, c.loop-rounds-test.true);
       come = λ few.
-          come_climbs words_in r d n c.args.rounds.now c.loop-rounds.rounds c.restart_where_due.new.restarts.next c.restart_where_due.new.restarts.sequence
-          (subst (λ m. Climbs words_in m r d) most (round_words seen r d c.loop-rounds.names names refl sound out rounded learned))
-          (come_keeps words_in b r n c.args.rounds.now c.loop-rounds.rounds c.restart_where_due.new.restarts.next c.restart_where_due.new.restarts.sequence
+          come_climbs IsWordOf r d n c.args.rounds.now c.loop-rounds.rounds c.restart_where_due.new.restarts.next c.restart_where_due.new.restarts.sequence
+          (subst (λ m. RaisesEachWord IsWordOf m r d) most (round_words seen r d c.loop-rounds.names names refl sound out rounded learned))
+          (come_keeps IsWordOf b r n c.args.rounds.now c.loop-rounds.rounds c.restart_where_due.new.restarts.next c.restart_where_due.new.restarts.sequence
           (reduced_words seen b r c.loop-rounds.names c.loop-rounds.rounds refl restarted tt c.in_ok-reduce.ensures)
           (c.restart_where_due.ensures.come n c.args.rounds.now (i.come few)));
       goes =
-          one_more (λ k. ComesByRounds seen c.args.context.now c.args.names.now k d names) c.loop-rounds.rounds c.args.rounds.now i.before
+          one_more (λ k. RoundsLeadTo seen c.args.context.now c.args.names.now k d names) c.loop-rounds.rounds c.args.rounds.now i.before
           (round_goes seen r d c.loop-rounds.names names refl sound out rounded learned c.args.context.now c.args.names.now (c.loop-rounds.rounds - c.args.rounds.now)
           (reduced_goes seen b r c.loop-rounds.names c.loop-rounds.rounds refl restarted tt c.in_ok-reduce.ensures c.args.context.now c.args.names.now (c.loop-rounds.rounds - c.args.rounds.now)
           (c.restart_where_due.ensures.goes c.args.context.now c.args.names.now c.loop-rounds.names (c.loop-rounds.rounds - c.args.rounds.now) i.goes)));
@@ -89,7 +89,7 @@ pub returns-then-not-is_learned-clause-counts : goal.returns-then-not-is_learned
 returns-then-not-is_learned-clause-counts g c = record {
   more = omega (arith, c.loop-rounds.invariant.before);
   within = omega (arith, c.loop-rounds-test.true, c.saturating_add-end.ensures);
-  few = few_rounds words_in c.loop-rounds.context (values_in c.args.context.now) c.args.rounds.now c.loop-rounds.rounds c.loop-rounds.restarts.next c.loop-rounds.restarts.sequence
+  few = few_rounds IsWordOf c.loop-rounds.context (search_var_count c.args.context.now) c.args.rounds.now c.loop-rounds.rounds c.loop-rounds.restarts.next c.loop-rounds.restarts.sequence
       (omega (arith, c.loop-rounds-test.true, c.saturating_add-end.ensures)) c.loop-rounds.invariant.come;
 }
 
@@ -103,7 +103,7 @@ returns-then-not-is_learned-clause-ends g c =
     let d : Context g.row.W.Denot g.row.P.Denot g.P.ProofProcessor = record b { proof = c.conflict_step.new.proof; search = c.conflict_step.new.search } in
     let restarted = c.restart_where_due.ensures.joined c.loop-rounds.names i.joined in
     let sound = reduced_sound seen b r c.loop-rounds.names c.loop-rounds.rounds refl restarted tt c.in_ok-reduce.ensures in
-    one_less (λ k. Ended seen c.args.context.now c.args.names.now k c.in_ok-outcome.outcome d c.conflict_step.new.names) c.loop-rounds.rounds c.args.rounds.now i.before
+    one_less (λ k. AskEnds seen c.args.context.now c.args.names.now k c.in_ok-outcome.outcome d c.conflict_step.new.names) c.loop-rounds.rounds c.args.rounds.now i.before
     (round_ends seen r d c.loop-rounds.names c.conflict_step.new.names refl sound c.in_ok-outcome.outcome c.in_ok-outcome.ensures (λ e. true≢false (sym (c.if-not-is_learned.ensures.1 e))) c.args.context.now c.args.names.now k
     (reduced_goes seen b r c.loop-rounds.names c.loop-rounds.rounds refl restarted tt c.in_ok-reduce.ensures c.args.context.now c.args.names.now k
     (c.restart_where_due.ensures.goes c.args.context.now c.args.names.now c.loop-rounds.names k i.goes)))
@@ -129,7 +129,7 @@ returns-then-not-is_learned-clause-rounds g c =
 
 pub returns : goal.returns
 returns g c =
-    let few = few_rounds words_in c.loop-rounds.context (values_in c.args.context.now) c.args.rounds.now c.loop-rounds.rounds c.loop-rounds.restarts.next c.loop-rounds.restarts.sequence
+    let few = few_rounds IsWordOf c.loop-rounds.context (search_var_count c.args.context.now) c.args.rounds.now c.loop-rounds.rounds c.loop-rounds.restarts.next c.loop-rounds.restarts.sequence
     (omega (arith, c.loop-rounds.invariant.within, c.saturating_add-end.ensures)) c.loop-rounds.invariant.come in
     record {
       scale = c.loop-rounds.invariant.same;
@@ -140,7 +140,7 @@ returns g c =
       };
       round = λ k. absurd (k refl);
       interrupted = λ e. omega (arith, c.loop-rounds-test.false, c.saturating_add-end.ensures, c.loop-rounds.invariant.within);
-      answered = λ n le left e. none_left n (values_in c.args.context.now) c.args.rounds.now c.loop-rounds.rounds c.args.max_steps le (omega (arith, few)) c.loop-rounds.invariant.before left
+      answered = λ n le left e. none_left n (search_var_count c.args.context.now) c.args.rounds.now c.loop-rounds.rounds c.args.max_steps le (omega (arith, few)) c.loop-rounds.invariant.before left
           (omega (arith, c.loop-rounds-test.false, c.saturating_add-end.ensures));
       goes = λ e. record { joined = c.loop-rounds.invariant.joined; gone = c.loop-rounds.invariant.goes };
       ends = tt;
@@ -150,7 +150,7 @@ returns g c =
 
 pub returns-in_err-reduce-clause-counts : goal.returns-in_err-reduce-clause-counts
 returns-in_err-reduce-clause-counts g c =
-    let few = few_rounds words_in c.loop-rounds.context (values_in c.args.context.now) c.args.rounds.now c.loop-rounds.rounds c.loop-rounds.restarts.next c.loop-rounds.restarts.sequence
+    let few = few_rounds IsWordOf c.loop-rounds.context (search_var_count c.args.context.now) c.args.rounds.now c.loop-rounds.rounds c.loop-rounds.restarts.next c.loop-rounds.restarts.sequence
     (omega (arith, c.loop-rounds-test.true, c.saturating_add-end.ensures)) c.loop-rounds.invariant.come in
     record {
       more = c.loop-rounds.invariant.before;
@@ -171,7 +171,7 @@ returns-in_err-reduce-clause-fails g c =
 
 pub returns-in_err-outcome-clause-counts : goal.returns-in_err-outcome-clause-counts
 returns-in_err-outcome-clause-counts g c =
-    let few = few_rounds words_in c.loop-rounds.context (values_in c.args.context.now) c.args.rounds.now c.loop-rounds.rounds c.loop-rounds.restarts.next c.loop-rounds.restarts.sequence
+    let few = few_rounds IsWordOf c.loop-rounds.context (search_var_count c.args.context.now) c.args.rounds.now c.loop-rounds.rounds c.loop-rounds.restarts.next c.loop-rounds.restarts.sequence
     (omega (arith, c.loop-rounds-test.true, c.saturating_add-end.ensures)) c.loop-rounds.invariant.come in
     record {
       more = c.loop-rounds.invariant.before;

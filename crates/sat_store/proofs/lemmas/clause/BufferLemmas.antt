@@ -7,7 +7,7 @@ use Rattle.std.proofs.lemmas.Bool.{cases_eq, cases_lt}
 use Rattle.std.specs.List.{Contains, All}
 use Rattle.sat_base.specs.values.Literals.{var_limit}
 use Rattle.sat_store.specs.clause.Header.{Header, header_of}
-use Rattle.sat_store.specs.clause.Buffer.{header_at, lits_at, IsClause, HaveNoCommonWord, HoldsClauses, SameClauseAt, ChangesAt, AppendsClause}
+use Rattle.sat_store.specs.clause.Buffer.{header_at, lits_at, IsClause, HaveNoCommonWord, HoldsClauses, SameClauseAt, ChangesClauseAt, AppendsClause}
 
 -- the number of literals of a clause is the length in its header
 
@@ -68,7 +68,7 @@ others_kept v w o size below above p c apart = elim apart [
 ]
 
 -- a write that changes only words of the clause at o, and does not lengthen the clause
-pub changes_at : (v w : List ℕ) (o : ℕ) → IsClause v o → IsClause w o → length w ≡ length v → get_or w (o + 2) 0 ≤ get_or v (o + 2) 0 → ((i : ℕ) → i < o → get_or w i 0 ≡ get_or v i 0) → ((i : ℕ) → o + 3 + get_or v (o + 2) 0 ≤ i → get_or w i 0 ≡ get_or v i 0) → ChangesAt v w o
+pub changes_at : (v w : List ℕ) (o : ℕ) → IsClause v o → IsClause w o → length w ≡ length v → get_or w (o + 2) 0 ≤ get_or v (o + 2) 0 → ((i : ℕ) → i < o → get_or w i 0 ≡ get_or v i 0) → ((i : ℕ) → o + 3 + get_or v (o + 2) 0 ≤ i → get_or w i 0 ≡ get_or v i 0) → ChangesClauseAt v w o
 changes_at v w o was now size shorter below above =
     let others : (p : ℕ) → IsClause v p → HaveNoCommonWord v o p → SameClauseAt v w p = others_kept v w o size below above in
     let no_longer : (live : List ℕ) → Contains live o → HoldsClauses v live → (p : ℕ) → Contains live p → get_or w (p + 2) 0 ≤ get_or v (p + 2) 0 = λ live has holds_clauses p c. elim (cases_eq p o) [
@@ -119,7 +119,7 @@ clause_set_lit w o k x c within small =
       ];
     }
 
-pub changes_lit : (w : List ℕ) (o k x : ℕ) → IsClause w o → k < get_or w (o + 2) 0 → x < 2 * var_limit → ChangesAt w (set w (o + 3 + k) x) o
+pub changes_lit : (w : List ℕ) (o k x : ℕ) → IsClause w o → k < get_or w (o + 2) 0 → x < 2 * var_limit → ChangesClauseAt w (set w (o + 3 + k) x) o
 changes_lit w o k x c within small =
     let n : get_or (set w (o + 3 + k) x) (o + 2) 0 ≡ get_or w (o + 2) 0 = at_other w (o + 3 + k) (o + 2) x (omega arith) in
     changes_at w (set w (o + 3 + k) x) o c (clause_set_lit w o k x c within small) (length-set w (o + 3 + k) x) (omega arith)
@@ -131,7 +131,7 @@ changes_lit w o k x c within small =
 keeps_twice : (u v w : List ℕ) (p : ℕ) → SameClauseAt u v p → SameClauseAt v w p → SameClauseAt u w p
 keeps_twice u v w p a b = record { clause = b.clause; header = b.header ∙ a.header; lits = b.lits ∙ a.lits }
 
-pub changes_twice : (u v w : List ℕ) (o : ℕ) → get_or v (o + 2) 0 ≤ get_or u (o + 2) 0 → ChangesAt u v o → ChangesAt v w o → ChangesAt u w o
+pub changes_twice : (u v w : List ℕ) (o : ℕ) → get_or v (o + 2) 0 ≤ get_or u (o + 2) 0 → ChangesClauseAt u v o → ChangesClauseAt v w o → ChangesClauseAt u w o
 changes_twice u v w o shorter a b = record {
   clause = b.clause;
   size = b.size ∙ a.size;
@@ -149,13 +149,13 @@ lits_swapped w o i j h k =
     let n : get_or v (o + 2) 0 ≡ get_or w (o + 2) 0 = at_other w (o + 3 + i) (o + 2) x (omega arith) in
     lit_set v o j y (omega arith) ∙ ap (λ (ls : List ℕ). set ls j y) (lit_set w o i x h) ∙ rw (lit_there w o j k, lit_there w o i h) refl
 
-pub changes_swapped : (w : List ℕ) (o i j : ℕ) → IsClause w o → i < get_or w (o + 2) 0 → j < get_or w (o + 2) 0 → ChangesAt w (set (set w (o + 3 + i) (get_or w (o + 3 + j) 0)) (o + 3 + j) (get_or w (o + 3 + i) 0)) o
+pub changes_swapped : (w : List ℕ) (o i j : ℕ) → IsClause w o → i < get_or w (o + 2) 0 → j < get_or w (o + 2) 0 → ChangesClauseAt w (set (set w (o + 3 + i) (get_or w (o + 3 + j) 0)) (o + 3 + j) (get_or w (o + 3 + i) 0)) o
 changes_swapped w o i j c h k =
     let x : ℕ = get_or w (o + 3 + j) 0 in
     let y : ℕ = get_or w (o + 3 + i) 0 in
     let v : List ℕ = set w (o + 3 + i) x in
     let n : get_or v (o + 2) 0 ≡ get_or w (o + 2) 0 = at_other w (o + 3 + i) (o + 2) x (omega arith) in
-    let first : ChangesAt w v o = changes_lit w o i x c h (c.lits j k) in
+    let first : ChangesClauseAt w v o = changes_lit w o i x c h (c.lits j k) in
     changes_twice w v (set v (o + 3 + j) y) o (omega arith) first (changes_lit v o j y first.clause (omega arith) (c.lits i h))
 
 pub header_swapped : (w : List ℕ) (o i j x y : ℕ) → header_at (set (set w (o + 3 + i) x) (o + 3 + j) y) o ≡ header_at w o
@@ -189,7 +189,7 @@ lit_read v w p o k x e f c small read =
 pub record Leaves (w v : List ℕ) (o : ℕ) (ls : List ℕ) : Type 0 where
   pub header : header_at v o ≡ header_at w o
   pub lits : lits_at v o ≡ ls
-  pub others : ChangesAt w v o
+  pub others : ChangesClauseAt w v o
 
 pub wrote_lit : (v w : List ℕ) (p o k x : ℕ) → v ≡ w → p ≡ o → IsClause w o → k < length (lits_at w o) → x < 2 * var_limit → Leaves w (set v (p + 3 + k) x) o (set (lits_at w o) k x)
 wrote_lit v w p o k x e f c small fits =
@@ -242,7 +242,7 @@ wrote_header w o a f l room =
 pub record LeavesHeader (w v : List ℕ) (o : ℕ) (h : Header) : Type 0 where
   pub header : header_at v o ≡ h
   pub lits : lits_at v o ≡ take h.len (lits_at w o)
-  pub others : ChangesAt w v o
+  pub others : ChangesClauseAt w v o
 
 shortened_lits : (w v : List ℕ) (o : ℕ) → IsClause w o → IsClause v o → get_or v (o + 2) 0 ≤ get_or w (o + 2) 0 → ((k : ℕ) → k < get_or v (o + 2) 0 → get_or v (o + 3 + k) 0 ≡ get_or w (o + 3 + k) 0) → lits_at v o ≡ take (get_or v (o + 2) 0) (lits_at w o)
 shortened_lits w v o c d shorter same =
@@ -282,7 +282,7 @@ header_wrote v w p o a f l h e g c active small len shorter is =
 pub record LeavesLits (w v : List ℕ) (o : ℕ) (h : Header) : Type 0 where
   pub header : header_at v o ≡ h
   pub lits : lits_at v o ≡ lits_at w o
-  pub others : ChangesAt w v o
+  pub others : ChangesClauseAt w v o
 
 whole_lits : (w v : List ℕ) (o : ℕ) (h : Header) → IsClause w o → h.len ≡ get_or w (o + 2) 0 → LeavesHeader w v o h → LeavesLits w v o h
 whole_lits w v o h c len x = record {

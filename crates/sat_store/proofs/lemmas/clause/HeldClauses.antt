@@ -4,7 +4,7 @@ use Rattle.std.proofs.lemmas.List.{get_or_default}
 use Rattle.std.specs.List.{Contains, All}
 use Rattle.sat_base.specs.values.Literals.{var_limit}
 use Rattle.sat_store.specs.clause.Header.{Header}
-use Rattle.sat_store.specs.clause.Buffer.{header_at, lits_at, IsClause, HaveNoCommonWord, HoldsClauses, SameClauseAt, ChangesAt, AppendsClause}
+use Rattle.sat_store.specs.clause.Buffer.{header_at, lits_at, IsClause, HaveNoCommonWord, HoldsClauses, SameClauseAt, ChangesClauseAt, AppendsClause}
 use Rattle.sat_store.proofs.lemmas.clause.BufferLemmas.{lits_count, lit_there, header_len}
 
 -- an empty list of live clauses is always held
@@ -22,7 +22,7 @@ holds_among words live some among holds_clauses = record {
 }
 
 -- changing one live clause leaves every other one unchanged
-pub kept_beside : (old new live : List ℕ) (o p : ℕ) → HoldsClauses old live → Contains live o → Contains live p → p ≢ o → ChangesAt old new o → SameClauseAt old new p
+pub kept_beside : (old new live : List ℕ) (o p : ℕ) → HoldsClauses old live → Contains live o → Contains live p → p ≢ o → ChangesClauseAt old new o → SameClauseAt old new p
 kept_beside old new live o p holds_clauses has_o has_p differ change = change.others p (holds_clauses.clauses p has_p) (holds_clauses.apart o p has_o has_p (λ e. differ (sym e)))
 
 -- appending a clause leaves every live clause unchanged

@@ -4,7 +4,7 @@ use Rattle.std.proofs.lemmas.Bool.{cases_eq}
 use Rattle.std.proofs.lemmas.Bool.Decides.{nat_tests}
 use Rattle.std.proofs.lemmas.List.{get_or-map, length-map, ext_get_or, get_or-set_same, get_or-set_other, length-set, set-get_or}
 use Rattle.sat_store.specs.declared.vsids.heap.Entry.{Entry}
-use Rattle.sat_store.specs.heap.Heap.{no_entry, var_at, key_at, Placed, rank, rank_at, IsFirstChild, FirstAbove, Exchanged, Rearranged, keys}
+use Rattle.sat_store.specs.heap.Heap.{no_entry, var_at, key_at, PositionsMatch, rank, rank_at, ChildrenRankAtMost, FirstChildRanksAbove, SwapsEntries, PermutesEntries, activities_by_var}
 use Rattle.sat_store.proofs.lemmas.heap.FlagLemmas.{flags_same}
 
 -- the position where the entry at k is after i and j are swapped
@@ -45,7 +45,7 @@ pub record Swapped (h : List Entry) (p : List ℕ) (h' : List Entry) (p' : List 
   pub entry : (k : ℕ) → get_or h' k no_entry ≡ get_or h (other i j k) no_entry
   pub place : (v : ℕ) → v < length h → get_or p' v 0 ≡ other i j (get_or p v 0)
 
-swapped_placed : (h h' : List Entry) (p p' : List ℕ) (i j : ℕ) → Placed h p → i < length h → j < length h → Swapped h p h' p' i j → Placed h' p'
+swapped_placed : (h h' : List Entry) (p p' : List ℕ) (i j : ℕ) → PositionsMatch h p → i < length h → j < length h → Swapped h p h' p' i j → PositionsMatch h' p'
 swapped_placed h h' p p' i j placed within_i within_j s =
     let var : (k : ℕ) → var_at h' k ≡ var_at h (other i j k) = λ k. ap (λ (e : Entry). e.var) (s.entry k) in
     record {
@@ -70,16 +70,16 @@ swapped_placed h h' p p' i j placed within_i within_j s =
           ∙ placed.variable v within;
     }
 
-pub key_of : (h : List Entry) (p : List ℕ) (v : ℕ) → v < length p → get_or (keys h p) v 0 ≡ key_at h (get_or p v 0)
+pub key_of : (h : List Entry) (p : List ℕ) (v : ℕ) → v < length p → get_or (activities_by_var h p) v 0 ≡ key_at h (get_or p v 0)
 key_of h p v within = get_or-map (λ k. key_at h k) p v 0 0 within
 
-pub keys_count : (h : List Entry) (p : List ℕ) → length (keys h p) ≡ length p
+pub keys_count : (h : List Entry) (p : List ℕ) → length (activities_by_var h p) ≡ length p
 keys_count h p = length-map p (λ k. key_at h k)
 
-swapped_keys : (h h' : List Entry) (p p' : List ℕ) (i j : ℕ) → Placed h p → Swapped h p h' p' i j → keys h' p' ≡ keys h p
+swapped_keys : (h h' : List Entry) (p p' : List ℕ) (i j : ℕ) → PositionsMatch h p → Swapped h p h' p' i j → activities_by_var h' p' ≡ activities_by_var h p
 swapped_keys h h' p p' i j placed s =
-    let count : length (keys h' p') ≡ length (keys h p) = keys_count h' p' ∙ s.counts ∙ sym (keys_count h p) in
-    ext_get_or 0 (keys h' p') (keys h p) count (λ v small.
+    let count : length (activities_by_var h' p') ≡ length (activities_by_var h p) = keys_count h' p' ∙ s.counts ∙ sym (keys_count h p) in
+    ext_get_or 0 (activities_by_var h' p') (activities_by_var h p) count (λ v small.
     let within : v < length p = omega (arith, keys_count h' p', s.counts) in
     key_of h' p' v (omega (arith, s.counts))
     ∙ ap (key_at h') (s.place v (omega (arith, placed.count)))
@@ -87,8 +87,8 @@ swapped_keys h h' p p' i j placed s =
     ∙ ap (key_at h) (other_twice i j (get_or p v 0))
     ∙ sym (key_of h p v within))
 
--- entries that are swapped with their positions satisfy `Exchanged`
-pub exchanged : (h h' : List Entry) (p p' : List ℕ) (i j : ℕ) → Placed h p → i < length h → j < length h → Swapped h p h' p' i j → Exchanged h p h' p' i j
+-- entries that are swapped with their positions satisfy `SwapsEntries`
+pub exchanged : (h h' : List Entry) (p p' : List ℕ) (i j : ℕ) → PositionsMatch h p → i < length h → j < length h → Swapped h p h' p' i j → SwapsEntries h p h' p' i j
 exchanged h h' p p' i j placed within_i within_j s =
     let rank_of : (k : ℕ) → rank_at h' k ≡ rank_at h (other i j k) = λ k. ap rank (s.entry k) in
     record {
@@ -109,7 +109,7 @@ exchanged h h' p p' i j placed within_i within_j s =
     }
 
 -- lists that read as if the entries at i and j were swapped
-pub swapped : (h h' : List Entry) (p p' : List ℕ) (i j : ℕ) → Placed h p → i < length h → j < length h → length h' ≡ length h → length p' ≡ length p → get_or h' j no_entry ≡ get_or h i no_entry → (i ≢ j → get_or h' i no_entry ≡ get_or h j no_entry) → ((k : ℕ) → k ≢ i → k ≢ j → get_or h' k no_entry ≡ get_or h k no_entry) → get_or p' (var_at h i) 0 ≡ j → (var_at h j ≢ var_at h i → get_or p' (var_at h j) 0 ≡ i) → ((v : ℕ) → v ≢ var_at h i → v ≢ var_at h j → get_or p' v 0 ≡ get_or p v 0) → Swapped h p h' p' i j
+pub swapped : (h h' : List Entry) (p p' : List ℕ) (i j : ℕ) → PositionsMatch h p → i < length h → j < length h → length h' ≡ length h → length p' ≡ length p → get_or h' j no_entry ≡ get_or h i no_entry → (i ≢ j → get_or h' i no_entry ≡ get_or h j no_entry) → ((k : ℕ) → k ≢ i → k ≢ j → get_or h' k no_entry ≡ get_or h k no_entry) → get_or p' (var_at h i) 0 ≡ j → (var_at h j ≢ var_at h i → get_or p' (var_at h j) 0 ≡ i) → ((v : ℕ) → v ≢ var_at h i → v ≢ var_at h j → get_or p' v 0 ≡ get_or p v 0) → Swapped h p h' p' i j
 swapped h h' p p' i j placed within_i within_j count counts at_j at_i at_else of_i of_j of_else =
     let there : (v k : ℕ) → v < length h → get_or p v 0 ≡ k → v ≡ var_at h k = λ v k within is. sym (placed.variable v within) ∙ ap (var_at h) is in
     record {
@@ -141,7 +141,7 @@ swapped h h' p p' i j placed within_i within_j count counts at_j at_i at_else of
     }
 
 -- both entries are written, one after the other
-writing : (h : List Entry) (p : List ℕ) (i j : ℕ) → Placed h p → i < length h → j < length h → Exchanged h p (set (set h i (get_or h j no_entry)) j (get_or h i no_entry)) (set (set p (var_at h j) i) (var_at h i) j) i j
+writing : (h : List Entry) (p : List ℕ) (i j : ℕ) → PositionsMatch h p → i < length h → j < length h → SwapsEntries h p (set (set h i (get_or h j no_entry)) j (get_or h i no_entry)) (set (set p (var_at h j) i) (var_at h i) j) i j
 writing h p i j placed within_i within_j =
     let a : Entry = get_or h i no_entry in
     let b : Entry = get_or h j no_entry in
@@ -158,13 +158,13 @@ writing h p i j placed within_i within_j =
     (λ differ. get_or-set_other first a.var b.var j 0 differ ∙ get_or-set_same p b.var i 0 (in_p j within_j))
     (λ v far apart. get_or-set_other first a.var v j 0 far ∙ get_or-set_other p b.var v i 0 apart))
 
-pub exchanged_by_writing : (h : List Entry) (p : List ℕ) (a b : Entry) (i j : ℕ) → Placed h p → i < length h → j < length h → a ≡ get_or h i no_entry → b ≡ get_or h j no_entry → Exchanged h p (set (set h i b) j a) (set (set p b.var i) a.var j) i j
+pub exchanged_by_writing : (h : List Entry) (p : List ℕ) (a b : Entry) (i j : ℕ) → PositionsMatch h p → i < length h → j < length h → a ≡ get_or h i no_entry → b ≡ get_or h j no_entry → SwapsEntries h p (set (set h i b) j a) (set (set p b.var i) a.var j) i j
 exchanged_by_writing h p a b i j placed within_i within_j is_a is_b =
-    subst (λ (x : Entry). Exchanged h p (set (set h i b) j x) (set (set p b.var i) x.var j) i j) (sym is_a)
-    (subst (λ (y : Entry). Exchanged h p (set (set h i y) j (get_or h i no_entry)) (set (set p y.var i) (var_at h i) j) i j) (sym is_b) (writing h p i j placed within_i within_j))
+    subst (λ (x : Entry). SwapsEntries h p (set (set h i b) j x) (set (set p b.var i) x.var j) i j) (sym is_a)
+    (subst (λ (y : Entry). SwapsEntries h p (set (set h i y) j (get_or h i no_entry)) (set (set p y.var i) (var_at h i) j) i j) (sym is_b) (writing h p i j placed within_i within_j))
 
 -- the hole moves from i to j, and the entry at j moves into it
-moving : (h : List Entry) (p : List ℕ) (e : Entry) (i j : ℕ) → Placed (set h i e) (set p e.var i) → i < length h → j < length h → i ≢ j → Exchanged (set h i e) (set p e.var i) (set (set h i (get_or h j no_entry)) j e) (set (set p (var_at h j) i) e.var j) i j
+moving : (h : List Entry) (p : List ℕ) (e : Entry) (i j : ℕ) → PositionsMatch (set h i e) (set p e.var i) → i < length h → j < length h → i ≢ j → SwapsEntries (set h i e) (set p e.var i) (set (set h i (get_or h j no_entry)) j e) (set (set p (var_at h j) i) e.var j) i j
 moving h p e i j placed within_i within_j differ =
     let b : Entry = get_or h j no_entry in
     let full : List Entry = set h i e in
@@ -196,17 +196,17 @@ moving h p e i j placed within_i within_j differ =
     let not_j : v ≢ b.var = λ s. apart (s ∙ sym var_j) in
     get_or-set_other first e.var v j 0 not_i ∙ get_or-set_other p b.var v i 0 not_j ∙ sym (get_or-set_other p e.var v i 0 not_i)))
 
-pub exchanged_by_moving : (h : List Entry) (p : List ℕ) (e b : Entry) (i j : ℕ) → Placed (set h i e) (set p e.var i) → i < length h → j < length h → i ≢ j → b ≡ get_or h j no_entry → Exchanged (set h i e) (set p e.var i) (set (set h i b) j e) (set (set p b.var i) e.var j) i j
+pub exchanged_by_moving : (h : List Entry) (p : List ℕ) (e b : Entry) (i j : ℕ) → PositionsMatch (set h i e) (set p e.var i) → i < length h → j < length h → i ≢ j → b ≡ get_or h j no_entry → SwapsEntries (set h i e) (set p e.var i) (set (set h i b) j e) (set (set p b.var i) e.var j) i j
 exchanged_by_moving h p e b i j placed within_i within_j differ is =
-    subst (λ (x : Entry). Exchanged (set h i e) (set p e.var i) (set (set h i x) j e) (set (set p x.var i) e.var j) i j) (sym is) (moving h p e i j placed within_i within_j differ)
+    subst (λ (x : Entry). SwapsEntries (set h i e) (set p e.var i) (set (set h i x) j e) (set (set p x.var i) e.var j) i j) (sym is) (moving h p e i j placed within_i within_j differ)
 
 -- reordered heaps
 
--- an unchanged heap satisfies `Rearranged`
-pub as_it_is : (m : ℕ) (h : List Entry) (p : List ℕ) → Placed h p → Rearranged m h p h p
+-- an unchanged heap satisfies `PermutesEntries`
+pub as_it_is : (m : ℕ) (h : List Entry) (p : List ℕ) → PositionsMatch h p → PermutesEntries m h p h p
 as_it_is m h p placed = record { placed = placed; count = refl; flags = refl; keys = refl }
 
-pub one_more_exchanged : (m i j : ℕ) (h h' h'' : List Entry) (p p' p'' : List ℕ) → i < m → j < m → Exchanged h' p' h'' p'' i j → Rearranged m h p h' p' → Rearranged m h p h'' p''
+pub one_more_exchanged : (m i j : ℕ) (h h' h'' : List Entry) (p p' p'' : List ℕ) → i < m → j < m → SwapsEntries h' p' h'' p'' i j → PermutesEntries m h p h' p' → PermutesEntries m h p h'' p''
 one_more_exchanged m i j h h' h'' p p' p'' small_i small_j ex before = record {
   placed = ex.placed;
   count = ex.count ∙ before.count;
@@ -221,7 +221,7 @@ pub full_again : (h : List Entry) (at : ℕ) (e : Entry) → e ≡ get_or h at n
 full_again h at e is = ap (set h at) is ∙ set-get_or h at no_entry
 
 -- putting an entry back to its own position moves nothing
-pub not_moved : (m at : ℕ) (h : List Entry) (p : List ℕ) (e : Entry) → at < length h → e ≡ get_or h at no_entry → Placed h p → Rearranged m h p (set h at e) (set p e.var at)
+pub not_moved : (m at : ℕ) (h : List Entry) (p : List ℕ) (e : Entry) → at < length h → e ≡ get_or h at no_entry → PositionsMatch h p → PermutesEntries m h p (set h at e) (set p e.var at)
 not_moved m at h p e within is placed =
     let var : e.var ≡ var_at h at = ap (λ (x : Entry). x.var) is in
     let was : at ≡ get_or p e.var 0 = sym (ap (λ (v : ℕ). get_or p v 0) var ∙ placed.position at within) in
@@ -248,12 +248,12 @@ rank_elsewhere h at k e differ = ap rank (get_or-set_other h at k e no_entry dif
 
 -- the child that moves up into the hole
 
-pub child_is_above : (h : List Entry) (m hole child : ℕ) (e : Entry) → hole < length h → FirstAbove h m e hole child → rank_at (set h hole e) hole < rank_at (set h hole e) child
+pub child_is_above : (h : List Entry) (m hole child : ℕ) (e : Entry) → hole < length h → FirstChildRanksAbove h m e hole child → rank_at (set h hole e) hole < rank_at (set h hole e) child
 child_is_above h m hole child e within f =
     let under : (child - 1) / 4 ≡ hole = f.under in
     omega (arith, rank_there h hole e within, rank_elsewhere h hole child e (omega (arith, f.some)), f.above)
 
-pub child_is_first : (h : List Entry) (m hole child : ℕ) (e : Entry) → FirstAbove h m e hole child → IsFirstChild (rank_at (set h hole e)) m hole child
+pub child_is_first : (h : List Entry) (m hole child : ℕ) (e : Entry) → FirstChildRanksAbove h m e hole child → ChildrenRankAtMost (rank_at (set h hole e)) m hole child
 child_is_first h m hole child e f k pos small under =
     let under_child : (child - 1) / 4 ≡ hole = f.under in
     omega (arith, rank_elsewhere h hole k e (omega arith), rank_elsewhere h hole child e (omega (arith, f.some)), f.first k pos small under)

@@ -1,12 +1,12 @@
 -- The order of heaps, by the rank at each position.
 use Rattle.std.proofs.Common.{◌≡◌, ℕ, zero, suc, ◌<◌, ◌≤◌, inl, inr, sym, ap, ◌∙◌, arith, subst}
 use Rattle.std.proofs.lemmas.Bool.{cases_eq}
-use Rattle.sat_store.specs.heap.Heap.{parent, Ordered, UpFrom, DownFrom, Exchanges}
+use Rattle.sat_store.specs.heap.Heap.{parent, IsHeapOrdered, OrderedExceptAt, OrderedExceptBelow, SwapsRanks}
 
 -- one step up
 
 -- one iteration of sifting up: an entry that ranks above its parent was swapped with it
-pub up_step : (r s : ℕ → ℕ) (m hole : ℕ) → 0 < hole → hole < m → Exchanges r s hole (parent hole) → r (parent hole) < r hole → UpFrom r m hole → UpFrom s m (parent hole)
+pub up_step : (r s : ℕ → ℕ) (m hole : ℕ) → 0 < hole → hole < m → SwapsRanks r s hole (parent hole) → r (parent hole) < r hole → OrderedExceptAt r m hole → OrderedExceptAt s m (parent hole)
 up_step r s m hole some within ex above up =
     let p : ℕ = parent hole in
     let s_hole : s hole ≡ r (parent hole) = ex.first in
@@ -44,7 +44,7 @@ up_step r s m hole some within ex above up =
 -- one step down
 
 -- one iteration of sifting down: an entry was swapped with its highest child
-pub down_step : (r s : ℕ → ℕ) (m low hole big : ℕ) → parent big ≡ hole → 0 < big → big < m → Exchanges r s hole big → r hole < r big → ((k : ℕ) → 0 < k → k < m → parent k ≡ hole → r k ≤ r big) → low ≤ hole → DownFrom r m low hole → DownFrom s m low big
+pub down_step : (r s : ℕ → ℕ) (m low hole big : ℕ) → parent big ≡ hole → 0 < big → big < m → SwapsRanks r s hole big → r hole < r big → ((k : ℕ) → 0 < k → k < m → parent k ≡ hole → r k ≤ r big) → low ≤ hole → OrderedExceptBelow r m low hole → OrderedExceptBelow s m low big
 down_step r s m low hole big child some within ex below largest_child from down =
     let s_hole : s hole ≡ r big = ex.first in
     let s_big : s big ≡ r hole = ex.second in
@@ -79,7 +79,7 @@ down_step r s m low hole big child some within ex below largest_child from down 
 -- the entry at the hole is in order
 
 -- sifting up ends where the entry does not rank above its parent
-pub up_done : (r : ℕ → ℕ) (m hole : ℕ) → (0 < hole → r hole ≤ r (parent hole)) → UpFrom r m hole → Ordered r m 0
+pub up_done : (r : ℕ → ℕ) (m hole : ℕ) → (0 < hole → r hole ≤ r (parent hole)) → OrderedExceptAt r m hole → IsHeapOrdered r m 0
 up_done r m hole fits up k pos small low = elim (cases_eq k hole) [
   | inl same ↦ subst (λ (x : ℕ). r x ≤ r (parent x)) (sym same) (fits (omega arith))
   | inr differ ↦ up.others k pos small differ
@@ -87,7 +87,7 @@ up_done r m hole fits up k pos small low = elim (cases_eq k hole) [
 
 -- the first entry ranks highest
 
-top_within : (r : ℕ → ℕ) (m n k : ℕ) → k < n → k < m → Ordered r m 0 → r k ≤ r 0
+top_within : (r : ℕ → ℕ) (m n k : ℕ) → k < n → k < m → IsHeapOrdered r m 0 → r k ≤ r 0
 top_within r m zero k less small ordered = absurd (omega arith)
 top_within r m (suc n) zero less small ordered = omega arith
 top_within r m (suc n) (suc k) less small ordered =
@@ -95,5 +95,5 @@ top_within r m (suc n) (suc k) less small ordered =
     let rest : r (parent (suc k)) ≤ r 0 = top_within r m n (parent (suc k)) (omega arith) (omega arith) ordered in
     omega arith
 
-pub top_greatest : (r : ℕ → ℕ) (m k : ℕ) → k < m → Ordered r m 0 → r k ≤ r 0
+pub top_greatest : (r : ℕ → ℕ) (m k : ℕ) → k < m → IsHeapOrdered r m 0 → r k ≤ r 0
 top_greatest r m k small ordered = top_within r m (suc k) k (omega arith) small ordered

@@ -5,7 +5,7 @@ use Rattle.std.specs.Option.{ok_or}
 use Rattle.sat_base.specs.script.Script.{Literal}
 use Rattle.certify.specs.answers.Answers.{literals_text}
 use Rattle.certify.specs.answers.AnswerForms.{IsPrintable, named_literals}
-use Rattle.certify.specs.answers.AnswerReading.{IsHead, NoLine, NoLiterals, outcome_of, second_line}
+use Rattle.certify.specs.answers.AnswerReading.{IsSecondLineHead, WhyNoSecondLine, WhyNoLiterals, outcome_of, second_line}
 use Rattle.certify.specs.declared.answers.read.AnswerKind.{AnswerKind}
 use Rattle.certify.specs.declared.answers.read.AnswerFault.{AnswerFault}
 use Rattle.certify.specs.declared.answers.read.AnswerFault.TheVariants.{Text}
@@ -13,9 +13,9 @@ use Rattle.certify.proofs.lemmas.answers.LinesByKind.{line_read, no_head, no_lis
 use Rattle.certify.proofs.answers.read.read_list.Goals as goal
 
 -- what was found of the line's head
-without : (k : AnswerKind) (head bytes : List ℕ) (r : Option (Bor (List ℕ))) (fault : AnswerFault) → IsHead k head → bytes ≢ []
-    → MatchOption r ((tail : List ℕ) → bytes ≡ head ++ tail → ⊥) (λ x. bytes ≡ head ++ x.now) → ◌≡◌ {A = Result (Bor (List ℕ)) AnswerFault} (Err fault) (ok_or r Text) → NoLine k bytes fault
-without k head bytes None fault h some found e = let f : fault ≡ Text = cc in subst (NoLine k bytes) (sym f) (no_head k head bytes h some found)
+without : (k : AnswerKind) (head bytes : List ℕ) (r : Option (Bor (List ℕ))) (fault : AnswerFault) → IsSecondLineHead k head → bytes ≢ []
+    → MatchOption r ((tail : List ℕ) → bytes ≡ head ++ tail → ⊥) (λ x. bytes ≡ head ++ x.now) → ◌≡◌ {A = Result (Bor (List ℕ)) AnswerFault} (Err fault) (ok_or r Text) → WhyNoSecondLine k bytes fault
+without k head bytes None fault h some found e = let f : fault ≡ Text = cc in subst (WhyNoSecondLine k bytes) (sym f) (no_head k head bytes h some found)
 without k head bytes (Some x) fault h some found e = absurd cc
 
 within : (head bytes : List ℕ) (r : Option (Bor (List ℕ))) (following : Bor (List ℕ))
@@ -24,9 +24,9 @@ within head bytes None following found e = absurd cc
 within head bytes (Some x) following found e = let f : x ≡ following = cc in found ∙ ap (λ b. head ++ b.now) f
 
 -- what was read after it
-listed : (k : AnswerKind) (head bytes following : List ℕ) (ls : List Literal) (r : Result (Bor (List ℕ)) AnswerFault) → IsHead k head → bytes ≢ [] → bytes ≡ head ++ following
-    → MatchResult r (λ rest. IsPrintable (outcome_of k ls) × (following ≡ literals_text ls ++ rest.now)) (NoLiterals k following)
-    → MatchResult r (λ rest. IsPrintable (outcome_of k ls) × (bytes ≡ second_line (outcome_of k ls) ++ rest.now)) (NoLine k bytes)
+listed : (k : AnswerKind) (head bytes following : List ℕ) (ls : List Literal) (r : Result (Bor (List ℕ)) AnswerFault) → IsSecondLineHead k head → bytes ≢ [] → bytes ≡ head ++ following
+    → MatchResult r (λ rest. IsPrintable (outcome_of k ls) × (following ≡ literals_text ls ++ rest.now)) (WhyNoLiterals k following)
+    → MatchResult r (λ rest. IsPrintable (outcome_of k ls) × (bytes ≡ second_line (outcome_of k ls) ++ rest.now)) (WhyNoSecondLine k bytes)
 listed k head bytes following ls (Ok rest) h some e r = (r.0, line_read k head bytes following ls rest.now h e r.1)
 listed k head bytes following ls (Err fault) h some e r = no_list k head bytes following fault h some e r
 

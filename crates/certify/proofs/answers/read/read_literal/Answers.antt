@@ -1,6 +1,6 @@
 use Rattle.std.proofs.lemmas.Grind.{common_steps}
 use Rattle.std.proofs.Common.{ℕ, List, ◌-◌, ◌<◌, Bool, eqb, length, take, drop, get_or, refl, arith}
-use Rattle.certify.specs.answers.AnswerReading.{NoLiteral}
+use Rattle.certify.specs.answers.AnswerReading.{BeginsNoLiteral}
 use Rattle.certify.proofs.lemmas.answers.NamesAndWords.{SkipsSign, sign_skipped, no_literal_after, literal_begins}
 use Rattle.certify.proofs.answers.read.read_literal.Goals as goal
 use Rattle.certify.proofs.answers.read.read_literal.Goals.{After-from}
@@ -20,7 +20,7 @@ module _ (c : After-from) where
 pub returns-in_err-name : goal.returns-in_err-name
 returns-in_err-name c =
     let x = (goal.at.returns-in_err-name c).After-from in
-    let none : NoLiteral c.args.bytes.now = no_literal_after c.args.bytes.now (rest x) (negative x) (skipped x) c.in_err-name.ensures in
+    let none : BeginsNoLiteral c.args.bytes.now = no_literal_after c.args.bytes.now (rest x) (negative x) (skipped x) c.in_err-name.ensures in
     rw c.from_residual.ensures none
 
 pub returns : goal.returns

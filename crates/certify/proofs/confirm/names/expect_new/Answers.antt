@@ -1,7 +1,7 @@
 use Rattle.std.proofs.Common.{◌≡◌, ◌+◌, Ok, subst, ◌∙◌, arith}
 use Rattle.std.proofs.lemmas.Result.{err_from_is_err_and}
 use Rattle.sat_checker.specs.CheckerView.{kernel_of}
-use Rattle.certify.specs.confirm.Streams.{Confirms, stream_of}
+use Rattle.certify.specs.confirm.Streams.{CertificateCall, stream_of}
 use Rattle.certify.specs.confirm.Naming.{MeetsAll}
 use Rattle.certify.proofs.lemmas.confirm.Naming.{new_more, new_stop, news}
 use Rattle.certify.proofs.confirm.names.expect_new.Goals as goal
@@ -31,4 +31,4 @@ pub returns-clause-confirms : goal.returns-clause-confirms
 returns-clause-confirms g c =
     let S = g.R.CountedRead.seen in
     let all : c.loop-done.done ≡ c.args.new.count = omega arith in
-    subst (λ n. Confirms (Ok tt) (stream_of S c.args.steps.now (kernel_of c.args.certificate.now.checker)) (stream_of S c.loop-done.steps (kernel_of c.loop-done.certificate.checker)) (MeetsAll (news n (c.args.new.first + 1)) c.args.certificate.now.names c.loop-done.certificate.names)) all c.loop-done.invariant.met
+    subst (λ n. CertificateCall (Ok tt) (stream_of S c.args.steps.now (kernel_of c.args.certificate.now.checker)) (stream_of S c.loop-done.steps (kernel_of c.loop-done.certificate.checker)) (MeetsAll (news n (c.args.new.first + 1)) c.args.certificate.now.names c.loop-done.certificate.names)) all c.loop-done.invariant.met

@@ -20,7 +20,7 @@ pub returns-then-script-clause-stops : goal.returns-then-script-clause-stops
 returns-then-script-clause-stops g c =
     let old = c.args.script.now in
     let new = c.run_in_memory.new.script in
-    keeps_stop (g.R.CountedRead.seen old.reader) (g.R.CountedRead.seen new.reader) old.kept.items new.kept.items (refusal_count old.refusals) (refusal_count new.refusals) c.run_in_memory.ensures.stops
+    keeps_stop (g.R.CountedRead.seen old.reader) (g.R.CountedRead.seen new.reader) old.kept.items new.kept.items (refusal_count old.refusals) (refusal_count new.refusals) (old.none c.requires.enough) c.run_in_memory.ensures.stops
 
 pub returns-else-script-clause-reads : goal.returns-else-script-clause-reads
 returns-else-script-clause-reads g c =
@@ -32,7 +32,7 @@ pub returns-else-script-clause-stops : goal.returns-else-script-clause-stops
 returns-else-script-clause-stops g c =
     let old = c.args.script.now in
     let new = c.run_in_memory.new.script in
-    keeps_stop (g.R.CountedRead.seen old.reader) (g.R.CountedRead.seen new.reader) old.kept.items new.kept.items (refusal_count old.refusals) (refusal_count new.refusals) c.run_in_memory.ensures.stops
+    keeps_stop (g.R.CountedRead.seen old.reader) (g.R.CountedRead.seen new.reader) old.kept.items new.kept.items (refusal_count old.refusals) (refusal_count new.refusals) (old.none c.requires.enough) c.run_in_memory.ensures.stops
 
 pub returns-in-Err-clause-reads : goal.returns-in-Err-clause-reads
 returns-in-Err-clause-reads g c =
@@ -44,4 +44,4 @@ pub returns-in-Err-clause-stops : goal.returns-in-Err-clause-stops
 returns-in-Err-clause-stops g c =
     let old = c.args.script.now in
     let new = c.run_in_memory.new.script in
-    keeps_stop (g.R.CountedRead.seen old.reader) (g.R.CountedRead.seen new.reader) old.kept.items new.kept.items (refusal_count old.refusals) (refusal_count new.refusals) c.run_in_memory.ensures.stops
+    keeps_stop (g.R.CountedRead.seen old.reader) (g.R.CountedRead.seen new.reader) old.kept.items new.kept.items (refusal_count old.refusals) (refusal_count new.refusals) (old.none c.requires.enough) c.run_in_memory.ensures.stops

@@ -8,7 +8,7 @@ use Rattle.certify.specs.answers.AnswerForms.{named_literals}
 use Rattle.certify.proofs.lemmas.run.RunStateCalls.{answers_say, ask_cut, ask_writes, asked_of, fails_then, memory_fails, memory_says, nothing_stops, solver_says, takes_none}
 use Rattle.sat_solver.specs.facade.Calls.{HasFullStore, MakesSteps}
 use Rattle.sat_solver.proofs.lemmas.facade.Steps.{makes_more}
-use Rattle.certify.specs.run.SolverCalls.{LacksFor, RefusedForRoom}
+use Rattle.certify.specs.run.SolverCalls.{LacksVariablesFor, RefusedForRoom}
 use Rattle.certify.proofs.lemmas.run.CallFaults.{caused_map}
 use Rattle.certify.proofs.lemmas.run.Caused.{memory_caused}
 use Rattle.certify.proofs.lemmas.run.Needing.{none_needs}
@@ -91,7 +91,7 @@ returns-in_err-assume-clause-cause g c =
     let t = c.ask.new.solver in
     let user = c.args.literals.now in
     let effect = c.in_ok-report.ensures.effect in
-    rw (p.1, p.2) (caused_map c.in_err-assume.field-0.0 ⊥ (RefusedForRoom t c.assume.new.solver []) (HasFullStore c.assume.new.solver) (LacksFor s.solver c.assume.new.solver (Ask (named_literals user))) (λ x. absurd x)
+    rw (p.1, p.2) (caused_map c.in_err-assume.field-0.0 ⊥ (RefusedForRoom t c.assume.new.solver []) (HasFullStore c.assume.new.solver) (LacksVariablesFor s.solver c.assume.new.solver (Ask (named_literals user))) (λ x. absurd x)
     (none_needs s.solver effect.mid t c.assume.new.solver user s.budget c.in_ok-report.report effect.opened effect.searched) c.in_err-assume.ensures.cause)
 
 pub returns-in_err-push-clause-cause : goal.returns-in_err-push-clause-cause

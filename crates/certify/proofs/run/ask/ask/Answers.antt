@@ -4,7 +4,7 @@ use Rattle.sat_base.specs.script.Script.{Ask}
 use Rattle.sat_solver.specs.variables.VariableRoom.{user_vars_in}
 use Rattle.sat_solver.specs.facade.Calls.{HasFullStore}
 use Rattle.certify.specs.answers.AnswerForms.{named_literals}
-use Rattle.certify.specs.run.SolverCalls.{LacksFor, RefusedForRoom}
+use Rattle.certify.specs.run.SolverCalls.{LacksVariablesFor, RefusedForRoom}
 use Rattle.certify.proofs.lemmas.run.CallFaults.{caused_map}
 use Rattle.certify.proofs.lemmas.run.Needing.{ask_needs}
 use Rattle.certify.proofs.run.ask.ask.Goals as goal
@@ -37,4 +37,4 @@ returns-in_err-assume-clause-cause g c =
     let p = err_from_is_err_and c.from_residual.result c.from_residual.ensures.1 in
     let s = c.args.solver.now in
     let user = c.args.literals.now in
-    rw (p.1, p.2) (caused_map c.in_err-assume.field-0.0 ⊥ (RefusedForRoom s c.assume.new.solver (user_vars_in user)) (HasFullStore c.assume.new.solver) (LacksFor s c.assume.new.solver (Ask (named_literals user))) (λ x. absurd x) (ask_needs s c.assume.new.solver user) c.in_err-assume.ensures.cause)
+    rw (p.1, p.2) (caused_map c.in_err-assume.field-0.0 ⊥ (RefusedForRoom s c.assume.new.solver (user_vars_in user)) (HasFullStore c.assume.new.solver) (LacksVariablesFor s c.assume.new.solver (Ask (named_literals user))) (λ x. absurd x) (ask_needs s c.assume.new.solver user) c.in_err-assume.ensures.cause)

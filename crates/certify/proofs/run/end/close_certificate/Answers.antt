@@ -24,16 +24,16 @@ returns-in-Ok-Some-clause-closes g c =
 pub fault_of-requires : goal.fault_of-requires
 fault_of-requires g c = closing_fault c.in-Err.error c.args.solver c.close_proof.new.self c.requires.ready c.in-Err.ensures.closes
 
-pub give_back-requires : goal.give_back-requires
-give_back-requires g c = closing_has_target c.in-Err.error c.args.solver c.close_proof.new.self c.requires.target c.in-Err.ensures.text.breaks
+pub return_writer-requires : goal.return_writer-requires
+return_writer-requires g c = closing_has_target c.in-Err.error c.args.solver c.close_proof.new.self c.requires.target c.in-Err.ensures.text.breaks
 
 pub returns-in-Err-clause-closes : goal.returns-in-Err-clause-closes
 returns-in-Err-clause-closes g c =
     rw c.fault_of.ensures (
-      closing_fails c.in-Err.error c.args.solver c.close_proof.new.self (g.C.CountedWrite.seen c.give_back.result) c.in-Err.ensures.text.breaks c.give_back.ensures.may c.give_back.ensures.gives,
+      closing_fails c.in-Err.error c.args.solver c.close_proof.new.self (g.C.CountedWrite.seen c.return_writer.result) c.in-Err.ensures.text.breaks c.return_writer.ensures.may c.return_writer.ensures.gives,
       closing_caused c.in-Err.error c.args.solver c.close_proof.new.self c.requires.ready c.in-Err.ensures.closes c.in-Err.ensures.text.breaks c.in-Err.ensures.checker.0,
     )
 
 pub returns-in-Err-clause-front : goal.returns-in-Err-clause-front
 returns-in-Err-clause-front g c =
-    front_after c.args.solver c.close_proof.new.self (g.C.CountedWrite.seen c.give_back.result) c.in-Err.error c.in-Err.ensures.text c.give_back.ensures.front
+    front_after c.args.solver c.close_proof.new.self (g.C.CountedWrite.seen c.return_writer.result) c.in-Err.error c.in-Err.ensures.text c.return_writer.ensures.front

@@ -3,12 +3,12 @@ use Rattle.std.proofs.lemmas.Grind.{common_steps}
 use Rattle.std.proofs.Common.{ℕ, List, ◌≡◌, [], ◌∷◌, refl, subst}
 use Rattle.sat_base.specs.device.Device.{WriterFails}
 use Rattle.certify.specs.answers.Answers.{refused_line}
-use Rattle.certify.specs.judge.Names.{refusal_in}
+use Rattle.certify.specs.refusals.Names.{refusal_of_code}
 use Rattle.sat_base.specs.script.Language.{prepend_commands}
 use Rattle.std.proofs.lemmas.Result.{err_from_is_err_and}
 use Rattle.certify.proofs.lemmas.run.RunStateCalls.{err_map, memory_says, on_err, written_of}
 use Rattle.sat_solver.proofs.lemmas.facade.Steps.{makes_none}
-use Rattle.certify.specs.run.BetweenCommands.{last_place}
+use Rattle.certify.specs.run.BetweenCommands.{place_before_latest}
 use Rattle.certify.proofs.lemmas.run.Stopping.{stops_none, stops_refused}
 use Rattle.certify.proofs.run.refuse.refuse.Goals as goal
 
@@ -20,13 +20,13 @@ returns-clause-written g c =
     written_of c.write_answer.result (g.A.CountedWrite.seen c.args.answers.now) (g.A.CountedWrite.seen c.write_answer.new.answers) c.args.session.now.solver c.deref.result.now c.write_answer.ensures.takes c.write_answer.ensures.fails
 
 pub returns-in_err-push_refused-clause-stops : goal.returns-in_err-push_refused-clause-stops
-returns-in_err-push_refused-clause-stops g c j d left e = on_err _ _ (stops_none c.args.session.now.budget (last_place c.args.session.now j) c.args.session.now.solver.steps [] refl (prepend_commands (d ∷ []) left) (g.A.CountedWrite.seen c.args.answers.now))
+returns-in_err-push_refused-clause-stops g c j d left e = on_err _ _ (stops_none c.args.session.now.budget (place_before_latest c.args.session.now j) c.args.session.now.solver.steps [] refl (prepend_commands (d ∷ []) left) (g.A.CountedWrite.seen c.args.answers.now))
 
 pub returns-clause-stops : goal.returns-clause-stops
 returns-clause-stops g c j d left e =
     let s = c.args.session.now in
     let u = g.A.CountedWrite.seen c.args.answers.now in
     let v = g.A.CountedWrite.seen c.write_answer.new.answers in
-    let why = refusal_in c.args.refusal in
+    let why = refusal_of_code c.args.refusal in
     let line : c.deref.result.now ≡ refused_line s.commands why = grind (arith, common_steps) in
-    err_map c.write_answer.result (WriterFails u v c.deref.result.now) _ (λ b. stops_refused s.budget (last_place s j) s.solver.steps [] refl d why left u v e (subst (λ (text : List ℕ). WriterFails u v text) line b)) c.write_answer.ensures.breaks
+    err_map c.write_answer.result (WriterFails u v c.deref.result.now) _ (λ b. stops_refused s.budget (place_before_latest s j) s.solver.steps [] refl d why left u v e (subst (λ (text : List ℕ). WriterFails u v text) line b)) c.write_answer.ensures.breaks

@@ -2,7 +2,7 @@ use Rattle.std.proofs.lemmas.Grind.{common_steps}
 use Rattle.std.proofs.lemmas.Result.{err_from_is_err_and}
 use Rattle.std.proofs.Common.{ℕ, ◌+◌, ◌≡◌, arith, [], Err, refl, subst}
 use Rattle.certify.specs.script.Commands.{end_reading}
-use Rattle.certify.specs.run.BetweenCommands.{place_in}
+use Rattle.certify.specs.run.BetweenCommands.{run_place}
 use Rattle.certify.specs.run.Stopping.{StopsServing}
 use Rattle.sat_base.specs.script.Script.{Clean, Malformed}
 use Rattle.sat_solver.proofs.lemmas.facade.Steps.{makes_none}
@@ -28,7 +28,7 @@ pub returns-in_ok-report_malformed-in-Malformed-clause-serves : goal.returns-in_
 returns-in_ok-report_malformed-in-Malformed-clause-serves g c = grind (arith, common_steps, ends_malformed)
 
 pub returns-in_default-clause-stops : goal.returns-in_default-clause-stops
-returns-in_default-clause-stops g c = λ j at. stops_none c.args.session.now.budget (place_in c.args.session.now j) c.args.session.now.solver.steps [] refl (end_reading c.args.end) (g.A.CountedWrite.seen c.args.answers.now)
+returns-in_default-clause-stops g c = λ j at. stops_none c.args.session.now.budget (run_place c.args.session.now j) c.args.session.now.solver.steps [] refl (end_reading c.args.end) (g.A.CountedWrite.seen c.args.answers.now)
 
 pub returns-in_err-answer_ask-in-Asked-clause-stops : goal.returns-in_err-answer_ask-in-Asked-clause-stops
 returns-in_err-answer_ask-in-Asked-clause-stops g c =
@@ -47,4 +47,4 @@ returns-in_err-report_malformed-in-Malformed-clause-stops g c =
     let u = g.A.CountedWrite.seen c.args.answers.now in
     let v = g.A.CountedWrite.seen c.report_malformed.new.answers in
     let next : c.in-Some.number ≡ s.commands + 1 = grind (arith, common_steps) in
-    rw (p.1, c.in-Malformed.is) (λ j at. subst (λ (n : ℕ). StopsServing s.budget (record (place_in s j) { number = n }) ([], Malformed) c.report_malformed.new.session.solver.steps u v) next (c.in_err-report_malformed-in-Malformed.ensures.stops j))
+    rw (p.1, c.in-Malformed.is) (λ j at. subst (λ (n : ℕ). StopsServing s.budget (record (run_place s j) { number = n }) ([], Malformed) c.report_malformed.new.session.solver.steps u v) next (c.in_err-report_malformed-in-Malformed.ensures.stops j))

@@ -1,7 +1,7 @@
 use Rattle.std.proofs.Common.{◌∙◌, ap}
 use Rattle.sat_solver.specs.proof.ProofView.{is_drat}
 use Rattle.certify.proofs.run.session.solver_into.Goals as goal
-use Rattle.certify.specs.run.Quiet.{Solver}
+use Rattle.certify.specs.run.RunSolver.{Solver}
 
 pub returns-clause-ready : goal.returns-clause-ready
 returns-clause-ready g c =

@@ -2,11 +2,11 @@ use Rattle.std.proofs.Common.{◌≡◌, ◌+◌, ◌<◌, ℕ, zero, suc, List,
 use Rattle.std.proofs.lemmas.Result.{err_from_is_err_and}
 use Rattle.sat_base.specs.device.Device.{GavePrefix}
 use Rattle.sat_base.specs.text.Text.{HasEnded}
-use Rattle.sat_base.specs.dimacs.Parsing.{Progress, Parses, no_progress, with_fed, IsSoundSoFar, IsSoundText, EndsInLastPiece}
+use Rattle.sat_base.specs.dimacs.Parsing.{Progress, Parses, no_progress, with_fed, HasNoFaultSoFar, TextHasNoFault, EndsInLastPiece, LastReadGaveBytes}
 use Rattle.sat_base.proofs.lemmas.device.Given.{gave_none, gave_more, gave_still, not_ended, enough_front, few_front, calls_within, calls_upto, still_open}
 use Rattle.sat_base.proofs.lemmas.dimacs.Parsed.{ends_by, stands_of, piece_given, sound_none}
 use Rattle.sat_base.proofs.lemmas.dimacs.ParseAnswers.{finish_no_read, finish_no_stop, refused_no_read, refused_no_stop, read_is_no_stop}
-use Rattle.sat_base.proofs.lemmas.dimacs.ReadToEnd.{ReadToEnd, some_read, next_kept, next_within, read_to_end, none_has_ended, read_front, enough_read, refused_on, sound_end, sound_piece, stops_none, stops_after, short_piece, going_on}
+use Rattle.sat_base.proofs.lemmas.dimacs.ReadToEnd.{ReadToEnd, some_read, last_gave, last_at_end, next_kept, next_within, read_to_end, none_has_ended, read_front, enough_read, refused_on, sound_end, sound_piece, stops_none, stops_after, short_piece, going_on}
 use Rattle.sat_base.proofs.lemmas.device.WholeAnswers.{ok_is_no_err}
 use Rattle.sat_base.proofs.dimacs.DimacsParser.read_formula.Given.{Over}
 use Rattle.sat_base.proofs.dimacs.DimacsParser.read_formula.Goals as goal
@@ -15,8 +15,8 @@ use Rattle.sat_base.proofs.dimacs.DimacsParser.read_formula.Goals.{In-Ok, In-Ok-
 fed_of : (p : Progress) (text : List ℕ) → p ≡ with_fed text no_progress → p.fed ≡ text
 fed_of p text e = ap (λ (k : Progress). k.fed) e
 
-sound_of : (p : Progress) (text : List ℕ) → p ≡ with_fed text no_progress → IsSoundSoFar p → IsSoundText text
-sound_of p text e s = subst IsSoundText (ap (λ (k : Progress). k.fed) e) s
+sound_of : (p : Progress) (text : List ℕ) → p ≡ with_fed text no_progress → HasNoFaultSoFar p → TextHasNoFault text
+sound_of p text e s = subst TextHasNoFault (ap (λ (k : Progress). k.fed) e) s
 
 -- where the text has ended, it was read
 read_before : (p : Progress) (text : List ℕ) (n : ℕ) (T : Type 0) → p ≡ with_fed text no_progress → (n ≡ 0 → text ≡ []) → (0 < n → T) → HasEnded p.fed → T
@@ -33,6 +33,9 @@ module _ (g : Over) (c : In-Ok-eq0 g) where
   all_read : ReadToEnd (g.R.CountedRead.seen c.args.reader.now) (g.R.CountedRead.seen c.read_next.new.reader) c.loop.invariant.bytes.0 c.loop.invariant.bytes.0
   all_read = subst (ReadToEnd _ _ _) (fed_of c.loop.self _ c.loop.invariant.bytes.1) at_end
 
+  gave_before_end : HasEnded c.loop.invariant.bytes.0 → LastReadGaveBytes (g.R.CountedRead.seen c.args.reader.now) (g.R.CountedRead.seen c.read_next.new.reader)
+  gave_before_end = last_at_end c.in-Ok-eq0.field-0 c.read_next.new.room c.loop.self.fed c.loop.invariant.bytes.0 (g.R.CountedRead.seen c.args.reader.now) (g.R.CountedRead.seen c.loop.reader) (g.R.CountedRead.seen c.read_next.new.reader) c.in-Ok-eq0.ensures.reads (λ called. going_on c.loop.self _ c.loop.invariant.bytes.1 (c.in-Ok-eq0.ensures.goes_on called)) c.loop.invariant.gave
+
 -- a piece was read
 module _ (g : Over) (c : In-Ok g) where
   abbrev piece : List ℕ
@@ -47,16 +50,22 @@ module _ (g : Over) (c : In-Ok g) where
   once_more : (g.R.CountedRead.seen c.read_next.new.reader).calls ≡ (g.R.CountedRead.seen c.loop.reader).calls + 1
   once_more = (some_read c.in-Ok.count c.read_next.new.room c.loop.self.fed _ _ (search rules) c.in-Ok.ensures.reads).calls
 
+  gave : LastReadGaveBytes (g.R.CountedRead.seen c.args.reader.now) (g.R.CountedRead.seen c.read_next.new.reader)
+  gave = last_gave c.in-Ok.count c.read_next.new.room c.loop.self.fed (g.R.CountedRead.seen c.args.reader.now) (g.R.CountedRead.seen c.loop.reader) (g.R.CountedRead.seen c.read_next.new.reader) (search rules) c.in-Ok.ensures.reads
+
   stops : EndsInLastPiece (c.loop.invariant.bytes.0 ++ piece)
-  stops = stops_after _ piece (going_on c.loop.self _ c.loop.invariant.bytes.1 (c.in-Ok.ensures.goes_on (search rules))) (short_piece c.in-Ok.count c.read_next.new.room (search rules) (search rules))
+  stops = stops_after _ piece (going_on c.loop.self _ c.loop.invariant.bytes.1 (c.in-Ok.ensures.goes_on (omega (arith, once_more)))) (short_piece c.in-Ok.count c.read_next.new.room (search rules) (search rules))
 
 -- a read failed
 module _ (g : Over) (c : In-Err g) where
   still_read : GavePrefix (g.R.CountedRead.seen c.args.reader.now) (g.R.CountedRead.seen c.read_next.new.reader) c.loop.invariant.bytes.0
   still_read = gave_still _ _ (g.R.CountedRead.seen c.loop.reader) _ _ c.read_next.new.room c.loop.invariant.bytes.2 c.in-Err.ensures.reads
 
+  gave_before_fault : HasEnded c.loop.invariant.bytes.0 → LastReadGaveBytes (g.R.CountedRead.seen c.args.reader.now) (g.R.CountedRead.seen c.read_next.new.reader)
+  gave_before_fault ended = absurd (going_on c.loop.self _ c.loop.invariant.bytes.1 (c.in-Err.ensures.goes_on (omega (arith, c.in-Err.ensures.reads.calls))) ended)
+
 pub loop-init : goal.loop-init
-loop-init g c = record { bytes = ([], c.requires, gave_none _, omega arith, λ e. refl, stops_none); sound = subst IsSoundSoFar (sym c.requires) sound_none; open_yet = λ h. absurd (omega arith); failures = refl; calls = omega arith }
+loop-init g c = record { bytes = ([], c.requires, gave_none _, omega arith, λ e. refl, stops_none); sound = subst HasNoFaultSoFar (sym c.requires) sound_none; open_yet = λ h. absurd (omega arith); gave = λ h. absurd (omega arith); failures = refl; calls = omega arith }
 
 pub loop-preserved : goal.loop-preserved
 loop-preserved g c =
@@ -66,6 +75,7 @@ loop-preserved g c =
       bytes = (b.0 ++ piece g r, c.in_ok-feed_or_find_fault-in-Ok.ensures.fed.1 ∙ ap (λ (k : Progress). with_fed (piece g r) k) b.1, more_read g r, omega (arith, b.3, length-append b.0 (piece g r), piece_given c.in-Ok.count c.read_next.new.room (search rules) (search rules)), λ e. absurd (omega arith), stops g r);
       sound = c.in_ok-feed_or_find_fault-in-Ok.ensures.sound;
       open_yet = λ h. unended g r;
+      gave = gave g r;
       failures = next_kept c.in-Ok.count c.read_next.new.room c.loop.self.fed _ _ c.in-Ok.ensures.reads ∙ c.loop.invariant.failures;
       calls = omega (arith, once_more g r, c.loop.invariant.calls);
     }
@@ -220,16 +230,16 @@ returns-clause-reads g c = calls_upto _ _ c.loop.counter c.loop.invariant.calls 
 -- WHERE IT STOPPED
 
 pub returns-in-Ok-eq0-clause-stops : goal.returns-in-Ok-eq0-clause-stops
-returns-in-Ok-eq0-clause-stops g c = (_, read_front _ _ _ _ (at_end g (goal.at.returns-in-Ok-eq0-clause-stops g c).In-Ok-eq0), c.loop.invariant.bytes.5)
+returns-in-Ok-eq0-clause-stops g c = (_, read_front _ _ _ _ (at_end g (goal.at.returns-in-Ok-eq0-clause-stops g c).In-Ok-eq0), c.loop.invariant.bytes.5, gave_before_end g (goal.at.returns-in-Ok-eq0-clause-stops g c).In-Ok-eq0)
 
 pub returns-in_err-finish-in-Ok-eq0-clause-stops : goal.returns-in_err-finish-in-Ok-eq0-clause-stops
-returns-in_err-finish-in-Ok-eq0-clause-stops g c = (_, read_front _ _ _ _ (at_end g (goal.at.returns-in_err-finish-in-Ok-eq0-clause-stops g c).In-Ok-eq0), c.loop.invariant.bytes.5)
+returns-in_err-finish-in-Ok-eq0-clause-stops g c = (_, read_front _ _ _ _ (at_end g (goal.at.returns-in_err-finish-in-Ok-eq0-clause-stops g c).In-Ok-eq0), c.loop.invariant.bytes.5, gave_before_end g (goal.at.returns-in_err-finish-in-Ok-eq0-clause-stops g c).In-Ok-eq0)
 
 pub returns-in_err-feed_or_find_fault-in-Ok-clause-stops : goal.returns-in_err-feed_or_find_fault-in-Ok-clause-stops
-returns-in_err-feed_or_find_fault-in-Ok-clause-stops g c = let r = (goal.at.returns-in_err-feed_or_find_fault-in-Ok-clause-stops g c).In-Ok in (_, more_read g r, stops g r)
+returns-in_err-feed_or_find_fault-in-Ok-clause-stops g c = let r = (goal.at.returns-in_err-feed_or_find_fault-in-Ok-clause-stops g c).In-Ok in (_, more_read g r, stops g r, λ ended. gave g r)
 
 pub returns-in-Err-clause-stops : goal.returns-in-Err-clause-stops
-returns-in-Err-clause-stops g c = (c.loop.invariant.bytes.0, still_read g (goal.at.returns-in-Err-clause-stops g c).In-Err, c.loop.invariant.bytes.5)
+returns-in-Err-clause-stops g c = (c.loop.invariant.bytes.0, still_read g (goal.at.returns-in-Err-clause-stops g c).In-Err, c.loop.invariant.bytes.5, gave_before_fault g (goal.at.returns-in-Err-clause-stops g c).In-Err)
 
 pub returns-clause-stops : goal.returns-clause-stops
-returns-clause-stops g c = let b = c.loop.invariant.bytes in (b.0, b.2, b.5)
+returns-clause-stops g c = let b = c.loop.invariant.bytes in (b.0, b.2, b.5, λ ended. c.loop.invariant.gave)

@@ -1,6 +1,6 @@
 use Rattle.std.proofs.Common.{◌≡◌, ◌+◌, ℕ, [], ◌∷◌, ◌++◌, Err, inl, inr, refl, sym, ap, ◌∙◌, take, length-append, rules, of_calls, arith}
 use Rattle.std.specs.List.{concat}
-use Rattle.sat_base.specs.dimacs.Parsing.{Progress, Calls, FeedsAndVisits}
+use Rattle.sat_base.specs.dimacs.Parsing.{Progress, ClosureCalls, FeedsAndCallsClosure}
 use Rattle.sat_base.proofs.lemmas.device.Given.{gave_none, gave_more, gave_still, not_ended, still_open, enough_front, few_front, calls_after, calls_few, calls_few_yet, calls_upto, calls_within, least_calls, most_calls, no_less}
 use Rattle.sat_base.proofs.lemmas.dimacs.Parsed.{folds_more, keeps_next, front_joined, front_alone, stands_of, piece_given, piece_more, fed_and_kept}
 use Rattle.sat_base.proofs.lemmas.dimacs.Parts.{refusal_is, last_at_end, parsed_at_end, no_read_at_end, last_at_piece, parsed_at_piece, no_read_at_piece, seen_piece}
@@ -9,7 +9,7 @@ use Rattle.std.proofs.lemmas.Result.{err_from_is_err_and}
 use Rattle.sat_base.proofs.dimacs.DimacsParser.read_parts.Given as given
 use Rattle.sat_base.proofs.dimacs.DimacsParser.read_parts.Goals as goal
 
-abbrev calls_of : (g : given.Over) → Calls g.row.F.Denot g.row.E.Denot
+abbrev calls_of : (g : given.Over) → ClosureCalls g.row.F.Denot g.row.E.Denot
 calls_of g = λ f p r q h. goal.F-step g f p r q h
 
 pub loop-init : goal.loop-init
@@ -36,7 +36,7 @@ loop-preserved g c =
       always = let may = c.loop.invariant.always in search of_calls;
       visited = (
         v.0 ++ (piece ∷ []),
-        folds_more (FeedsAndVisits (calls_of g)) _ _ _ v.0 piece v.1 (some, c.feed-answer.new.self, went.0, went.1, went.2),
+        folds_more (FeedsAndCallsClosure (calls_of g)) _ _ _ v.0 piece v.1 (some, c.feed-answer.new.self, went.0, went.1, went.2),
         front_joined (S c.args.reader.now) (S c.read_next.new.reader) v.0 piece (gave_more (S c.args.reader.now) (S c.loop.reader) (S c.read_next.new.reader) (concat v.0) c.in-Ok.count c.read_next.new.room v.2 once),
         (λ k. let n = keeps_next (calls_of g) _ _ _ _ _ (v.3 k).0 c.closure-in-Ok.ensures in (n.0, fed_and_kept v.0 piece c.loop.self c.feed-answer.new.self c.closure-in-Ok.new.arg2 (v.3 k).1 went.0.1 n.1)),
         (length-append v.0 (piece ∷ []) ∙ ap (λ (n : ℕ). n + 1) v.4),

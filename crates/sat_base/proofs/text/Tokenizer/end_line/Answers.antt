@@ -11,7 +11,7 @@ pub returns-in-Over-clause-ended : goal.returns-in-Over-clause-ended
 returns-in-Over-clause-ended c = none_over c.args.self.now c.in-Over.is
 
 pub returns : goal.returns
-returns c = rw c.may_come.ensures (record {
+returns c = rw c.allows_header.ensures (record {
   takes = takes_LF c.args.self.now c.token_in-token.result c.saturating_add-self.result c.in_default.not-Over c.token_in-token.ensures c.saturating_add-self.ensures;
   ended = none_fresh _ _ refl;
   right = right_ahead _ (λ e. cc) (λ e. cc);

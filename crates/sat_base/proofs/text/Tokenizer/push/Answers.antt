@@ -7,7 +7,7 @@ use Rattle.sat_base.proofs.text.Tokenizer.push.Goals as goal
 
 pub returns-then-is_digit-clause-takes : goal.returns-then-is_digit-clause-takes
 returns-then-is_digit-clause-takes c =
-    takes_byte c.args.self.now c.args.byte c.number_goes_on-self.result (rw c.in-Digits.is c.number_goes_on-self.ensures)
+    takes_byte c.args.self.now c.args.byte c.number_continues-self.result (rw c.in-Digits.is c.number_continues-self.ensures)
 
 pub returns-then-not-is_blank-clause-takes : goal.returns-then-not-is_blank-clause-takes
 returns-then-not-is_blank-clause-takes c = takes_byte c.args.self.now c.args.byte c.next-self.result c.next-self.ensures

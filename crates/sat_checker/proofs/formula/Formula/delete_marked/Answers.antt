@@ -2,7 +2,7 @@ use Rattle.std.proofs.Common.{◌<◌, ◌∙◌, true, sym, ap, subst}
 use Rattle.sat_checker.specs.LiteralSets.{canonical}
 use Rattle.sat_checker.specs.Storing.{clause_with, redundant_count}
 use Rattle.sat_checker.specs.inner.FormulaView.{AreNumbered}
-use Rattle.sat_checker.specs.inner.StoreView.{RepresentsClauses, with_less}
+use Rattle.sat_checker.specs.inner.StoreView.{RepresentsClauses, with_count_removed}
 use Rattle.sat_checker.proofs.lemmas.state.Checks.{kept_beside}
 use Rattle.sat_checker.proofs.lemmas.state.Rooms.{stored_without}
 use Rattle.sat_checker.proofs.lemmas.state.Units.{match_on}
@@ -20,7 +20,7 @@ returns-clause-decides c = λ f k.
     match_on c.delete_assumed.result _ _ _ _ (λ p. (
       subst (λ ls. 0 < redundant_count (clause_with ls f.clauses)) set p.0,
       record {
-        clauses = subst (λ ls. RepresentsClauses c.delete_assumed.new.self (with_less true ls f)) set p.1;
+        clauses = subst (λ ls. RepresentsClauses c.delete_assumed.new.self (with_count_removed true ls f)) set p.1;
         units = kept.units;
         status = kept.status;
         numbered = subst (λ is. AreNumbered is f.units c.mark_distinct.new.self.status.last f.next_id) (sym c.delete_assumed.ensures.ids) kept.numbered;

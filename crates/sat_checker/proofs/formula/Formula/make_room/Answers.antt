@@ -4,7 +4,7 @@ use Rattle.std.specs.List.{list_any}
 use Rattle.sat_base.specs.values.Literals.{negated}
 use Rattle.sat_checker.specs.LiteralSets.{is_among}
 use Rattle.sat_checker.specs.inner.AssumedRoom.{HasClauseRoom}
-use Rattle.sat_checker.specs.inner.SlotView.{live}
+use Rattle.sat_checker.specs.inner.SlotView.{live_clauses}
 use Rattle.sat_checker.specs.declared.store.Store.{Store}
 use Rattle.sat_checker.proofs.lemmas.sets.Rooms.{stays_further}
 use Rattle.sat_checker.proofs.lemmas.state.Rooms.{stored_literal}
@@ -15,7 +15,7 @@ loop-lit-preserved-then-have_literal c =
     let x = c.lit-item.result in
     let i : ℕ = c.loop-lit.lit-index in
     let split = drop_more c.args.literals.now i x c.loop-lit-test.true ∙ ap (λ y. y ∷ drop (i + 1) c.args.literals.now) (sym c.lit-item.is) in
-    let among = ap (λ (s : Store). list_any (λ d. is_among d.literals c.lit-item.result) (live s.clauses)) (sym c.loop-lit.invariant.rest.store) ∙ c.have_literal.ensures c.if-have_literal.true in
+    let among = ap (λ (s : Store). list_any (λ d. is_among d.literals c.lit-item.result) (live_clauses s.clauses)) (sym c.loop-lit.invariant.rest.store) ∙ c.have_literal.ensures c.if-have_literal.true in
     record {
       units = λ f k room stays h.
           let there = stored_literal c.args.self.now.units.room x f.clauses k.room (ap (list_any (λ d. is_among d.literals c.lit-item.result)) (sym k.clauses.clauses) ∙ among) in

@@ -2,8 +2,8 @@ use Rattle.std.proofs.Common.{refl}
 use Rattle.sat_checker.proofs.lemmas.listeners.Settling.{is_none_none}
 use Rattle.sat_checker.proofs.kernel.Kernel.process_unit_conflicts.Goals as goal
 
-pub returns-then-is_none-clause-judges : goal.returns-then-is_none-clause-judges
-returns-then-is_none-clause-judges g c = λ steps s. (c.requires, refl, s, c.requires, is_none_none c.args.self.now.state.formula.status.conflict c.if-is_none.ensures)
+pub returns-then-is_none-clause-correct : goal.returns-then-is_none-clause-correct
+returns-then-is_none-clause-correct g c = λ steps s. (c.requires, refl, s, c.requires, is_none_none c.args.self.now.state.formula.status.conflict c.if-is_none.ensures)
 
 pub returns-then-is_none-clause-goes_on : goal.returns-then-is_none-clause-goes_on
 returns-then-is_none-clause-goes_on g c = (c.requires, is_none_none c.args.self.now.state.formula.status.conflict c.if-is_none.ensures)
@@ -14,8 +14,8 @@ returns-then-is_none-clause-looks g c = refl
 pub returns-then-is_none-clause-notifies : goal.returns-then-is_none-clause-notifies
 returns-then-is_none-clause-notifies g c = λ before begun steps s. (c.requires, refl, s, c.requires, is_none_none c.args.self.now.state.formula.status.conflict c.if-is_none.ensures)
 
-pub returns-clause-judges : goal.returns-clause-judges
-returns-clause-judges g c = c.settle_conflict.ensures.judges
+pub returns-clause-correct : goal.returns-clause-correct
+returns-clause-correct g c = c.settle_conflict.ensures.correct
 
 pub returns-clause-goes_on : goal.returns-clause-goes_on
 returns-clause-goes_on g c = c.settle_conflict.ensures.goes_on

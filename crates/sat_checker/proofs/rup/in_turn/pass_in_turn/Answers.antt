@@ -1,6 +1,6 @@
 use Rattle.std.proofs.Common.{◌+◌, ◌-◌, ◌≡◌, ◌∙◌, refl, sym, ap, subst, arith, get_or}
 use Rattle.std.proofs.lemmas.Bool.{true≢false, both_ways}
-use Rattle.sat_checker.specs.Looks.{literal_count}
+use Rattle.sat_checker.specs.Looks.{stored_literal_count}
 use Rattle.sat_checker.specs.inner.AssumedRoom.{LiteralsAndRoom, HasStoredRoom}
 use Rattle.sat_checker.proofs.lemmas.propagation.Walking.{Extends-further}
 use Rattle.sat_checker.proofs.lemmas.state.InTurn.{assumed_more, after_judged, after_passing, following_refused, passing_all, looks_then}
@@ -52,7 +52,7 @@ loop-place-preserved c = record {
       let room = ap (λ (t : LiteralsAndRoom). t.room) c.assume.ensures ∙ c.loop-place.invariant.same f k h in
       ap (λ (t : LiteralsAndRoom). t.room) (c.passes.ensures.same f k (subst (λ r. HasStoredRoom r f.clauses) (sym room) h)) ∙ room;
   extends = Extends-further c.args.assigned.now c.assume.new.assigned c.passes.new.assigned (assumed_more c.args.assigned.now c.loop-place.assigned c.assume.new.assigned _ c.loop-place.invariant.extends c.assume.ensures) c.passes.ensures.extends;
-  looks = λ f k. looks_then c.args.looks.now c.loop-place.looks c.passes.new.looks c.loop-place.place (literal_count f) c.loop-place.invariant.some (c.loop-place.invariant.looks f k) (c.passes.ensures.looks.most f k);
+  looks = λ f k. looks_then c.args.looks.now c.loop-place.looks c.passes.new.looks c.loop-place.place (stored_literal_count f) c.loop-place.invariant.some (c.loop-place.invariant.looks f k) (c.passes.ensures.looks.most f k);
   rise = omega (arith, c.loop-place.invariant.rise, c.passes.ensures.looks.rise);
 }
 

@@ -1,8 +1,8 @@
 use Rattle.std.proofs.Common.{ℕ, ◌≡◌, ◌+◌, ◌-◌, ◌*◌, ◌≤◌, length}
 use Rattle.sat_checker.specs.LiteralSets.{is_among}
-use Rattle.sat_checker.specs.Looks.{literal_count}
+use Rattle.sat_checker.specs.Looks.{stored_literal_count}
 use Rattle.sat_checker.specs.Stored.{Stored, is_unit}
-use Rattle.sat_checker.specs.inner.Look.{AssumesMore}
+use Rattle.sat_checker.specs.inner.WalkResults.{AssumesMore}
 use Rattle.sat_checker.specs.inner.AssumedRoom.{HasStoredRoom}
 use Rattle.sat_checker.specs.inner.StoreView.{RepresentsClauses}
 use Rattle.sat_checker.proofs.lemmas.state.InTurn.{Passing}
@@ -17,6 +17,6 @@ invariant-loop-place l = record {
       → Passing l.store l.fn.assigned.room f l.units (l.place - 1) l.assigned;
   same : (f : Stored) → RepresentsClauses l.store f → HasStoredRoom l.fn.assigned.room f.clauses → l.assigned.room ≡ l.fn.assigned.room;
   extends : AssumesMore l.fn.assigned l.assigned;
-  looks : (f : Stored) → RepresentsClauses l.store f → l.looks ≤ l.fn.looks + (l.place - 1) * literal_count f;
+  looks : (f : Stored) → RepresentsClauses l.store f → l.looks ≤ l.fn.looks + (l.place - 1) * stored_literal_count f;
   rise : l.fn.looks ≤ l.looks;
 }

@@ -2,7 +2,7 @@ use Rattle.std.proofs.Common.{◌+◌, ◌*◌, ◌≤◌, ◌≡◌, false, ref
 use Rattle.sat_base.specs.steps.Steps.{DeleteClause}
 use Rattle.sat_base.specs.steps.StepViews.{deletion_of}
 use Rattle.sat_checker.specs.Accepts.{effect}
-use Rattle.sat_checker.specs.Looks.{literal_count}
+use Rattle.sat_checker.specs.Looks.{stored_literal_count}
 use Rattle.sat_checker.specs.Stored.{Stored}
 use Rattle.sat_checker.specs.inner.StateView.{RepresentsStored}
 use Rattle.sat_checker.proofs.lemmas.state.Deleted.{count_deleted, one_pass}
@@ -16,11 +16,11 @@ module _ (c : After-delete) (failed : c.delete_given.result ≡ false) where
   risen : c.args.looks.now ≤ c.delete.new.looks
   risen = omega (arith, c.rehash_if_needed.ensures.looks.rise, c.delete_given.ensures.looks.rise, c.deletion-deletion.ensures.looks.rise, c.delete.ensures.looks.rise)
 
-  passes : (f : Stored) → RepresentsStored c.args.self.now f → c.delete.new.looks ≤ c.args.looks.now + 4 * literal_count f
+  passes : (f : Stored) → RepresentsStored c.args.self.now f → c.delete.new.looks ≤ c.args.looks.now + 4 * stored_literal_count f
   passes f k =
       let mid = c.rehash_if_needed.ensures.kept f k.formula in
       let kept = match_false _ _ _ (c.delete_given.ensures.decides f mid) failed in
-      let one = one_pass c.args.notes.now.hears c.rehash_if_needed.new.looks c.delete_given.new.looks c.deletion-deletion.new.looks (literal_count f) (λ h. c.delete_given.ensures.quiet (c.has_listener.ensures ∙ h)) (c.delete_given.ensures.looks.most f mid) c.deletion-deletion.ensures.quiet (c.deletion-deletion.ensures.looks.most f kept) in
+      let one = one_pass c.args.notes.now.listening c.rehash_if_needed.new.looks c.delete_given.new.looks c.deletion-deletion.new.looks (stored_literal_count f) (λ h. c.delete_given.ensures.quiet (c.has_listener.ensures ∙ h)) (c.delete_given.ensures.looks.most f mid) c.deletion-deletion.ensures.quiet (c.deletion-deletion.ensures.looks.most f kept) in
       omega (arith, one, c.rehash_if_needed.ensures.looks.most f k.formula, c.delete.ensures.looks.most f kept)
 
 pub returns-then-delete_given-clause-decides : goal.returns-then-delete_given-clause-decides

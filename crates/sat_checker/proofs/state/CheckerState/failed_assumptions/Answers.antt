@@ -1,7 +1,7 @@
 use Rattle.std.proofs.Common.{sym, subst, ◌∙◌, arith}
 use Rattle.std.proofs.lemmas.Bool.{true≢false}
 use Rattle.std.proofs.lemmas.Result.{err_from_is_err_and}
-use Rattle.sat_checker.specs.inner.FormulaView.{Explained}
+use Rattle.sat_checker.specs.inner.FormulaView.{NotesExplainCheck}
 use Rattle.sat_checker.proofs.lemmas.state.Refiled.{loosened}
 use Rattle.sat_checker.proofs.lemmas.state.Checks.{checks_as, kept_beside}
 use Rattle.sat_checker.proofs.lemmas.state.Keeping.{within_assumed}
@@ -10,7 +10,7 @@ use Rattle.sat_checker.proofs.state.CheckerState.failed_assumptions.Goals as goa
 
 pub note_core-requires-clause-explained : goal.note_core-requires-clause-explained
 note_core-requires-clause-explained c = λ whole.
-    (c.args.hashes.now, subst (λ ls. Explained c.check.new.self ls c.args.hashes.now) (sym (c.deref.ensures.value ∙ c.in_ok-copy_negated.ensures)) (c.in_ok-check.ensures.explained c.if-not-branch.false whole))
+    (c.args.hashes.now, subst (λ ls. NotesExplainCheck c.check.new.self ls c.args.hashes.now) (sym (c.deref.ensures.value ∙ c.in_ok-copy_negated.ensures)) (c.in_ok-check.ensures.explained c.if-not-branch.false whole))
 
 pub returns-then-not-has_all-clause-decides : goal.returns-then-not-has_all-clause-decides
 returns-then-not-has_all-clause-decides c = grind (arith, common_steps, true≢false, within_assumed)
@@ -34,4 +34,4 @@ returns-in_err-note_core-clause-decides c = let p = err_from_is_err_and c.from_r
 
 pub returns-clause-noted : goal.returns-clause-noted
 returns-clause-noted c = λ t f k long. c.in_ok-note_core.ensures.noted f c.args.hashes.now (kept_beside c.rehash_if_needed.new.self c.check.new.self f c.check.ensures.rest (c.rehash_if_needed.ensures.kept f k.formula))
-    (λ whole. subst (λ ls. Explained c.check.new.self ls c.args.hashes.now) (sym (c.deref.ensures.value ∙ c.in_ok-copy_negated.ensures)) (c.in_ok-check.ensures.explained c.if-not-branch.false whole))
+    (λ whole. subst (λ ls. NotesExplainCheck c.check.new.self ls c.args.hashes.now) (sym (c.deref.ensures.value ∙ c.in_ok-copy_negated.ensures)) (c.in_ok-check.ensures.explained c.if-not-branch.false whole))

@@ -1,7 +1,7 @@
 use Rattle.std.proofs.Common.{◌≡◌, true, sym, ap, subst, ◌∙◌, arith}
 use Rattle.sat_checker.specs.LiteralSets.{canonical, same_literals}
-use Rattle.sat_checker.specs.Looks.{literal_count}
-use Rattle.sat_checker.specs.inner.Looking.{LooksOver}
+use Rattle.sat_checker.specs.Looks.{stored_literal_count}
+use Rattle.sat_checker.specs.inner.LookCounts.{LooksOver}
 use Rattle.sat_checker.specs.inner.Marks.{IsIncreasing}
 use Rattle.sat_checker.specs.inner.SlotView.{slot_ids, literals_at}
 use Rattle.sat_checker.specs.inner.StoreView.{RepresentsClauses}
@@ -14,7 +14,7 @@ use Rattle.sat_checker.proofs.store.Store.delete_assumed.Goals.{After-literals, 
 
 -- one clause was looked at
 module _ (c : After-literals) where
-  looked : LooksOver (RepresentsClauses c.args.self.now) literal_count c.args.looks.now c.literals.new.looks
+  looked : LooksOver (RepresentsClauses c.args.self.now) stored_literal_count c.args.looks.now c.literals.new.looks
   looked = record {
     rise = omega (arith, c.literals.ensures.looks);
     most = looks_one c.args.self.now c.clause_hash-hash.result c.args.looks.now c.literals.new.looks (omega (arith, c.literals.ensures.looks, first_length c.args.self.now.clauses c.clause_hash-hash.result c.in-Some.place c.in-Some.ensures));

@@ -1,7 +1,7 @@
 use Rattle.std.proofs.lemmas.Grind.{common_steps}
 use Rattle.std.proofs.Common.{false, sym, ◌∙◌, arith}
-use Rattle.sat_checker.specs.Looks.{literal_count}
-use Rattle.sat_checker.specs.inner.Looking.{LooksOver}
+use Rattle.sat_checker.specs.Looks.{stored_literal_count}
+use Rattle.sat_checker.specs.inner.LookCounts.{LooksOver}
 use Rattle.sat_checker.specs.inner.StoreView.{RepresentsClauses}
 use Rattle.sat_checker.proofs.lemmas.store.Storing.{IsThere, is_there, inside_more, looks_one, count_there, count_none, stored_again, stored_new}
 use Rattle.sat_checker.proofs.lemmas.store.Ids.{placed_again}
@@ -9,7 +9,7 @@ use Rattle.sat_checker.proofs.store.Store.store_clause.Goals as goal
 use Rattle.sat_checker.proofs.store.Store.store_clause.Goals.{After-find, In-Some}
 
 module _ (c : After-find) where
-  looked : LooksOver (RepresentsClauses c.args.self.now) literal_count c.args.looks.now c.find.new.looks
+  looked : LooksOver (RepresentsClauses c.args.self.now) stored_literal_count c.args.looks.now c.find.new.looks
   looked = record { rise = c.find.ensures.looks.rise; most = looks_one c.args.self.now c.clause_hash-hash.result c.args.looks.now c.find.new.looks c.find.ensures.looks.most }
 
 module _ (c : In-Some) where

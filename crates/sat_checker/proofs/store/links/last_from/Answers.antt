@@ -1,5 +1,5 @@
 use Rattle.std.proofs.Common.{refl, sym, ◌∙◌, ap}
-use Rattle.sat_checker.specs.inner.LinkView.{link_at, last_or}
+use Rattle.sat_checker.specs.inner.LinkView.{link_at, last_place_or}
 use Rattle.sat_checker.proofs.lemmas.pairs.Walks.{walk_next, walk_shorter, walk_ended, last_on}
 use Rattle.sat_checker.proofs.store.links.last_from.Goals as goal
 
@@ -13,4 +13,4 @@ loop-at-preserved c = record {
 }
 
 pub returns : goal.returns
-returns c = sym (c.loop-at.invariant.same ∙ ap (last_or c.loop-at.last) (walk_ended c.args.links.now c.loop-at.at c.loop-at-test.false))
+returns c = sym (c.loop-at.invariant.same ∙ ap (last_place_or c.loop-at.last) (walk_ended c.args.links.now c.loop-at.at c.loop-at-test.false))

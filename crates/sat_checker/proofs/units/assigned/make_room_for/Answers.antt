@@ -2,7 +2,7 @@ use Rattle.std.proofs.Common.{◌+◌, ◌≡◌, ◌∙◌, true, ◌∷◌, dr
 use Rattle.std.proofs.lemmas.List.{drop_more, drop_all}
 use Rattle.sat_base.specs.values.Literals.{negated}
 use Rattle.sat_checker.specs.LiteralSets.{is_among}
-use Rattle.sat_checker.specs.inner.AssumedRoom.{LiteralsAndRoom, HasClauseRoom, RoomStays}
+use Rattle.sat_checker.specs.inner.AssumedRoom.{LiteralsAndRoom, HasClauseRoom, RoomIsKept}
 use Rattle.sat_checker.proofs.lemmas.sets.Rooms.{room_stays, room_there, stays_further}
 use Rattle.sat_checker.proofs.units.assigned.make_room_for.Goals as goal
 
@@ -13,7 +13,7 @@ loop-lit-preserved c =
     let old = c.loop-lit.assigned in
     let new = c.make_room.new.self in
     let all = ap (λ (t : LiteralsAndRoom). t.room) c.in_ok-make_room.ensures.ok in
-    let more : RoomStays old.room new.room = subst (RoomStays old.room) (sym all) (room_stays x old.room) in
+    let more : RoomIsKept old.room new.room = subst (RoomIsKept old.room) (sym all) (room_stays x old.room) in
     let there : is_among new.room x ≡ true = subst (λ r. is_among r x ≡ true) (sym all) (room_there x old.room) in
     record {
       room = λ room stays h.

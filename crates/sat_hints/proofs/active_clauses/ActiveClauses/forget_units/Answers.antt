@@ -6,5 +6,5 @@ use Rattle.sat_hints.proofs.active_clauses.ActiveClauses.forget_units.Goals as g
 
 pub returns : goal.returns
 returns c = on_ok_weaker c.set.result (λ made.
-    forgets c.args.self.now _ c.args.var c.args.bound c.requires.standing c.requires.above c.requires.since refl c.in_ok-begin.ensures.counting c.in_ok-begin.ensures.counted
-    (value_set (λ (n : ℕ). n) c.args.self.now.since c.set.new.self 0 0 c.args.bound c.index.result c.args.var refl c.index.ensures.value made)) c.set.ensures.ok
+    forgets c.args.self.now _ c.args.var c.args.bound c.requires.active c.requires.above c.requires.unit_bounds refl c.in_ok-begin.ensures.counting c.in_ok-begin.ensures.counted
+    (value_set (λ (n : ℕ). n) c.args.self.now.unit_bounds c.set.new.self 0 0 c.args.bound c.index.result c.args.var refl c.index.ensures.value made)) c.set.ensures.ok

@@ -1,6 +1,6 @@
 use Rattle.std.proofs.Common.{Some, None, Ok, [], arith}
 use Rattle.std.proofs.lemmas.Result.{err_from_is_err_and}
-use Rattle.sat_hints.specs.inner.Holding.{ChecksNext}
+use Rattle.sat_hints.specs.inner.Holding.{ChecksNextChunk}
 use Rattle.sat_hints.proofs.lemmas.Chunks.{still_read, reads_none_yet, goes_on, verdict_enough, err_enough, err_stops, limit_enough, limit_stops}
 use Rattle.sat_hints.proofs.checking.Checking.check_text.Goals as goal
 
@@ -19,7 +19,7 @@ pub loop-preserved : goal.loop-preserved
 loop-preserved g c =
     let S = g.R.CountedRead.seen in
     let i = c.loop.invariant in
-    let t : ChecksNext (Ok None) (S c.loop.text) (S c.check_next.new.text) c.loop.self c.check_next.new.self = rw c.in-None.is at c.in_ok-verdict.ensures.checks in
+    let t : ChecksNextChunk (Ok None) (S c.loop.text) (S c.check_next.new.text) c.loop.self c.check_next.new.self = rw c.in-None.is at c.in_ok-verdict.ensures.checks in
     let k = goes_on (S c.args.text.now) (S c.loop.text) (S c.check_next.new.text) c.loop.self c.loop.counter i.reads c.check_next.ensures.calls c.check_next.new.self t in
     record { ready = k.ready; room = k.room; least = omega arith; most = omega arith; reads = k.reads }
 
@@ -38,7 +38,7 @@ returns-in_err-verdict-clause-stops g c =
 pub returns-in-Some-clause-given : goal.returns-in-Some-clause-given
 returns-in-Some-clause-given g c =
     let S = g.R.CountedRead.seen in
-    let t : ChecksNext (Ok (Some c.in-Some.verdict)) (S c.loop.text) (S c.check_next.new.text) c.loop.self c.check_next.new.self = rw c.in-Some.is at c.in_ok-verdict.ensures.checks in
+    let t : ChecksNextChunk (Ok (Some c.in-Some.verdict)) (S c.loop.text) (S c.check_next.new.text) c.loop.self c.check_next.new.self = rw c.in-Some.is at c.in_ok-verdict.ensures.checks in
     verdict_enough (S c.args.text.now) (S c.loop.text) (S c.check_next.new.text) c.loop.self c.loop.counter c.loop.invariant.reads c.check_next.ensures.calls c.in-Some.verdict t
 
 pub returns-clause-given : goal.returns-clause-given

@@ -1,5 +1,5 @@
 use Rattle.std.proofs.Common.{◌<◌, ◌≤◌, ℕ}
-use Rattle.sat_base.specs.device.Device.{piece_size}
+use Rattle.sat_base.specs.device.Device.{max_read_size}
 use Rattle.sat_hints.specs.inner.LineChecking.{IsReadyChecker}
 use Rattle.sat_hints.specs.inner.Holding.{HasRoomFor}
 use Rattle.sat_hints.proofs.lemmas.Chunks.{ReadsSoFar}
@@ -10,6 +10,6 @@ invariant-loop g l = record {
   ready : IsReadyChecker l.self.checker;
   room : HasRoomFor l.self l.most;
   least : 0 < l.most;
-  most : l.most ≤ piece_size;
+  most : l.most ≤ max_read_size;
   reads : ReadsSoFar (g.R.CountedRead.seen l.fn.text) (g.R.CountedRead.seen l.text) l.self l.counter;
 }

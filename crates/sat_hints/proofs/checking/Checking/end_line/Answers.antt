@@ -12,4 +12,4 @@ returns-clause-reads c =
 pub returns-in_err-why-clause-stops : goal.returns-in_err-why-clause-stops
 returns-in_err-why-clause-stops c =
     let e : c.extend_from_slice.new.self.items ≡ c.args.self.now.held.items ++ c.args.bytes.now = search rules in
-    on_err c.from_residual-in_err-why.result _ (line_stops c.args.self.now c.args.bytes.now c.deref.result.now c.requires.ends (c.deref.ensures.value ∙ e) c.in_err-why.ensures.judged)
+    on_err c.from_residual-in_err-why.result _ (line_stops c.args.self.now c.args.bytes.now c.deref.result.now c.requires.ends (c.deref.ensures.value ∙ e) c.in_err-why.ensures.on_error)

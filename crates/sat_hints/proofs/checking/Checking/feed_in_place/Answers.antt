@@ -2,7 +2,7 @@ use Rattle.std.proofs.Common.{◌++◌, None, Some, length, refl, sym, subst}
 use Rattle.sat_checker.proofs.lemmas.store.Entries.{on_err}
 use Rattle.sat_hints.specs.Lines.{line_text}
 use Rattle.sat_hints.specs.declared.checking.Checking.{Checking}
-use Rattle.sat_hints.specs.inner.LineChecking.{TakesNext}
+use Rattle.sat_hints.specs.inner.LineChecking.{LineResult}
 use Rattle.sat_hints.specs.inner.LineReading.{line_of_view, BeginsWithHintLine}
 use Rattle.sat_hints.proofs.lemmas.Words.{no_longer}
 use Rattle.sat_hints.proofs.lemmas.Holding.{reads_more}
@@ -15,7 +15,7 @@ returns-in_err-why-clause-stops c =
     let d = c.loop-found.invariant.done in
     let line = line_of_view c.line.result in
     let read : BeginsWithHintLine c.loop-found.rest.now line c.in-Some.found.1.now = subst (λ l. BeginsWithHintLine c.loop-found.rest.now l c.in-Some.found.1.now) (sym c.line.ensures) c.in-Some.ensures.line in
-    let stops = place_stops c.loop-found.self c.loop-found.rest.now c.in-Some.found.1.now line c.loop-found.invariant.empty read c.in_err-why.ensures.judged in
+    let stops = place_stops c.loop-found.self c.loop-found.rest.now c.in-Some.found.1.now line c.loop-found.invariant.empty read c.in_err-why.ensures.on_error in
     on_err c.from_residual.result _ (stops_later c.args.self.now c.loop-found.self c.args.piece.now d.0 c.loop-found.rest.now d.1 d.2 stops)
 
 pub returns-in-Some-2-clause-reads : goal.returns-in-Some-2-clause-reads
@@ -24,7 +24,7 @@ returns-in-Some-2-clause-reads c =
     let line = line_of_view c.line.result in
     let read : BeginsWithHintLine c.loop-found.rest.now line c.in-Some.found.1.now = subst (λ l. BeginsWithHintLine c.loop-found.rest.now l c.in-Some.found.1.now) (sym c.line.ensures) c.in-Some.ensures.line in
     let new : Checking = record c.loop-found.self { lists = c.read_line.new.self; checker = c.take.new.self } in
-    let t : TakesNext (Some c.in-Some-2.why) c.loop-found.self.checker c.take.new.self line = rw c.in-Some-2.is at c.in_ok-why.ensures.takes in
+    let t : LineResult (Some c.in-Some-2.why) c.loop-found.self.checker c.take.new.self line = rw c.in-Some-2.is at c.in_ok-why.ensures.takes in
     let h = reads_line (Some c.in-Some-2.why) c.loop-found.self new c.loop-found.rest.now c.in-Some.found.1.now line c.loop-found.invariant.empty refl refl read t in
     reads_fault c.in-Some-2.why c.args.self.now c.loop-found.self new c.args.piece.now d.0 (line_text line) c.in-Some.found.1.now (line_off c.args.piece.now d.0 c.loop-found.rest.now (line_text line) c.in-Some.found.1.now d.1 read.1) d.2 h
 
@@ -34,7 +34,7 @@ loop-found-preserved c =
     let line = line_of_view c.line.result in
     let read : BeginsWithHintLine c.loop-found.rest.now line c.in-Some.found.1.now = subst (λ l. BeginsWithHintLine c.loop-found.rest.now l c.in-Some.found.1.now) (sym c.line.ensures) c.in-Some.ensures.line in
     let new : Checking = record c.loop-found.self { lists = c.read_line.new.self; checker = c.take.new.self } in
-    let t : TakesNext None c.loop-found.self.checker c.take.new.self line = rw c.in-None.is at c.in_ok-why.ensures.takes in
+    let t : LineResult None c.loop-found.self.checker c.take.new.self line = rw c.in-None.is at c.in_ok-why.ensures.takes in
     let h = reads_line None c.loop-found.self new c.loop-found.rest.now c.in-Some.found.1.now line c.loop-found.invariant.empty refl refl read t in
     let shorter = no_longer c.loop-found.rest.now (line_text line) c.in-Some.found.1.now read.1 in
     record {

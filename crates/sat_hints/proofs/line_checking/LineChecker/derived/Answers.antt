@@ -11,8 +11,8 @@ returns-in-Some-clause-takes c =
 pub store-requires-clause-ready : goal.store-requires-clause-ready
 store-requires-clause-ready c = same_ready c.args.self.now c.refute.new.self c.requires.ready c.refute.ensures.same
 
-pub returns-in_err-store-clause-judged : goal.returns-in_err-store-clause-judged
-returns-in_err-store-clause-judged c =
+pub returns-in_err-store-clause-on_error : goal.returns-in_err-store-clause-on_error
+returns-in_err-store-clause-on_error c =
     on_err c.from_residual.result _ (derived_may c.args.self.now c.args.id c.args.clause.now c.args.ids.now c.if-id-self.false (rw c.in-None.is at c.refute.ensures.refutes))
 
 pub returns-clause-takes : goal.returns-clause-takes

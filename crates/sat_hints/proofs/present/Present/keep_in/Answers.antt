@@ -1,5 +1,5 @@
 use Rattle.std.proofs.Common.{rules, ◌≡◌, ◌<◌, length, get_or, sym, subst, ◌∙◌}
-use Rattle.sat_hints.specs.inner.Clauses.{AllBelow}
+use Rattle.sat_hints.specs.inner.Clauses.{IdsBelow}
 use Rattle.sat_hints.proofs.lemmas.Listed.{keeps_one, keeps_not, keeps_all, next_below, same_default}
 use Rattle.sat_hints.proofs.present.Present.keep_in.Goals as goal
 
@@ -10,7 +10,7 @@ pub push-requires-clause-above : goal.push-requires-clause-above
 push-requires-clause-above c =
     let inside : c.loop-place.place < length c.args.self.now.ids.items = search rules in
     let e : c.index-in-loop-place.result.now ≡ get_or c.args.self.now.ids.items c.loop-place.place 0 = c.index-in-loop-place.ensures ∙ same_default c.args.self.now.ids.items c.loop-place.place c.index-in-loop-place.result.now 0 inside in
-    subst (AllBelow c.loop-place.kept.ids.items) (sym e) (next_below c.args.self.now c.requires.store c.loop-place.place inside c.loop-place.kept c.loop-place.invariant)
+    subst (IdsBelow c.loop-place.kept.ids.items) (sym e) (next_below c.args.self.now c.requires.store c.loop-place.place inside c.loop-place.kept c.loop-place.invariant)
 
 pub loop-place-preserved : goal.loop-place-preserved
 loop-place-preserved c =

@@ -2,7 +2,7 @@ use Rattle.std.proofs.lemmas.Grind.{common_steps}
 use Rattle.std.proofs.Common.{arith}
 use Rattle.std.proofs.Common.{◌≡◌, ◌≢◌, ◌∙◌, sym, ap, subst}
 use Rattle.sat_store.specs.clause.Buffer.{header_at}
-use Rattle.sat_store.specs.clause.Header.{Header, index_of}
+use Rattle.sat_store.specs.clause.Header.{Header, tier_index}
 use Rattle.sat_store.specs.declared.clause.tier.Tier.{Tier}
 use Rattle.sat_parts.specs.clause.Db.{PutsHeader}
 use Rattle.sat_parts.proofs.lemmas.prop.BuildLemmas.{live_in}
@@ -24,8 +24,8 @@ put_header-requires-clause-clause c = live_clause c.args.clauses.now c.args.db.n
 pub returns : goal.returns
 returns c =
     let e : c.tier-old.result ≡ (header_at c.args.clauses.now c.args.cref).tier = c.tier-old.ensures ∙ ap (λ (h : Header). h.tier) c.header-header.ensures.value in
-    let differ : index_of (header_at c.args.clauses.now c.args.cref).tier ≢ index_of c.args.tier = λ q.
-    c.if-index.false (c.index.ensures ∙ ap (λ (t : Tier). index_of t) e ∙ q ∙ sym c.index-2.ensures) in
+    let differ : tier_index (header_at c.args.clauses.now c.args.cref).tier ≢ tier_index c.args.tier = λ q.
+    c.if-index.false (c.index.ensures ∙ ap (λ (t : Tier). tier_index t) e ∙ q ∙ sym c.index-2.ensures) in
     let put : PutsHeader c.args.clauses.now c.put_header.new.clauses c.args.db.now.refs c.args.cref (record (header_at c.args.clauses.now c.args.cref) { tier = c.args.tier }) =
     subst (λ (h : Header). PutsHeader c.args.clauses.now c.put_header.new.clauses c.args.db.now.refs c.args.cref h)
     (c.set_tier.ensures ∙ ap (λ (h : Header). record h { tier = c.args.tier }) c.header-header.ensures.value)

@@ -3,8 +3,8 @@ use Rattle.std.proofs.Common.{◌≡◌, ◌<◌, ℕ, true, false, not, length,
 use Rattle.sat_store.specs.clause.Buffer.{SameClauseAt}
 use Rattle.sat_store.specs.clause.Header.{Header}
 use Rattle.sat_parts.specs.clause.Db.{is_live}
-use Rattle.sat_parts.specs.clause.Filtered.{AnswersAt}
-use Rattle.sat_parts.specs.prop.WatchLists.{Watching}
+use Rattle.sat_parts.specs.clause.Filtered.{ReturnsForClause}
+use Rattle.sat_parts.specs.prop.WatchLists.{WatchState}
 use Rattle.sat_parts.proofs.lemmas.prop.BuildLemmas.{live_place}
 use Rattle.sat_parts.proofs.lemmas.clause.FilterLemmas.{filtering_none, filtering_skip, filtering_keep, filtering_drop, filtering_all, filtering_alive, filtering_kept}
 use Rattle.sat_parts.proofs.clause.filter.filter_clauses.Given.{Over}
@@ -48,13 +48,13 @@ pub loop-at-preserved-then-keep : goal.loop-at-preserved-then-keep
 loop-at-preserved-then-keep g c =
     let x = (goal.at.loop-at-preserved-then-keep g c).After-deleted in
     let h = c.loop-at.invariant in
-    let asked : AnswersAt g.F.FnMut c.args.clauses.now c.loop-at.keep c.cref-cref.result c.keep.result c.keep.new.self = record { shown = _; same = same g x; called = c.keep.ensures } in
+    let returned_in_turn : ReturnsForClause g.F.FnMut c.args.clauses.now c.loop-at.keep c.cref-cref.result c.keep.result c.keep.new.self = record { shown = _; same = same g x; called = c.keep.ensures } in
     record {
       db = h.db;
       refs = h.refs;
       off = h.off;
       pass = filtering_keep _ _ _ c.keep.new.self _ _ _ _ c.cref-cref.result h.pass (inside g x) (at_place g x) (lives g x false c.if-deleted.false)
-          (subst (λ (b : Bool). AnswersAt g.F.FnMut c.args.clauses.now c.loop-at.keep c.cref-cref.result b c.keep.new.self) c.if-keep.true asked);
+          (subst (λ (b : Bool). ReturnsForClause g.F.FnMut c.args.clauses.now c.loop-at.keep c.cref-cref.result b c.keep.new.self) c.if-keep.true returned_in_turn);
     }
 
 pub delete_clause-requires-clause-live : goal.delete_clause-requires-clause-live
@@ -66,18 +66,18 @@ pub loop-at-preserved : goal.loop-at-preserved
 loop-at-preserved g c =
     let x = (goal.at.loop-at-preserved g c).After-deleted in
     let h = c.loop-at.invariant in
-    let asked : AnswersAt g.F.FnMut c.args.clauses.now c.loop-at.keep c.cref-cref.result c.keep.result c.keep.new.self = record { shown = _; same = same g x; called = c.keep.ensures } in
+    let returned_in_turn : ReturnsForClause g.F.FnMut c.args.clauses.now c.loop-at.keep c.cref-cref.result c.keep.result c.keep.new.self = record { shown = _; same = same g x; called = c.keep.ensures } in
     let d = c.delete_clause.ensures.deleted in
     record {
       db = d.holds;
       refs = d.refs ∙ h.refs;
-      off = c.delete_clause.ensures.watches ∙ ap (λ (w : Watching). record w { enabled = false }) h.off;
+      off = c.delete_clause.ensures.watches ∙ ap (λ (w : WatchState). record w { enabled = false }) h.off;
       pass = filtering_drop _ _ _ c.keep.new.self _ _ _ _ _ c.cref-cref.result c.requires.db.rising h.pass (inside g x) (at_place g x) (lives g x false c.if-deleted.false)
-          (subst (λ (b : Bool). AnswersAt g.F.FnMut c.args.clauses.now c.loop-at.keep c.cref-cref.result b c.keep.new.self) c.if-keep.false asked) (rw h.refs at d.put);
+          (subst (λ (b : Bool). ReturnsForClause g.F.FnMut c.args.clauses.now c.loop-at.keep c.cref-cref.result b c.keep.new.self) c.if-keep.false returned_in_turn) (rw h.refs at d.put);
     }
 
 pub returns-clause-kept : goal.returns-clause-kept
 returns-clause-kept g c =
     let h = c.loop-at.invariant in
     let end : c.loop-at.at ≡ length c.args.db.now.refs = omega arith in
-    rw h.refs (filtering_all (AnswersAt g.F.FnMut c.args.clauses.now) c.args.keep c.loop-at.keep c.args.clauses.now c.loop-at.clauses c.args.db.now.refs c.loop-at.at h.pass end).1
+    rw h.refs (filtering_all (ReturnsForClause g.F.FnMut c.args.clauses.now) c.args.keep c.loop-at.keep c.args.clauses.now c.loop-at.clauses c.args.db.now.refs c.loop-at.at h.pass end).1

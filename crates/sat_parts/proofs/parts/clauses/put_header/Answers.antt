@@ -15,7 +15,7 @@ pub returns : goal.returns
 returns c =
     let p = c.args.parts.now in
     let n = c.set_flags.new.self in
-    let held = c.requires.holds.below.held in
+    let held = c.requires.holds.below.db_matches in
     let h = c.args.header in
     let old = header_at p.clauses c.args.cref in
     let same : record h { activity = old.activity; len = old.len } ≡ h = rw (← c.requires.activity, ← c.requires.len) refl in

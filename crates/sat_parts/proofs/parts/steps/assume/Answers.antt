@@ -10,7 +10,7 @@ use Rattle.sat_parts.proofs.parts.steps.assume.Goals as goal
 pub new_decision_level-requires : goal.new_decision_level-requires
 new_decision_level-requires c =
     let p = c.args.parts.now in
-    few_levels (state_of p.assignment p.graph p.trail) c.args.lit c.requires.holds.below.asks.agrees c.requires.holds.below.levelled c.requires.open c.requires.there
+    few_levels (state_of p.assignment p.graph p.trail) c.args.lit c.requires.holds.below.propagation.agrees c.requires.holds.below.levelled c.requires.open c.requires.there
 
 pub returns-clause-holds : goal.returns-clause-holds
 returns-clause-holds c =
@@ -28,14 +28,14 @@ pub returns-clause-same : goal.returns-clause-same
 returns-clause-same c =
     let p = c.args.parts.now in
     let h = c.requires.holds.below in
-    let few = few_levels (state_of p.assignment p.graph p.trail) c.args.lit h.asks.agrees h.levelled c.requires.open c.requires.there in
+    let few = few_levels (state_of p.assignment p.graph p.trail) c.args.lit h.propagation.agrees h.levelled c.requires.open c.requires.there in
     rw (c.enqueue_assignment.ensures.value, c.enqueue_assignment.ensures.node, c.enqueue_assignment.ensures.trail, c.in_ok-new_decision_level.ensures.done)
-    ((refl, refl, refl), carries_decided (state_of p.assignment p.graph p.trail) c.args.lit (agrees_raised (state_of p.assignment p.graph p.trail) h.asks.agrees few) c.requires.open c.requires.there)
+    ((refl, refl, refl), carries_decided (state_of p.assignment p.graph p.trail) c.args.lit (agrees_raised (state_of p.assignment p.graph p.trail) h.propagation.agrees few) c.requires.open c.requires.there)
 
 pub returns-clause-keeps : goal.returns-clause-keeps
 returns-clause-keeps c = λ top.
     let p = c.args.parts.now in
     let h = c.requires.holds.below in
-    let few = few_levels (state_of p.assignment p.graph p.trail) c.args.lit h.asks.agrees h.levelled c.requires.open c.requires.there in
+    let few = few_levels (state_of p.assignment p.graph p.trail) c.args.lit h.propagation.agrees h.levelled c.requires.open c.requires.there in
     rw (c.enqueue_assignment.ensures.value, c.enqueue_assignment.ensures.node, c.enqueue_assignment.ensures.trail, c.in_ok-new_decision_level.ensures.done)
-    (keeps_decided top (state_of p.assignment p.graph p.trail) c.args.lit (agrees_raised (state_of p.assignment p.graph p.trail) h.asks.agrees few) h.levelled c.requires.open c.requires.there)
+    (keeps_decided top (state_of p.assignment p.graph p.trail) c.args.lit (agrees_raised (state_of p.assignment p.graph p.trail) h.propagation.agrees few) h.levelled c.requires.open c.requires.there)

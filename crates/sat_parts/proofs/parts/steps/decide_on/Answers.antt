@@ -24,7 +24,7 @@ module _ (c : After-lit-lit) where
   there = subst (λ v. v < length c.args.parts.now.assignment.current) (sym at) c.requires.picked.there
 
   few : length c.args.parts.now.trail.starts + 1 < 2 ^ 32
-  few = few_levels (state c.args.parts.now) c.lit-lit.result c.requires.picked.holds.below.asks.agrees c.requires.picked.holds.below.levelled free there
+  few = few_levels (state c.args.parts.now) c.lit-lit.result c.requires.picked.holds.below.propagation.agrees c.requires.picked.holds.below.levelled free there
 
 pub new_decision_level-requires : goal.new_decision_level-requires
 new_decision_level-requires c = few (goal.at.new_decision_level-requires c).After-lit-lit
@@ -48,10 +48,10 @@ pub returns-clause-same : goal.returns-clause-same
 returns-clause-same c =
     let x = (goal.at.returns-clause-same c).After-lit-lit in
     rw (c.enqueue_assignment.ensures.value, c.enqueue_assignment.ensures.node, c.enqueue_assignment.ensures.trail, c.in_ok-new_decision_level.ensures.done)
-    ((refl, refl, refl), carries_decided (state c.args.parts.now) c.lit-lit.result (agrees_raised (state c.args.parts.now) c.requires.picked.holds.below.asks.agrees (few x)) (free x) (there x))
+    ((refl, refl, refl), carries_decided (state c.args.parts.now) c.lit-lit.result (agrees_raised (state c.args.parts.now) c.requires.picked.holds.below.propagation.agrees (few x)) (free x) (there x))
 
 pub returns-clause-keeps : goal.returns-clause-keeps
 returns-clause-keeps c = λ top.
     let x = (goal.at.returns-clause-keeps c).After-lit-lit in
     rw (c.enqueue_assignment.ensures.value, c.enqueue_assignment.ensures.node, c.enqueue_assignment.ensures.trail, c.in_ok-new_decision_level.ensures.done)
-    (keeps_decided top (state c.args.parts.now) c.lit-lit.result (agrees_raised (state c.args.parts.now) c.requires.picked.holds.below.asks.agrees (few x)) c.requires.picked.holds.below.levelled (free x) (there x))
+    (keeps_decided top (state c.args.parts.now) c.lit-lit.result (agrees_raised (state c.args.parts.now) c.requires.picked.holds.below.propagation.agrees (few x)) c.requires.picked.holds.below.levelled (free x) (there x))

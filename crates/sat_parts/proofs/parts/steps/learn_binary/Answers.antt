@@ -4,7 +4,7 @@ use Rattle.std.proofs.Common.{inl, ◌≡◌, get_or, arith, refl, [], ◌∷◌
 use Rattle.std.proofs.lemmas.List.{get_or_read}
 use Rattle.sat_parts.proofs.lemmas.parts.BinaryLemmas.{sound_binary}
 use Rattle.sat_parts.specs.declared.prop.graph.Reason.TheVariants.{Binary}
-use Rattle.sat_parts.specs.parts.Frame.{learnt_binary}
+use Rattle.sat_parts.specs.parts.Frame.{learned_binary}
 use Rattle.sat_parts.proofs.parts.steps.learn_binary.Goals as goal
 
 pub returns-clause-holds : goal.returns-clause-holds
@@ -28,4 +28,4 @@ returns-clause-learnt c =
     let one : c.index-lits-0.result ≡ get_or c.args.lits.now 0 0 = get_or_read c.args.lits.now 0 c.index-lits-0.result (omega (arith, c.requires.two)) c.index-lits-0.is 0 in
     let two : c.index-lits-1.result ≡ get_or c.args.lits.now 1 0 = get_or_read c.args.lits.now 1 c.index-lits-1.result (omega (arith, c.requires.two)) c.index-lits-1.is 0 in
     rw (c.enqueue_assignment.ensures.value, c.enqueue_assignment.ensures.node, c.enqueue_assignment.ensures.trail, c.in_ok-add_binary_clause.ensures.done, one, two)
-    (learnt_binary c.requires.two refl refl refl (Binary (get_or c.args.lits.now 1 0 ∷ [])) refl refl)
+    (learned_binary c.requires.two refl refl refl (Binary (get_or c.args.lits.now 1 0 ∷ [])) refl refl)

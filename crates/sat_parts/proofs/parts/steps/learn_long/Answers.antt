@@ -4,7 +4,7 @@ use Rattle.std.proofs.Common.{inl, ◌≡◌, get_or, arith, refl}
 use Rattle.std.proofs.lemmas.List.{get_or_read}
 use Rattle.sat_parts.proofs.lemmas.parts.LearnLemmas.{sound_long}
 use Rattle.sat_parts.specs.declared.prop.graph.Reason.TheVariants.{Long}
-use Rattle.sat_parts.specs.parts.Frame.{learnt_long}
+use Rattle.sat_parts.specs.parts.Frame.{learned_long}
 use Rattle.sat_parts.proofs.parts.steps.learn_long.Goals as goal
 
 pub returns-clause-holds : goal.returns-clause-holds
@@ -27,4 +27,4 @@ pub returns-clause-learnt : goal.returns-clause-learnt
 returns-clause-learnt c =
     let one : c.index-lits-0.result ≡ get_or c.args.lits.now 0 0 = get_or_read c.args.lits.now 0 c.index-lits-0.result (omega (arith, c.requires.long)) c.index-lits-0.is 0 in
     rw (c.enqueue_assignment.ensures.value, c.enqueue_assignment.ensures.node, c.enqueue_assignment.ensures.trail, one)
-    (learnt_long c.requires.long c.in_ok-cref.cref c.in_ok-cref.ensures.added refl (Long c.in_ok-cref.cref) refl refl)
+    (learned_long c.requires.long c.in_ok-cref.cref c.in_ok-cref.ensures.added refl (Long c.in_ok-cref.cref) refl refl)

@@ -5,7 +5,7 @@ use Rattle.std.proofs.Common.{inl, ◌≡◌, get_or, arith, refl}
 use Rattle.std.proofs.lemmas.List.{get_or_read}
 use Rattle.sat_parts.proofs.lemmas.parts.LearnLemmas.{sound_unit}
 use Rattle.sat_parts.specs.declared.prop.graph.Reason.TheVariants.{Unit as NoCause}
-use Rattle.sat_parts.specs.parts.Frame.{learnt_unit}
+use Rattle.sat_parts.specs.parts.Frame.{learned_unit}
 use Rattle.sat_parts.proofs.parts.steps.learn_unit.Goals as goal
 
 pub returns-clause-holds : goal.returns-clause-holds
@@ -23,4 +23,4 @@ pub returns-clause-learnt : goal.returns-clause-learnt
 returns-clause-learnt c =
     let at : c.index-lits-0.result ≡ get_or c.args.lits.now 0 0 = get_or_read c.args.lits.now 0 c.index-lits-0.result (omega (arith, c.requires.one)) c.index-lits-0.is 0 in
     rw (c.enqueue_assignment.ensures.value, c.enqueue_assignment.ensures.node, c.enqueue_assignment.ensures.trail, at)
-    (learnt_unit c.requires.one (refl, refl, refl) NoCause refl refl)
+    (learned_unit c.requires.one (refl, refl, refl) NoCause refl refl)

@@ -20,7 +20,7 @@ returns-clause-units c = λ some units.
     let n = c.propagate.new in
     let s' = state_of n.assignment n.graph n.trail in
     IfOk-weaker _ _ _
-    (λ r h. units_moved (live_refs p.clauses p.db.refs) p.binary.implied p.clauses n.clauses (state_of p.assignment p.graph p.trail) s' c.requires.holds.asks.agrees
+    (λ r h. units_moved (live_refs p.clauses p.db.refs) p.binary.implied p.clauses n.clauses (state_of p.assignment p.graph p.trail) s' c.requires.holds.propagation.agrees
     (agrees_given p.clauses n.clauses p.db.refs p.binary.implied (state_of p.assignment p.graph p.trail) s' n.watchlists r h) h.moves some units)
     c.propagate.ensures.given
 

@@ -12,7 +12,7 @@ returns-clause-holds c =
 pub returns-clause-word : goal.returns-clause-word
 returns-clause-word c =
     let p = c.args.parts.now in
-    rw (c.mark_removed.ensures, c.clear.ensures) (λ am. word_cleared am p.assignment p.graph p.trail p.vsids c.requires.holds.asks.agrees c.requires.bottom)
+    rw (c.mark_removed.ensures, c.clear.ensures) (λ am. word_cleared am p.assignment p.graph p.trail p.vsids c.requires.holds.propagation.agrees c.requires.bottom)
 
 pub returns-clause-clears : goal.returns-clause-clears
 returns-clause-clears c = grind (arith, common_steps, clears_cleared)

@@ -2,7 +2,7 @@ use Rattle.std.proofs.lemmas.Grind.{common_steps}
 use Rattle.std.proofs.Common.{arith}
 use Rattle.std.proofs.Common.{ℕ, List, ◌∙◌, ap, sym, refl, inl, length}
 use Rattle.sat_parts.specs.prop.Graphs.{node_of}
-use Rattle.sat_parts.specs.prop.State.{PropagationState, IsRemoved}
+use Rattle.sat_parts.specs.prop.State.{PropagationState, IsRemovedUnit}
 use Rattle.sat_parts.proofs.lemmas.parts.ClearLemmas.{removed_by, agrees_dropped, sound_again, again_values, again_left}
 use Rattle.sat_parts.specs.parts.Whole.{state}
 use Rattle.sat_parts.proofs.lemmas.parts.LoadFrames.{carries_again}
@@ -13,15 +13,15 @@ module _ (c : Then-is_removed_unit) where
   abbrev before : PropagationState
   before = state c.args.parts.now
 
-  gone : IsRemoved before c.args.lit
+  gone : IsRemovedUnit before c.args.lit
   gone =
-      removed_by before c.args.lit c.requires.holds.below.asks.agrees c.requires.true_lit
+      removed_by before c.args.lit c.requires.holds.below.propagation.agrees c.requires.true_lit
       (ap (λ v. (node_of c.args.parts.now.graph v).depth) (sym c.var.ensures) ∙ (rw c.if-is_removed_unit.true at c.is_removed_unit.ensures).0 refl)
 
 pub enqueue_assignment-requires-clause-room : goal.enqueue_assignment-requires-clause-room
 enqueue_assignment-requires-clause-room c =
     let x = (goal.at.enqueue_assignment-requires-clause-room c).Then-is_removed_unit in
-    inl (rw (c.unassign_var.ensures, c.var-then-is_removed_unit.ensures) (agrees_dropped (before x) c.args.lit c.requires.holds.below.asks.agrees (gone x)))
+    inl (rw (c.unassign_var.ensures, c.var-then-is_removed_unit.ensures) (agrees_dropped (before x) c.args.lit c.requires.holds.below.propagation.agrees (gone x)))
 
 pub returns-then-is_removed_unit-clause-holds : goal.returns-then-is_removed_unit-clause-holds
 returns-then-is_removed_unit-clause-holds c =
@@ -36,10 +36,10 @@ pub returns-then-is_removed_unit-clause-left : goal.returns-then-is_removed_unit
 returns-then-is_removed_unit-clause-left c =
     let x = (goal.at.returns-then-is_removed_unit-clause-left c).Then-is_removed_unit in
     rw (c.enqueue_assignment.ensures.value, c.enqueue_assignment.ensures.node, c.enqueue_assignment.ensures.trail, c.unassign_var.ensures, c.var-then-is_removed_unit.ensures)
-    (λ l left. (again_left (before x) c.args.lit l c.requires.holds.below.asks.agrees (gone x) left).0)
+    (λ l left. (again_left (before x) c.args.lit l c.requires.holds.below.propagation.agrees (gone x) left).0)
 
 pub returns-then-is_removed_unit-clause-carries : goal.returns-then-is_removed_unit-clause-carries
 returns-then-is_removed_unit-clause-carries c =
     let x = (goal.at.returns-then-is_removed_unit-clause-carries c).Then-is_removed_unit in
     rw (c.enqueue_assignment.ensures.value, c.enqueue_assignment.ensures.node, c.enqueue_assignment.ensures.trail, c.unassign_var.ensures, c.var-then-is_removed_unit.ensures)
-    (carries_again (before x) c.args.lit c.requires.holds.below.asks.agrees (gone x) (ap (λ (xs : List ℕ). length xs) c.requires.bottom))
+    (carries_again (before x) c.args.lit c.requires.holds.below.propagation.agrees (gone x) (ap (λ (xs : List ℕ). length xs) c.requires.bottom))

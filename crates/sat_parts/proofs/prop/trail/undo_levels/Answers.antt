@@ -1,10 +1,10 @@
 use Rattle.std.proofs.Common.{ℕ, ◌≡◌, ◌<◌, ◌≤◌, List, take, get_or, length, ap, arith}
 use Rattle.std.proofs.lemmas.List.{get_or_read, get_or-take, length-take-le}
-use Rattle.sat_parts.specs.prop.Trails.{Trailed, trailed, IsTrail}
+use Rattle.sat_parts.specs.prop.Trails.{TrailState, trail_state, IsTrail}
 use Rattle.sat_parts.proofs.prop.trail.undo_levels.Goals as goal
 
 -- the trail without the levels from this one on
-cut_trail : (lits starts : List ℕ) (head cleared room level start : ℕ) → IsTrail (trailed lits head starts cleared room) → level < length starts → start ≡ get_or starts level 0 → IsTrail (trailed (take start lits) start (take level starts) cleared room)
+cut_trail : (lits starts : List ℕ) (head cleared room level start : ℕ) → IsTrail (trail_state lits head starts cleared room) → level < length starts → start ≡ get_or starts level 0 → IsTrail (trail_state (take start lits) start (take level starts) cleared room)
 cut_trail lits starts head cleared room level start h lt e =
     let within : start ≤ length lits = omega (arith, h.levels.within level lt) in
     let size : length (take start lits) ≡ start = length-take-le start lits within in
@@ -26,7 +26,7 @@ cut_trail lits starts head cleared room level start h lt e =
 pub invariant_of-trail : goal.invariant_of-trail
 invariant_of-trail c =
     let starts = c.trail.inside.decisions.items in
-    let size : length c.trail.inside.decisions.items ≡ length c.args.trail.now.starts = ap (λ (t : Trailed). length t.starts) c.trail.view_is in
+    let size : length c.trail.inside.decisions.items ≡ length c.args.trail.now.starts = ap (λ (t : TrailState). length t.starts) c.trail.view_is in
     let lt : c.args.level < length c.trail.inside.decisions.items = omega arith in
     let start : c.index.result.now ≡ get_or c.trail.inside.decisions.items c.args.level 0 = get_or_read starts c.args.level c.index.result.now lt c.index.ensures 0 in
     rw (c.truncate-2.ensures.items, c.truncate.ensures.items) (

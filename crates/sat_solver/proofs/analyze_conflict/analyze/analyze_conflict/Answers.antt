@@ -1,13 +1,13 @@
 use Rattle.std.proofs.lemmas.Grind.{common_steps}
 use Rattle.std.proofs.Common.{ℕ, List, Bool, length, get_or, sym, ap, ◌∙◌, subst, arith}
 use Rattle.std.specs.List.Sorted.{IsPermutation}
-use Rattle.sat_parts.specs.clause.Glue.{AreClear}
+use Rattle.sat_parts.specs.clause.Glue.{FlagsAreClear}
 use Rattle.sat_parts.specs.prop.Ready.{state_of}
 use Rattle.sat_parts.specs.prop.State.{PropagationState}
 use Rattle.sat_parts.proofs.lemmas.clause.ListLemmas.{place_in}
 use Rattle.sat_solver.specs.analyze_conflict.AnalysisState.{AnalysisState}
-use Rattle.sat_solver.specs.analyze_conflict.Derivation.{PutsSecond}
-use Rattle.sat_solver.specs.analyze_conflict.Minimal.{FallsBefore}
+use Rattle.sat_solver.specs.analyze_conflict.Derivation.{PutsHighestSecond}
+use Rattle.sat_solver.specs.analyze_conflict.Minimization.{IsSortedBefore}
 use Rattle.sat_solver.proofs.lemmas.analyze_conflict.Codes.{reasoned_variable}
 use Rattle.sat_solver.proofs.lemmas.analyze_conflict.Minimized.{false_variable}
 use Rattle.sat_solver.proofs.lemmas.analyze_conflict.Ordered.{ordered}
@@ -27,8 +27,8 @@ returns-clause-learns c =
     let clause = ap (λ (x : AnalysisState). x.clause) c.order_used.ensures.same ∙ ap (λ (x : AnalysisState). x.clause) c.clear_flags.ensures.same in
     let flags = ap (λ (x : AnalysisState). x.flags) c.put_second.ensures.same ∙ ap (λ (x : AnalysisState). x.flags) c.order_used.ensures.same in
     learned _ _ _ w w' c.put_second.result c.requires.can c.requires.fails c.in_ok-minimize_clause.ensures.asserting (rw used derivation)
-    (subst (λ (xs : List ℕ). PutsSecond c.args.graph.now xs w'.clause c.put_second.result) clause c.put_second.ensures.second)
-    (subst (λ (fs : List Bool). AreClear fs) (sym flags) c.clear_flags.ensures.clear)
+    (subst (λ (xs : List ℕ). PutsHighestSecond c.args.graph.now xs w'.clause c.put_second.result) clause c.put_second.ensures.second)
+    (subst (λ (fs : List Bool). FlagsAreClear fs) (sym flags) c.clear_flags.ensures.clear)
 
 pub returns-clause-resolution : goal.returns-clause-resolution
 returns-clause-resolution c = grind (arith, common_steps, is_resolution)
@@ -40,8 +40,8 @@ order_used-requires c =
     let falls =
     falls_before _ _ _ c.finish_conflict.new.analysis w c.requires.can.agrees c.in_ok-finish_conflict.ensures.resolved c.in_ok-minimize_clause.ensures.kept
     (λ k lt. c.in_ok-minimize_clause.ensures.grounds.reasons (get_or w.used k 0) (place_in w.used k lt)) in
-    subst (λ (us : List ℕ). FallsBefore c.args.graph.now us (length c.used-resolved.result.now)) (sym before)
-    (subst (λ n. FallsBefore c.args.graph.now w.used n) (sym (ap (λ (us : List ℕ). length us) c.used-resolved.ensures)) falls)
+    subst (λ (us : List ℕ). IsSortedBefore c.args.graph.now us (length c.used-resolved.result.now)) (sym before)
+    (subst (λ n. IsSortedBefore c.args.graph.now w.used n) (sym (ap (λ (us : List ℕ). length us) c.used-resolved.ensures)) falls)
 
 pub clear_flags-requires-clause-used : goal.clear_flags-requires-clause-used
 clear_flags-requires-clause-used c = λ k lt.

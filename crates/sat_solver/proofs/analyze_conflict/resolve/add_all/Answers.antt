@@ -1,14 +1,14 @@
 use Rattle.std.proofs.Common.{ℕ, ◌∙◌, List, sym, ap, subst}
-use Rattle.sat_parts.specs.clause.Glue.{HaveNodes}
+use Rattle.sat_parts.specs.clause.Glue.{LitsHaveNodes}
 use Rattle.sat_solver.specs.analyze_conflict.AnalysisState.{with_seen_literals}
 use Rattle.sat_solver.proofs.lemmas.analyze_conflict.TwoParts.{nodes_first, nodes_second, with_both}
 use Rattle.sat_solver.proofs.analyze_conflict.resolve.add_all.Goals as goal
 
 pub add_own-requires-clause-nodes : goal.add_own-requires-clause-nodes
-add_own-requires-clause-nodes c = nodes_first c.args.graph.now c.parts.result.0.now c.parts.result.1.now (subst (λ (ls : List ℕ). HaveNodes c.args.graph.now ls) (sym c.parts.ensures) c.requires.nodes)
+add_own-requires-clause-nodes c = nodes_first c.args.graph.now c.parts.result.0.now c.parts.result.1.now (subst (λ (ls : List ℕ). LitsHaveNodes c.args.graph.now ls) (sym c.parts.ensures) c.requires.nodes)
 
 pub add_long-requires-clause-nodes : goal.add_long-requires-clause-nodes
-add_long-requires-clause-nodes c = nodes_second c.args.graph.now c.parts.result.0.now c.parts.result.1.now (subst (λ (ls : List ℕ). HaveNodes c.args.graph.now ls) (sym c.parts.ensures) c.requires.nodes)
+add_long-requires-clause-nodes c = nodes_second c.args.graph.now c.parts.result.0.now c.parts.result.1.now (subst (λ (ls : List ℕ). LitsHaveNodes c.args.graph.now ls) (sym c.parts.ensures) c.requires.nodes)
 
 pub returns : goal.returns
 returns c =

@@ -31,9 +31,9 @@ pub returns-clause-resolved : goal.returns-clause-resolved
 returns-clause-resolved c =
     let x = (goal.at.returns-clause-resolved c).After-index-lits-place in
     let here = place_variable (s x) (current_level (s x)) c.args.analysis.now c.args.before c.last_flagged-place.result c.requires.can.agrees c.requires.resolving.marks (last x).before in
-    rw (c.in_ok-put_first.ensures, c.not.ensures, c.pass_by.ensures, lit_is x)
+    rw (c.in_ok-add_first.ensures, c.not.ensures, c.unflag_pending.ensures, lit_is x)
     (finished _ _ _ c.args.analysis.now c.last_flagged-place.result c.args.before c.requires.can c.requires.resolving c.requires.one (last x) here)
 
 pub returns-clause-collected : goal.returns-clause-collected
 returns-clause-collected c =
-    rw (c.in_ok-put_first.ensures, c.not.ensures, c.pass_by.ensures) (collected _ _ _ c.args.analysis.now _ c.args.before c.requires.collecting refl refl refl)
+    rw (c.in_ok-add_first.ensures, c.not.ensures, c.unflag_pending.ensures) (collected _ _ _ c.args.analysis.now _ c.args.before c.requires.collecting refl refl refl)

@@ -2,13 +2,13 @@ use Rattle.std.proofs.Common.{ℕ, ◌≡◌, ◌<◌, List, length, get_or, ref
 use Rattle.std.proofs.lemmas.List.{get_or_read}
 use Rattle.sat_base.specs.values.Literals.{variable}
 use Rattle.sat_parts.specs.declared.prop.graph.Reason.{Reason}
-use Rattle.sat_parts.specs.prop.Causes.{causes, falsified}
+use Rattle.sat_parts.specs.prop.ReasonLits.{reason_lits, conflict_lits}
 use Rattle.sat_parts.specs.prop.Graphs.{node_of}
 use Rattle.sat_parts.specs.prop.Ready.{state_of}
 use Rattle.sat_parts.specs.prop.State.{PropagationState, node, current_level, lit_at}
 use Rattle.sat_solver.specs.analyze_conflict.AnalysisState.{AnalysisState, with_seen_literals, with_reason_used}
 use Rattle.sat_solver.specs.analyze_conflict.Marks.{causes_at, ResolutionInvariant}
-use Rattle.sat_solver.specs.analyze_conflict.Involved.{CollectionInvariant}
+use Rattle.sat_solver.specs.analyze_conflict.Seen.{CollectionInvariant}
 use Rattle.sat_solver.proofs.lemmas.analyze_conflict.Codes.{some_flagged, last_place, place_variable, taken_stands, before_nodes}
 use Rattle.sat_solver.proofs.lemmas.analyze_conflict.Collecting.{collecting_taken}
 use Rattle.sat_solver.proofs.lemmas.analyze_conflict.Resolution.{IsLastFlagged, Taken, taken, resolved}
@@ -63,7 +63,7 @@ lits-requires-clause-some c = λ o is.
 pub add_all-requires-clause-nodes : goal.add_all-requires-clause-nodes
 add_all-requires-clause-nodes c = λ k lt.
     let r = (goal.at.add_all-requires-clause-nodes c).After-reason-reason in
-    before_nodes _ _ _ k c.lits.result c.requires.can (took (x r)).first (took (x r)).within (c.lits.ensures ∙ ap (λ (y : Reason). causes c.args.clauses.now y) (reason_is r)) lt
+    before_nodes _ _ _ k c.lits.result c.requires.can (took (x r)).first (took (x r)).within (c.lits.ensures ∙ ap (λ (y : Reason). reason_lits c.args.clauses.now y) (reason_is r)) lt
 
 pub returns : goal.returns
 returns c =
@@ -72,11 +72,11 @@ returns c =
     let t = took y in
     let l = lit_at (s y) (p y) in
     let e : c.add_all.new.analysis ≡ with_seen_literals c.args.graph.now (current_level (s y)) (causes_at c.args.clauses.now (s y) l) (with_reason_used (node (s y) l).reason l c.args.analysis.now) =
-    rw (c.in_ok-add_all.ensures, c.current_level.ensures.level, c.lits.ensures, c.in_ok-take_up.ensures, lit_is y, reason_is r) refl in
+    rw (c.in_ok-add_all.ensures, c.current_level.ensures.level, c.lits.ensures, c.in_ok-use_reason.ensures, lit_is y, reason_is r) refl in
     record {
       next = (
         (last y).before,
-        subst (λ (w : AnalysisState). ResolutionInvariant c.args.clauses.now (s y) (falsified c.args.clauses.now c.args.conflict.now) w (p y)) (sym e)
+        subst (λ (w : AnalysisState). ResolutionInvariant c.args.clauses.now (s y) (conflict_lits c.args.clauses.now c.args.conflict.now) w (p y)) (sym e)
             (resolved _ _ _ c.args.analysis.now _ _ c.requires.can c.requires.resolving c.requires.two (last y) (here y)),
         subst (λ (w : AnalysisState). CollectionInvariant c.args.clauses.now (s y) c.args.conflict.now w (p y)) (sym e)
             (collecting_taken _ _ _ c.args.analysis.now _ _ c.requires.can.agrees c.requires.collecting (last y) c.requires.resolving.marks.within c.requires.resolving.marks.size

@@ -4,7 +4,7 @@ use Rattle.sat_parts.specs.prop.Ready.{state_of}
 use Rattle.sat_parts.specs.prop.State.{PropagationState, level}
 use Rattle.sat_solver.specs.analyze_conflict.AnalysisState.{AnalysisState}
 use Rattle.sat_solver.specs.analyze_conflict.Marks.{CanAnalyze}
-use Rattle.sat_solver.specs.assumptions.Failing.{IsFailedAssumption, fails_clauses}
+use Rattle.sat_solver.specs.assumptions.FailedAssumptions.{IsFailedAssumption, fails_clauses}
 use Rattle.sat_solver.proofs.lemmas.analyze_conflict.Tracing.{some_level}
 use Rattle.sat_solver.proofs.lemmas.analyze_conflict.Refuting.{refuted}
 use Rattle.sat_solver.proofs.assumptions.analyze.analyze_assumption.Goals as goal

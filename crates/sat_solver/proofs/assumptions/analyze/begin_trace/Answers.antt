@@ -1,7 +1,7 @@
 use Rattle.std.proofs.Common.{◌≡◌, ◌-◌, ap, ◌∙◌, arith}
 use Rattle.sat_parts.specs.declared.prop.graph.ImplNode.{ImplNode}
 use Rattle.sat_parts.specs.declared.prop.graph.Reason.{Reason}
-use Rattle.sat_parts.specs.prop.Causes.{causes}
+use Rattle.sat_parts.specs.prop.ReasonLits.{reason_lits}
 use Rattle.sat_parts.specs.prop.Graphs.{node_of}
 use Rattle.sat_parts.specs.prop.Ready.{state_of}
 use Rattle.sat_parts.specs.prop.State.{PropagationState}
@@ -26,7 +26,7 @@ pub add_all-requires-clause-nodes : goal.add_all-requires-clause-nodes
 add_all-requires-clause-nodes c = λ k lt.
     let x = found _ _ c.args.failed c.requires.can c.requires.fails c.requires.above in
     let r_is = c.reason-reason.ensures ∙ ap (λ v. (node_of c.args.graph.now v).reason) c.var.ensures ∙ ap (λ (n : ImplNode). n.reason) x.node_is in
-    before_nodes _ _ _ k c.lits.result c.requires.can x.first x.within (c.lits.ensures ∙ ap (λ (r : Reason). causes c.args.clauses.now r) r_is) lt
+    before_nodes _ _ _ k c.lits.result c.requires.can x.first x.within (c.lits.ensures ∙ ap (λ (r : Reason). reason_lits c.args.clauses.now r) r_is) lt
 
 pub overflow_sub-result : goal.overflow_sub-result
 overflow_sub-result c =
@@ -38,5 +38,5 @@ overflow_sub-result c =
 pub returns : goal.returns
 returns c =
     let x = found _ _ c.args.failed c.requires.can c.requires.fails c.requires.above in
-    rw (c.depth.ensures, c.var-2.ensures, c.in_ok-add_all.ensures, c.lits.ensures, c.reason-reason.ensures, c.var.ensures, c.in_ok-use_up.ensures, c.not.ensures, c.in_ok-begin_core.ensures)
+    rw (c.depth.ensures, c.var-2.ensures, c.in_ok-add_all.ensures, c.lits.ensures, c.reason-reason.ensures, c.var.ensures, c.in_ok-add_used.ensures, c.not.ensures, c.in_ok-begin_core.ensures)
     (traced_first _ _ c.args.failed _ c.args.analysis.now c.requires.can c.requires.clear c.requires.size x.within x.there c.requires.above c.requires.caused)

@@ -1,5 +1,5 @@
 use Rattle.sat_parts.specs.prop.Ready.{state_of}
-use Rattle.sat_solver.specs.assumptions.Failing.{TraceInvariant}
+use Rattle.sat_solver.specs.assumptions.FailedAssumptions.{TraceInvariant}
 use Rattle.sat_solver.proofs.assumptions.analyze.trace.Given as goal
 
 abbrev pub invariant-loop-failed : goal.invariant-loop-failed

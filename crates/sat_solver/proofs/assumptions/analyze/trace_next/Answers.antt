@@ -2,13 +2,13 @@ use Rattle.std.proofs.Common.{ℕ, ◌≡◌, ◌<◌, List, length, get_or, ref
 use Rattle.std.proofs.lemmas.List.{get_or_read}
 use Rattle.sat_base.specs.values.Literals.{variable}
 use Rattle.sat_parts.specs.declared.prop.graph.Reason.{Reason}
-use Rattle.sat_parts.specs.prop.Causes.{causes}
+use Rattle.sat_parts.specs.prop.ReasonLits.{reason_lits}
 use Rattle.sat_parts.specs.prop.Graphs.{node_of, has_no_clause}
 use Rattle.sat_parts.specs.prop.Ready.{state_of}
 use Rattle.sat_parts.specs.prop.State.{PropagationState, node, lit_at}
 use Rattle.sat_solver.specs.analyze_conflict.AnalysisState.{AnalysisState, with_seen_literals, with_reason_used, with_core_literal}
 use Rattle.sat_solver.specs.analyze_conflict.Marks.{causes_at}
-use Rattle.sat_solver.specs.assumptions.Failing.{TraceInvariant}
+use Rattle.sat_solver.specs.assumptions.FailedAssumptions.{TraceInvariant}
 use Rattle.sat_solver.proofs.lemmas.analyze_conflict.Codes.{some_flagged, last_place, place_variable, taken_stands, before_nodes}
 use Rattle.sat_solver.proofs.lemmas.analyze_conflict.Resolution.{IsLastFlagged}
 use Rattle.sat_solver.proofs.lemmas.analyze_conflict.Tracing.{Reached, reached, traced_used, traced_chosen}
@@ -48,7 +48,7 @@ pub returns-then-is_unit : goal.returns-then-is_unit
 returns-then-is_unit c =
     let x = (goal.at.returns-then-is_unit c).After-reason-reason in
     let free = ap (λ (r : Reason). has_no_clause r) (sym (reason_is x)) ∙ sym c.is_unit.ensures ∙ c.if-is_unit.true in
-    let e = c.in_ok-choose.ensures ∙ ap (λ l. with_core_literal l c.args.analysis.now) (lit_is x) in
+    let e = c.in_ok-add_decision_to_core.ensures ∙ ap (λ l. with_core_literal l c.args.analysis.now) (lit_is x) in
     ((last x).before, subst (λ (v : AnalysisState). TraceInvariant c.args.clauses.now (s x) c.args.failed v (p x)) (sym e) (traced_chosen _ _ _ _ _ _ c.requires.can c.requires.tracing c.requires.some (last x) (here x) free))
 
 pub lits-requires-clause-clause : goal.lits-requires-clause-clause
@@ -64,7 +64,7 @@ lits-requires-clause-some c = λ o is.
 pub add_all-requires-clause-nodes : goal.add_all-requires-clause-nodes
 add_all-requires-clause-nodes c = λ k lt.
     let x = (goal.at.add_all-requires-clause-nodes c).After-reason-reason in
-    before_nodes _ _ _ k c.lits.result c.requires.can (found x).first (found x).within (c.lits.ensures ∙ ap (λ (r : Reason). causes c.args.clauses.now r) (reason_is x)) lt
+    before_nodes _ _ _ k c.lits.result c.requires.can (found x).first (found x).within (c.lits.ensures ∙ ap (λ (r : Reason). reason_lits c.args.clauses.now r) (reason_is x)) lt
 
 pub returns : goal.returns
 returns c =
@@ -72,5 +72,5 @@ returns c =
     let l = lit_at (s x) (p x) in
     let caused = ap (λ (r : Reason). has_no_clause r) (sym (reason_is x)) ∙ sym c.is_unit.ensures ∙ c.if-is_unit.false in
     let e : c.add_all.new.analysis ≡ with_seen_literals c.args.graph.now 1 (causes_at c.args.clauses.now (s x) l) (with_reason_used (node (s x) l).reason l c.args.analysis.now) =
-    rw (c.in_ok-add_all.ensures, c.lits.ensures, c.in_ok-take_up.ensures, lit_is x, reason_is x) refl in
+    rw (c.in_ok-add_all.ensures, c.lits.ensures, c.in_ok-use_reason.ensures, lit_is x, reason_is x) refl in
     ((last x).before, subst (λ (v : AnalysisState). TraceInvariant c.args.clauses.now (s x) c.args.failed v (p x)) (sym e) (traced_used _ _ _ _ _ _ c.requires.can c.requires.tracing c.requires.some (last x) (here x) caused))

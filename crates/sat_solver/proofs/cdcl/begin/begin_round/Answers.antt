@@ -8,8 +8,8 @@ use Rattle.sat_solver.specs.proof.ProofView.{session_of}
 use Rattle.sat_solver.specs.session.Naming.{global_of_index}
 use Rattle.sat_solver.specs.cdcl.StepEffects.{EmitsSteps}
 use Rattle.sat_solver.specs.cdcl.Joint.{assumed_indices}
-use Rattle.sat_solver.specs.unit_simplify.Left.{TakesUnitsOff}
-use Rattle.sat_solver.specs.unit_simplify.Passes.{MaySettle, IsSimplifiedPass}
+use Rattle.sat_solver.specs.unit_simplify.AfterUnits.{TakesUnitsOff}
+use Rattle.sat_solver.specs.unit_simplify.Passes.{IsPropagatedAtLevelZero, IsSimplifiedPass}
 use Rattle.sat_solver.specs.declared.context.Search.{Search}
 use Rattle.sat_solver.proofs.lemmas.cdcl.TurnLemmas.{Propagation, propagation, propagated_moved, falsified_whole, ready_names}
 use Rattle.sat_solver.proofs.lemmas.unit_simplify.BeginLemmas.{may_settle, settled_passes, settled_flat, settled_simplified}
@@ -41,7 +41,7 @@ module _ (g : Over) (c : In_ok-prove_units g) where
   abbrev e : Search
   e = record (d g x) { parts = c.prove_units.new.parts; scratch = record (d g x).scratch { units = c.prove_units.new.units } }
 
-  may : MaySettle c.args.names.now c.args.proof.now (d g x)
+  may : IsPropagatedAtLevelZero c.args.names.now c.args.proof.now (d g x)
   may = may_settle c.args.names.now c.args.proof.now c.args.search.now (d g x) c.requires.together (none_open c.args.search.now.parts.trail.starts (omega (arith, c.if-current_level-gt0.false, c.current_level.ensures.level))) (went g x)
 
   settles : EmitsSteps {A = Unit {0}} g.W.CountedWrite.seen (Ok tt) c.args.proof.now c.prove_units.new.proof (λ _ _. TakesUnitsOff (d g x).parts c.prove_units.new.parts (session_of c.prove_units.new.proof) (global_of_index (d g x).globals.items))

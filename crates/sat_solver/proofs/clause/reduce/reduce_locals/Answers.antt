@@ -3,7 +3,7 @@ use Rattle.std.proofs.Common.{◌≡◌, ◌∙◌, Ok, drop, get_or, refl, arit
 use Rattle.std.proofs.lemmas.Result.{err_from_is_err_and}
 use Rattle.sat_parts.proofs.lemmas.parts.WordSteps.{default_free}
 use Rattle.sat_solver.specs.proof.ProofView.{session_of}
-use Rattle.sat_solver.specs.clause.Reduced.{DeletesIf, ReductionEffect, ReducesLocals}
+use Rattle.sat_solver.specs.clause.Reduced.{TriesToDelete, ReductionEffect, ReducesLocals}
 use Rattle.sat_parts.specs.clause.Db.{live_refs}
 use Rattle.std.specs.List.{Contains}
 use Rattle.sat_solver.proofs.lemmas.cdcl.GoingLemmas.{goes_none, goes_starved, goes_then, goes_then_fails, goes_on}
@@ -33,11 +33,11 @@ returns-in_err-deleted g c = grind (arith, common_steps, err_from_is_err_and, go
 pub loop-at-preserved : goal.loop-at-preserved
 loop-at-preserved g c =
     let i = c.loop-at.invariant in
-    let d : DeletesIf c.in_ok-deleted.deleted c.index.result.now (session_of c.delete_learned.new.proof) c.loop-at.search c.delete_learned.new.search = c.in_ok-deleted.ensures.ends in
+    let d : TriesToDelete c.in_ok-deleted.deleted c.index.result.now (session_of c.delete_learned.new.proof) c.loop-at.search c.delete_learned.new.search = c.in_ok-deleted.ensures.ends in
     let at : c.index.result.now ≡ get_or c.list_locals.new.list.items c.loop-at.at 0 = c.index.ensures ∙ default_free c.list_locals.new.list.items c.loop-at.at c.index.result.now 0 (omega arith) in
     let here : Contains (live_refs c.loop-at.search.parts.clauses c.loop-at.search.parts.db.refs) c.index.result.now = rw at (i.learnt c.loop-at.at (omega arith) (omega arith)).live in
     record {
-      came = goes_then g.W.CountedWrite.seen tt (Ok tt) c.args.proof.now c.loop-at.proof c.delete_learned.new.proof _ (λ _ _. DeletesIf c.in_ok-deleted.deleted c.index.result.now (session_of c.delete_learned.new.proof) c.loop-at.search c.delete_learned.new.search) _ i.came
+      came = goes_then g.W.CountedWrite.seen tt (Ok tt) c.args.proof.now c.loop-at.proof c.delete_learned.new.proof _ (λ _ _. TriesToDelete c.in_ok-deleted.deleted c.index.result.now (session_of c.delete_learned.new.proof) c.loop-at.search c.delete_learned.new.search) _ i.came
           (goes_on g.W.CountedWrite.seen c.in_ok-deleted.deleted tt c.loop-at.proof c.delete_learned.new.proof _ _ (λ steps x. x) c.in_ok-deleted.ensures)
           (λ xs ys y a b. reduced_trans (session_of c.loop-at.proof) (session_of c.delete_learned.new.proof) c.args.search.now c.loop-at.search c.delete_learned.new.search a
           (reduced_deleted c.in_ok-deleted.deleted c.index.result.now (session_of c.delete_learned.new.proof) c.loop-at.search c.delete_learned.new.search b));

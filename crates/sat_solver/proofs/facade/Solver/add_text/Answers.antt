@@ -3,10 +3,10 @@ use Rattle.std.proofs.Common.{◌≡◌, ◌+◌, ℕ, List, [], ◌++◌, false
 use Rattle.std.proofs.lemmas.Result.{err_from_is_err_and}
 use Rattle.sat_base.specs.device.Device.{GavePrefix}
 use Rattle.sat_base.specs.text.Text.{HasEnded}
-use Rattle.sat_base.specs.dimacs.Parsing.{Progress, IsSoundSoFar, EndsInLastPiece}
+use Rattle.sat_base.specs.dimacs.Parsing.{Progress, HasNoFaultSoFar, EndsInLastPiece, LastReadGaveBytes}
 use Rattle.sat_base.proofs.lemmas.device.Given.{gave_none, gave_more, gave_still, not_ended, few_front, calls_within, calls_upto}
 use Rattle.sat_base.proofs.lemmas.dimacs.Parsed.{stands_of, piece_given, sound_none}
-use Rattle.sat_base.proofs.lemmas.dimacs.ReadToEnd.{ReadToEnd, some_read, next_kept, next_within, read_to_end, read_front, stops_none, stops_after, short_piece}
+use Rattle.sat_base.proofs.lemmas.dimacs.ReadToEnd.{ReadToEnd, some_read, last_gave, last_at_end, next_kept, next_within, read_to_end, read_front, stops_none, stops_after, short_piece}
 use Rattle.sat_checker.proofs.lemmas.checker.Texts.{fed_of, goes_fed, no_clauses, sound_after}
 use Rattle.sat_solver.specs.facade.Formulas.{AddsAll}
 use Rattle.sat_solver.proofs.lemmas.facade.FormulaLemmas.{adds_going, piece_added, piece_answers, end_answers, read_answers}
@@ -28,6 +28,9 @@ module _ (g : Over) (c : In-Ok-eq0 g) where
   none_failed : (g.R.CountedRead.seen c.read_next.new.reader).failures ≡ (g.R.CountedRead.seen c.args.reader.now).failures
   none_failed = next_kept c.in-Ok-eq0.field-0 c.read_next.new.room c.loop.parser.fed _ _ c.in-Ok-eq0.ensures.reads ∙ c.loop.invariant.failures
 
+  gave_before_end : HasEnded c.loop.invariant.bytes.0 → LastReadGaveBytes (g.R.CountedRead.seen c.args.reader.now) (g.R.CountedRead.seen c.read_next.new.reader)
+  gave_before_end = last_at_end c.in-Ok-eq0.field-0 c.read_next.new.room c.loop.parser.fed c.loop.invariant.bytes.0 (g.R.CountedRead.seen c.args.reader.now) (g.R.CountedRead.seen c.loop.reader) (g.R.CountedRead.seen c.read_next.new.reader) c.in-Ok-eq0.ensures.reads (λ called. goes_fed _ c.loop.parser c.loop.invariant.bytes.1 (c.in-Ok-eq0.ensures.goes_on called)) c.loop.invariant.gave
+
 -- a piece was read
 module _ (g : Over) (c : In-Ok g) where
   abbrev piece : List ℕ
@@ -45,21 +48,28 @@ module _ (g : Over) (c : In-Ok g) where
   none_failed_yet : (g.R.CountedRead.seen c.read_next.new.reader).failures ≡ (g.R.CountedRead.seen c.args.reader.now).failures
   none_failed_yet = next_kept c.in-Ok.count c.read_next.new.room c.loop.parser.fed _ _ c.in-Ok.ensures.reads ∙ c.loop.invariant.failures
 
+  gave : LastReadGaveBytes (g.R.CountedRead.seen c.args.reader.now) (g.R.CountedRead.seen c.read_next.new.reader)
+  gave = last_gave c.in-Ok.count c.read_next.new.room c.loop.parser.fed (g.R.CountedRead.seen c.args.reader.now) (g.R.CountedRead.seen c.loop.reader) (g.R.CountedRead.seen c.read_next.new.reader) (search rules) c.in-Ok.ensures.reads
+
   stops : EndsInLastPiece (c.loop.invariant.bytes.0 ++ piece)
-  stops = stops_after _ piece (goes_fed _ c.loop.parser c.loop.invariant.bytes.1 (c.in-Ok.ensures.goes_on (search rules))) (short_piece c.in-Ok.count c.read_next.new.room (search rules) (search rules))
+  stops = stops_after _ piece (goes_fed _ c.loop.parser c.loop.invariant.bytes.1 (c.in-Ok.ensures.goes_on (omega (arith, once_more)))) (short_piece c.in-Ok.count c.read_next.new.room (search rules) (search rules))
 
 -- a read failed
 module _ (g : Over) (c : In-Err g) where
   still_read : GavePrefix (g.R.CountedRead.seen c.args.reader.now) (g.R.CountedRead.seen c.read_next.new.reader) c.loop.invariant.bytes.0
   still_read = gave_still _ _ (g.R.CountedRead.seen c.loop.reader) _ _ c.read_next.new.room c.loop.invariant.bytes.2 c.in-Err.ensures.reads
 
+  gave_before_fault : HasEnded c.loop.invariant.bytes.0 → LastReadGaveBytes (g.R.CountedRead.seen c.args.reader.now) (g.R.CountedRead.seen c.read_next.new.reader)
+  gave_before_fault ended = absurd (goes_fed _ c.loop.parser c.loop.invariant.bytes.1 (c.in-Err.ensures.goes_on (omega (arith, c.in-Err.ensures.reads.calls))) ended)
+
 pub loop-init : goal.loop-init
 loop-init g c = record {
   was = c.requires.going;
   going = c.requires.going;
   bytes = ([], stands_of [] c.args.parser.now c.requires.fresh, gave_none _, omega arith, ap (λ (z : Progress). z.taken) c.requires.fresh ∙ sym no_clauses, λ e. refl, stops_none);
-  sound = subst IsSoundSoFar (sym c.requires.fresh) sound_none;
+  sound = subst HasNoFaultSoFar (sym c.requires.fresh) sound_none;
   open_yet = λ h. absurd (omega arith);
+  gave = λ h. absurd (omega arith);
   failures = refl;
   calls = omega arith;
   added = subst (λ cs. AddsAll g.P.ProofProcessor.takes c.args.self.now cs c.args.self.now) (sym (ap (λ (z : Progress). z.taken) c.requires.fresh)) refl;
@@ -77,6 +87,7 @@ loop-preserved g c =
       bytes = (b.0 ++ piece g r, more.0, more_read g r, omega (arith, b.3, length-append b.0 (piece g r), piece_given c.in-Ok.count c.read_next.new.room (search rules) (search rules)), more.1, λ e. absurd (omega arith), stops g r);
       sound = sound_after c.feed-answer.result c.feed-answer.new.self c.add_read-in-Ok.new.parser a.2.0 c.feed-answer.ensures.sound c.in_ok-add_read-in-Ok.ensures.taken;
       open_yet = λ h. unended g r;
+      gave = gave g r;
       failures = none_failed_yet g r;
       calls = omega (arith, once_more g r, c.loop.invariant.calls);
       added = more.2;
@@ -116,16 +127,16 @@ returns-clause-adds g c = grind (arith, common_steps, few_front, read_answers)
 -- WHERE IT STOPPED
 
 pub returns-in-Ok-eq0-clause-stops : goal.returns-in-Ok-eq0-clause-stops
-returns-in-Ok-eq0-clause-stops g c = (_, read_front _ _ _ _ (all_read g (goal.at.returns-in-Ok-eq0-clause-stops g c).In-Ok-eq0), c.loop.invariant.bytes.6)
+returns-in-Ok-eq0-clause-stops g c = (_, read_front _ _ _ _ (all_read g (goal.at.returns-in-Ok-eq0-clause-stops g c).In-Ok-eq0), c.loop.invariant.bytes.6, gave_before_end g (goal.at.returns-in-Ok-eq0-clause-stops g c).In-Ok-eq0)
 
 pub returns-in_err-add_read-in-Ok-clause-stops : goal.returns-in_err-add_read-in-Ok-clause-stops
-returns-in_err-add_read-in-Ok-clause-stops g c = let r = (goal.at.returns-in_err-add_read-in-Ok-clause-stops g c).In-Ok in (_, more_read g r, stops g r)
+returns-in_err-add_read-in-Ok-clause-stops g c = let r = (goal.at.returns-in_err-add_read-in-Ok-clause-stops g c).In-Ok in (_, more_read g r, stops g r, λ ended. gave g r)
 
 pub returns-in-Err-clause-stops : goal.returns-in-Err-clause-stops
-returns-in-Err-clause-stops g c = (c.loop.invariant.bytes.0, still_read g (goal.at.returns-in-Err-clause-stops g c).In-Err, c.loop.invariant.bytes.6)
+returns-in-Err-clause-stops g c = (c.loop.invariant.bytes.0, still_read g (goal.at.returns-in-Err-clause-stops g c).In-Err, c.loop.invariant.bytes.6, gave_before_fault g (goal.at.returns-in-Err-clause-stops g c).In-Err)
 
 pub returns-clause-stops : goal.returns-clause-stops
-returns-clause-stops g c = let b = c.loop.invariant.bytes in (b.0, b.2, b.6)
+returns-clause-stops g c = let b = c.loop.invariant.bytes in (b.0, b.2, b.6, λ ended. c.loop.invariant.gave)
 
 -- HOW OFTEN IT WAS READ
 

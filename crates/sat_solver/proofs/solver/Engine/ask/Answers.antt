@@ -22,4 +22,4 @@ returns-clause-asks g c =
       | in-Sat w ↦ sat_apart s.state w.in-Sat.is
       | in-UnsatUnderAssumptions w ↦ core_apart s.state w.in-UnsatUnderAssumptions.is
     ] in
-    asked_in g.W.CountedWrite.seen s c.requires.whole apart c.take_assumptions.new.context c.take_assumptions.new.names c.args.lits.now c.take_assumptions.new.asked c.in_ok-take_assumptions.ensures.takes
+    asked_in g.W.CountedWrite.seen s c.requires.whole apart c.set_assumptions_in_search.new.context c.set_assumptions_in_search.new.names c.args.lits.now c.set_assumptions_in_search.new.asked c.in_ok-set_assumptions_in_search.ensures.takes

@@ -1,5 +1,5 @@
 use Rattle.std.proofs.Common.{◌≡◌, ◌∙◌, ◌++◌, refl, sym, ap}
-use Rattle.sat_solver.specs.solver.Failing.{failed_with}
+use Rattle.sat_solver.specs.solver.FailedEngine.{failed_with}
 use Rattle.sat_solver.proofs.lemmas.solver.ComingLemmas.{asking_ends, asking_starved, assumed_by, none_refused}
 use Rattle.sat_solver.proofs.lemmas.solver.ReportedLemmas.{names_reported}
 use Rattle.sat_solver.specs.variables.VariableRoom.{user_vars_in}

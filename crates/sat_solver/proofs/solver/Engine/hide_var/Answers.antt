@@ -2,7 +2,7 @@ use Rattle.std.proofs.Common.{[], ◌∷◌, refl, true}
 use Rattle.sat_solver.proofs.lemmas.solver.TakingLemmas.{none_took, names_broke, reported_fails}
 use Rattle.sat_solver.proofs.lemmas.solver.RenamedLemmas.{marked_asked, not_marked, others_kept, renamed, mode_ends}
 use Rattle.sat_solver.proofs.lemmas.variables.RoomLemmas.{said_room, said_none}
-use Rattle.sat_solver.specs.solver.Failing.{failed_with}
+use Rattle.sat_solver.specs.solver.FailedEngine.{failed_with}
 use Rattle.sat_solver.proofs.lemmas.solver.ReportedLemmas.{names_reported}
 use Rattle.sat_solver.proofs.solver.Engine.hide_var.Goals as goal
 

@@ -6,7 +6,7 @@ use Rattle.sat_solver.proofs.lemmas.solver.TakingLemmas.{none_took, names_broke}
 use Rattle.sat_solver.specs.solver.Whole.{steps_in}
 use Rattle.sat_solver.specs.proof.ProofView.{steps_of}
 use Rattle.sat_solver.proofs.lemmas.solver.RenamedLemmas.{next_name, renamed, new_fails, one_left, fault_left, reported_limit}
-use Rattle.sat_solver.specs.solver.Failing.{failed_with}
+use Rattle.sat_solver.specs.solver.FailedEngine.{failed_with}
 use Rattle.sat_solver.proofs.lemmas.solver.ReportedLemmas.{names_reported}
 use Rattle.sat_solver.proofs.solver.Engine.new_var.Goals as goal
 

@@ -2,7 +2,7 @@ use Rattle.std.proofs.Common.{◌<◌, ◌≡◌, Option, None, Some, false, [],
 use Rattle.std.specs.Prelude.{is_some}
 use Rattle.std.proofs.lemmas.Bool.{true≢false}
 use Rattle.sat_solver.specs.declared.config.SolverConfig.{SolverConfig}
-use Rattle.sat_solver.specs.clause.Activity.{AreDecays}
+use Rattle.sat_solver.specs.clause.Activity.{DecaysAreInRange}
 use Rattle.sat_base.specs.script.ScriptState.{initial_state}
 use Rattle.sat_solver.specs.proof.ProofView.{proof_listeners}
 use Rattle.sat_solver.specs.variables.Calls.{NamesAgree}
@@ -39,4 +39,4 @@ returns-clause-whole g c =
     c.new.ensures.steps c.new_search.ensures.search c.new_search.ensures.values c.new_search.ensures.globals
     (subst (λ (k : SolverConfig). 0 < k.reduce_locals_interval) e (omega arith)) (subst (λ (k : SolverConfig). 0 < k.reduce_mids_interval) e (omega arith))
     c.new-6.ensures.order c.new-6.ensures.globals c.new-7.ensures.items (subst (λ (k : SolverConfig). 0 < k.luby_restart_interval_scale) e (omega arith)) refl
-    (subst AreDecays e (omega arith, omega arith, omega arith, omega arith)) c.new.ensures.taking
+    (subst DecaysAreInRange e (omega arith, omega arith, omega arith, omega arith)) c.new.ensures.taking

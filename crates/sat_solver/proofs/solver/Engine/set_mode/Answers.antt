@@ -6,7 +6,7 @@ use Rattle.sat_solver.specs.solver.Whole.{steps_in}
 use Rattle.sat_solver.specs.proof.ProofView.{steps_of}
 use Rattle.sat_solver.proofs.lemmas.solver.RenamedLemmas.{marked_asked, not_marked, others_kept, renamed, mode_ends}
 use Rattle.sat_solver.proofs.lemmas.variables.RoomLemmas.{said_room, said_none}
-use Rattle.sat_solver.specs.solver.Failing.{failed_with}
+use Rattle.sat_solver.specs.solver.FailedEngine.{failed_with}
 use Rattle.sat_solver.proofs.lemmas.solver.ReportedLemmas.{names_reported}
 use Rattle.sat_solver.proofs.solver.Engine.set_mode.Goals as goal
 

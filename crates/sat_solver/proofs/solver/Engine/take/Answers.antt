@@ -1,7 +1,7 @@
 use Rattle.std.proofs.Common.{◌≡◌, Bool, subst}
 use Rattle.sat_solver.specs.declared.state.SatState.{SatState}
 use Rattle.sat_solver.specs.declared.state.SatState.TheVariants as states
-use Rattle.sat_solver.specs.solver.Taking.{TookClause}
+use Rattle.sat_solver.specs.solver.AddingToSearch.{ClauseAddedToSearch}
 use Rattle.sat_solver.proofs.lemmas.solver.ComingLemmas.{took_left, took_none}
 use Rattle.sat_solver.proofs.solver.Engine.take.Goals.{in-Unknown, in-Sat, in-UnsatUnderAssumptions, then-left, else-left}
 use Rattle.sat_solver.proofs.solver.Engine.take.Goals as goal
@@ -24,8 +24,8 @@ returns-clause-takes g c =
       | in-UnsatUnderAssumptions w ↦ core_apart s.state w.in-UnsatUnderAssumptions.is
     ] in
     elim c.if-left.branch [
-      | then-left w ↦ rw w.self-is (took_left g.W.CountedWrite.seen s c.requires.whole apart c.take_clause.new.context c.take_clause.new.names c.args.lits.now c.take_clause.new.loading
-          (subst (λ (l : Bool). TookClause g.W.CountedWrite.seen s.names c.take_clause.new.names s.context c.take_clause.new.context c.args.lits.now l) w.if-left.true c.in_ok-left.ensures.takes))
-      | else-left w ↦ rw w.self-is (took_none g.W.CountedWrite.seen s c.requires.whole apart c.take_clause.new.context c.take_clause.new.names c.args.lits.now c.take_clause.new.loading
-          (subst (λ (l : Bool). TookClause g.W.CountedWrite.seen s.names c.take_clause.new.names s.context c.take_clause.new.context c.args.lits.now l) w.if-left.false c.in_ok-left.ensures.takes))
+      | then-left w ↦ rw w.self-is (took_left g.W.CountedWrite.seen s c.requires.whole apart c.add_clause_to_search.new.context c.add_clause_to_search.new.names c.args.lits.now c.add_clause_to_search.new.loading
+          (subst (λ (l : Bool). ClauseAddedToSearch g.W.CountedWrite.seen s.names c.add_clause_to_search.new.names s.context c.add_clause_to_search.new.context c.args.lits.now l) w.if-left.true c.in_ok-left.ensures.takes))
+      | else-left w ↦ rw w.self-is (took_none g.W.CountedWrite.seen s c.requires.whole apart c.add_clause_to_search.new.context c.add_clause_to_search.new.names c.args.lits.now c.add_clause_to_search.new.loading
+          (subst (λ (l : Bool). ClauseAddedToSearch g.W.CountedWrite.seen s.names c.add_clause_to_search.new.names s.context c.add_clause_to_search.new.context c.args.lits.now l) w.if-left.false c.in_ok-left.ensures.takes))
     ]

@@ -2,15 +2,15 @@ use Rattle.std.proofs.Common.{Option, None, refl, subst}
 use Rattle.std.specs.Prelude.{◌-◌, MatchOption}
 use Rattle.sat_solver.specs.declared.schedule.RoundOutcome.{RoundOutcome}
 use Rattle.sat_solver.specs.schedule.Rounds.{LastRoundAnswers}
-use Rattle.sat_solver.specs.schedule.Solving.{Ended, Restarted, ReducedAt, RoundOf}
+use Rattle.sat_solver.specs.schedule.Solving.{AskEnds, Restarted, ReducedAt, RoundOf}
 use Rattle.sat_solver.proofs.lemmas.solver.FindingLemmas.{finds_by, breaks_by, searched_by}
 use Rattle.sat_solver.proofs.solver.find.find_answer.Goals as goal
 
 pub returns-in-Some-clause-finds : goal.returns-in-Some-clause-finds
-returns-in-Some-clause-finds g c = finds_by g.W.CountedWrite.seen c.args.names.now c.search.new.names c.args.context.now c.in-Some.outcome c.report.result c.search.new.context c.report.new.context c.report.new.reported.failed_core.items (c.search.new.rounds - c.args.clock.now.rounds) (subst (λ (o : Option RoundOutcome). MatchOption o (Unit {0}) (λ x. Ended g.W.CountedWrite.seen c.args.context.now c.args.names.now (c.search.new.rounds - c.args.clock.now.rounds - 1) x c.search.new.context c.search.new.names)) c.in-Some.is c.in_ok-found.ensures.ends) c.report.ensures
+returns-in-Some-clause-finds g c = finds_by g.W.CountedWrite.seen c.args.names.now c.search.new.names c.args.context.now c.in-Some.outcome c.report.result c.search.new.context c.report.new.context c.report.new.reported.failed_core.items (c.search.new.rounds - c.args.clock.now.rounds) (subst (λ (o : Option RoundOutcome). MatchOption o (Unit {0}) (λ x. AskEnds g.W.CountedWrite.seen c.args.context.now c.args.names.now (c.search.new.rounds - c.args.clock.now.rounds - 1) x c.search.new.context c.search.new.names)) c.in-Some.is c.in_ok-found.ensures.ends) c.report.ensures
 
 pub returns-in-Some-clause-breaks : goal.returns-in-Some-clause-breaks
-returns-in-Some-clause-breaks g c = breaks_by g.W.CountedWrite.seen c.args.names.now c.search.new.names c.args.context.now c.in-Some.outcome c.report.result c.search.new.context c.report.new.context c.report.new.reported.failed_core.items (subst (λ (o : Option RoundOutcome). MatchOption o (Unit {0}) (λ x. Ended g.W.CountedWrite.seen c.args.context.now c.args.names.now (c.search.new.rounds - c.args.clock.now.rounds - 1) x c.search.new.context c.search.new.names)) c.in-Some.is c.in_ok-found.ensures.ends) c.report.ensures
+returns-in-Some-clause-breaks g c = breaks_by g.W.CountedWrite.seen c.args.names.now c.search.new.names c.args.context.now c.in-Some.outcome c.report.result c.search.new.context c.report.new.context c.report.new.reported.failed_core.items (subst (λ (o : Option RoundOutcome). MatchOption o (Unit {0}) (λ x. AskEnds g.W.CountedWrite.seen c.args.context.now c.args.names.now (c.search.new.rounds - c.args.clock.now.rounds - 1) x c.search.new.context c.search.new.names)) c.in-Some.is c.in_ok-found.ensures.ends) c.report.ensures
 
 pub returns-in-None-clause-searched : goal.returns-in-None-clause-searched
 returns-in-None-clause-searched g c =

@@ -3,7 +3,7 @@ use Rattle.std.proofs.Common.{◌∙◌, ◌+◌, Ok, ap, subst, arith}
 use Rattle.std.proofs.lemmas.Result.{err_from_is_err_and}
 use Rattle.sat_solver.specs.proof.ProofView.{session_of}
 use Rattle.sat_solver.specs.declared.context.Search.{Search}
-use Rattle.sat_solver.specs.unit_simplify.Flat.{LeavesPairs}
+use Rattle.sat_solver.specs.unit_simplify.EmptyTrail.{LeavesPairs}
 use Rattle.sat_solver.proofs.lemmas.cdcl.GoingLemmas.{goes_none, goes_then, goes_then_fails, goes_on}
 use Rattle.sat_solver.proofs.lemmas.unit_simplify.StrengthenSearchLemmas.{pairs_go_on}
 use Rattle.sat_solver.proofs.unit_simplify.binary.delete_pairs_of.Goals as goal

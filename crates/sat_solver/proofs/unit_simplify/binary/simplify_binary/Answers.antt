@@ -6,7 +6,7 @@ use Rattle.sat_solver.specs.declared.context.Search.{Search}
 use Rattle.sat_parts.specs.parts.Frame.{RemovesBinaries}
 use Rattle.sat_parts.specs.parts.Words.{TrailWordExtends}
 use Rattle.sat_solver.specs.cdcl.Joint.{SameAssumedAndNames}
-use Rattle.sat_solver.specs.unit_simplify.Flat.{LeavesPairs, IsStrengthened}
+use Rattle.sat_solver.specs.unit_simplify.EmptyTrail.{LeavesPairs, IsStrengthened}
 use Rattle.sat_solver.proofs.lemmas.cdcl.GoingLemmas.{goes_none, goes_then, goes_then_fails, goes_on}
 use Rattle.sat_solver.proofs.lemmas.unit_simplify.StrengthenSearchLemmas.{pairs_begin, pairs_removed, may_remove, goes_leaves}
 use Rattle.sat_solver.proofs.unit_simplify.binary.simplify_binary.Goals as goal
@@ -29,7 +29,7 @@ returns g c =
     let i = c.loop-code.invariant in
     let x = c.args.search.now in
     let y : Search = record c.loop-code.search { parts = c.remove_binary.new.parts } in
-    let room = c.requires.search.valid.holds.below.asks.ranges.room in
+    let room = c.requires.search.valid.holds.below.propagation.ranges.room in
     let end : c.loop-code.code ≡ length c.args.search.now.parts.binary.implied = omega (arith, room, c.loop-code-test.false, c.loop-code.auto.code-end, ap (λ xs. length xs) c.assignment.ensures.values) in
     let leaves : SameAssumedAndNames (session_of c.args.proof.now) (session_of c.loop-code.proof) = goes_leaves g.W.CountedWrite.seen tt c.args.proof.now c.loop-code.proof _ i.went in
     let removed : RemovesBinaries c.args.search.now.parts c.remove_binary.new.parts = subst (λ (s : Search). RemovesBinaries s.parts c.remove_binary.new.parts) i.same c.remove_binary.ensures.removed in

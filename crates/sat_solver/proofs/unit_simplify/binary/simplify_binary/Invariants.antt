@@ -1,7 +1,7 @@
 use Rattle.std.proofs.Common.{◌≡◌, Ok}
 use Rattle.sat_solver.specs.proof.ProofView.{session_of}
 use Rattle.sat_solver.specs.cdcl.StepEffects.{EmitsSteps}
-use Rattle.sat_solver.specs.unit_simplify.Flat.{LeavesPairs}
+use Rattle.sat_solver.specs.unit_simplify.EmptyTrail.{LeavesPairs}
 use Rattle.sat_solver.proofs.unit_simplify.binary.simplify_binary.Given as goal
 
 abbrev pub invariant-loop-code : goal.invariant-loop-code

@@ -3,8 +3,8 @@ use Rattle.std.proofs.Common.{◌≡◌, ◌∙◌, ◌+◌, Some, false, true, 
 use Rattle.std.proofs.lemmas.Bool.{true≢false}
 use Rattle.sat_solver.specs.session.Session.{session_after}
 use Rattle.sat_solver.specs.variables.Variables.{global_at}
-use Rattle.sat_solver.specs.unit_simplify.Freed.{FreesSome}
-use Rattle.sat_solver.specs.unit_simplify.Freeing.{freed_search, MarksAtMost}
+use Rattle.sat_solver.specs.unit_simplify.FreedIndices.{FreesSome}
+use Rattle.sat_solver.specs.unit_simplify.FreedVars.{freed_search, MarksAtMost}
 use Rattle.std.proofs.lemmas.List.{get_or_default}
 use Rattle.sat_solver.proofs.lemmas.unit_simplify.FreedLemmas.{frees_none, frees_both, may_free_on, left_none, left_used, left_more}
 use Rattle.sat_solver.proofs.lemmas.unit_simplify.FreeingLemmas.{none_freed, frees_skipped}

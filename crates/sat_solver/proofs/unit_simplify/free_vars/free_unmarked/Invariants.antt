@@ -1,5 +1,5 @@
 use Rattle.std.proofs.Common.{◌≡◌, length}
-use Rattle.sat_solver.specs.unit_simplify.Freeing.{freed_below}
+use Rattle.sat_solver.specs.unit_simplify.FreedVars.{freed_below}
 use Rattle.sat_solver.proofs.unit_simplify.free_vars.free_unmarked.Given as goal
 
 abbrev pub invariant-loop-index : goal.invariant-loop-index

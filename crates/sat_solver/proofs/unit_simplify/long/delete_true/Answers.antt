@@ -10,11 +10,11 @@ use Rattle.sat_store.specs.clause.Header.{Header, is_learned}
 use Rattle.sat_solver.specs.declared.context.Scratch.{Scratch}
 use Rattle.sat_solver.specs.session.Session.{session_after, after, IsAllowedStep}
 use Rattle.sat_solver.specs.session.LiveClauses.{with_var}
-use Rattle.sat_solver.specs.session.Fits.{is_redundant}
+use Rattle.sat_solver.specs.session.Matching.{is_redundant}
 use Rattle.sat_solver.specs.cdcl.Joint.{global_in}
-use Rattle.sat_solver.specs.unit_simplify.Cuts.{deleted_step}
+use Rattle.sat_solver.specs.unit_simplify.StrengtheningSteps.{deleted_step}
 use Rattle.sat_solver.specs.declared.context.Search.{Search}
-use Rattle.sat_solver.specs.unit_simplify.Flat.{IsStrengthened, StrengthensClause}
+use Rattle.sat_solver.specs.unit_simplify.EmptyTrail.{IsStrengthened, StrengthensClause}
 use Rattle.sat_solver.proofs.lemmas.cdcl.GoingLemmas.{goes_starved, goes_step, goes_broken}
 use Rattle.sat_solver.proofs.lemmas.unit_simplify.StrengthenClauseLemmas.{strengthens_dropped}
 use Rattle.sat_solver.proofs.lemmas.unit_simplify.TrueLemmas.{true_goes, true_lighter}

@@ -8,7 +8,7 @@ use Rattle.sat_parts.proofs.lemmas.clause.ListLemmas.{place_in}
 use Rattle.sat_solver.specs.proof.ProofView.{session_of}
 use Rattle.sat_parts.proofs.lemmas.parts.ReduceLemmas.{in_filter}
 use Rattle.sat_solver.proofs.lemmas.cdcl.GoingLemmas.{goes_none, goes_then, goes_then_fails, goes_on}
-use Rattle.sat_solver.specs.unit_simplify.Flat.{IsStrengthened, StrengthensClause, StrengthensAll, AreOpenTo}
+use Rattle.sat_solver.specs.unit_simplify.EmptyTrail.{IsStrengthened, StrengthensClause, StrengthensAll, AreOpenTo}
 use Rattle.sat_solver.proofs.lemmas.unit_simplify.StrengthenSearchLemmas.{strengthened_refl, strengthened_trans}
 use Rattle.sat_solver.proofs.lemmas.unit_simplify.WalkLemmas.{to_none, to_more, to_skip, to_all}
 use Rattle.sat_solver.proofs.unit_simplify.long.simplify_clauses.Goals as goal
@@ -21,7 +21,7 @@ header-requires g c =
     let p = c.loop-at.search.parts in
     let e = ap (λ (xs : List ℕ). length xs) c.loop-at.invariant.went.ends.refs in
     let lt : c.loop-at.at < length c.loop-at.search.parts.db.refs = omega (arith, e, c.loop-at-test.true, c.len-at-end.ensures) in
-    c.loop-at.invariant.went.ends.search.valid.holds.below.held.holds_clauses.clauses c.cref-cref.result (subst (λ z. Contains p.db.refs z) (sym c.cref-cref.ensures) (place_in p.db.refs c.loop-at.at lt))
+    c.loop-at.invariant.went.ends.search.valid.holds.below.db_matches.holds_clauses.clauses c.cref-cref.result (subst (λ z. Contains p.db.refs z) (sym c.cref-cref.ensures) (place_in p.db.refs c.loop-at.at lt))
 
 pub loop-at-preserved-then-deleted : goal.loop-at-preserved-then-deleted
 loop-at-preserved-then-deleted g c = grind (arith, common_steps, to_skip)
@@ -48,7 +48,7 @@ loop-at-preserved g c =
     record {
       went = goes_then g.W.CountedWrite.seen tt (Ok tt) c.args.proof.now c.loop-at.proof c.simplify_clause.new.proof _ (λ _ _. StrengthensClause (session_of c.simplify_clause.new.proof) c.loop-at.search c.simplify_clause.new.search c.cref-cref.result) _ c.loop-at.invariant.went c.in_ok-simplify_clause.ensures
           (λ xs ys y a b. strengthened_trans (session_of c.loop-at.proof) (session_of c.simplify_clause.new.proof) c.args.search.now c.loop-at.search c.simplify_clause.new.search a b.strengthened);
-      left = to_more c.args.search.now c.loop-at.search c.loop-at.at c.loop-at.invariant.left (session_of c.simplify_clause.new.proof) c.simplify_clause.new.search c.cref-cref.result lt c.requires.search.valid.holds.below.held.rising
+      left = to_more c.args.search.now c.loop-at.search c.loop-at.at c.loop-at.invariant.left (session_of c.simplify_clause.new.proof) c.simplify_clause.new.search c.cref-cref.result lt c.requires.search.valid.holds.below.db_matches.rising
           (c.cref-cref.ensures ∙ ap (λ (xs : List ℕ). get_or xs c.loop-at.at 0) c.loop-at.invariant.went.ends.refs) c.in_ok-simplify_clause.ensures.ends;
     }
 

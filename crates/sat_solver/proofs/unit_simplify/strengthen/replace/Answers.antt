@@ -2,7 +2,7 @@ use Rattle.std.proofs.Common.{ℕ, ◌∙◌, [], ◌∷◌, ap, subst, refl, ar
 use Rattle.sat_parts.specs.clause.Stored.{lit_of}
 use Rattle.sat_parts.specs.parts.Frame.{AddsOriginalClause}
 use Rattle.sat_parts.proofs.lemmas.parts.WordSteps.{extends_trans}
-use Rattle.sat_solver.specs.unit_simplify.Cutting.{puts_pair}
+use Rattle.sat_solver.specs.unit_simplify.Strengthening.{puts_pair}
 use Rattle.sat_solver.proofs.lemmas.unit_simplify.StrengthenClauseLemmas.{stores_two}
 use Rattle.sat_solver.proofs.unit_simplify.strengthen.replace.Goals as goal
 

@@ -1,6 +1,6 @@
 use Rattle.std.proofs.Common.{◌≡◌, sym, ◌∙◌, subst}
 use Rattle.sat_solver.specs.variables.Variables.{data_at, mode_for}
-use Rattle.sat_solver.specs.variables.Naming.{PutsMode}
+use Rattle.sat_solver.specs.variables.Naming.{StoresMode}
 use Rattle.sat_solver.proofs.lemmas.variables.ModeChanges.{named_within, mode_kept, mode_set}
 use Rattle.sat_solver.proofs.variables.modes.set_global_mode.Goals as goal
 
@@ -14,5 +14,5 @@ returns-then-is_mode-clause-does g c =
 
 pub returns-clause-does : goal.returns-clause-does
 returns-clause-does g c = mode_set c.args.variables.now c.put_mode.new.self (g.W.StepLog.steps c.args.writer.now) (g.W.StepLog.steps c.step.new.self) c.args.user c.args.global c.args.sample c.requires.valid c.requires.named
-    (subst (PutsMode c.args.variables.now c.put_mode.new.self c.args.global) c.mode_of.ensures c.put_mode.ensures)
+    (subst (StoresMode c.args.variables.now c.put_mode.new.self c.args.global) c.mode_of.ensures c.put_mode.ensures)
     c.in_ok-step.ensures.steps

@@ -1,7 +1,7 @@
 use Rattle.std.proofs.lemmas.Grind.{common_steps}
 use Rattle.std.proofs.Common.{◌≡◌, ◌<◌, ◌≤◌, ◌∙◌, List, false, length, get_or, set, ap, sym, arith, subst}
 use Rattle.sat_store.specs.declared.vsids.heap.Entry.{Entry}
-use Rattle.sat_store.specs.heap.Heap.{IsHeap, flags}
+use Rattle.sat_store.specs.heap.Heap.{IsHeap, available_by_var}
 use Rattle.sat_store.specs.heap.Vsids.{Queue, is_available}
 use Rattle.sat_store.proofs.lemmas.heap.FlagLemmas.{flags_count}
 use Rattle.sat_store.proofs.lemmas.heap.QueueLemmas.{keyed, keyed_heap, keyed_keys, after_those, written_key, place_read}
@@ -20,7 +20,7 @@ invariant_of-self c =
     let is : get_or p v 0 ≡ at = place_read p c.index.result v at (omega (arith, within, c.index.ensures.value, heap.placed.count)) c.index.ensures.value c.index-2.ensures in
     let there : at < length h = omega (arith, is, heap.placed.placed v within) in
     let written : set h at (record { key = 0; var = c.index_mut.result.now.var }) ≡ keyed h at 0 = written_key h at 0 c.index_mut.result.now there c.index_mut.ensures.value in
-    let flag : get_or (flags m p) v false ≡ false = ap (λ (q : Queue). is_available q v) c.self.view_is ∙ c.requires.unavailable in
+    let flag : get_or (available_by_var m p) v false ≡ false = ap (λ (q : Queue). is_available q v) c.self.view_is ∙ c.requires.unavailable in
     let following : m ≤ get_or p v 0 = after_those p m v (omega (arith, within, heap.placed.count)) flag in (
       subst (λ (x : List Entry). IsHeap x p m) (sym written) (keyed_heap h p m v at 0 heap within is (omega (arith, is, following)) (omega arith)),
       c.self.invariant.1,

@@ -1,5 +1,5 @@
 use Rattle.std.proofs.Common.{◌∷◌, ◌++◌, [], ℕ, ◌∙◌, subst, arith, length-append}
-use Rattle.sat_store.specs.heap.Heap.{Placed, IsHeap}
+use Rattle.sat_store.specs.heap.Heap.{PositionsMatch, IsHeap}
 use Rattle.sat_store.proofs.lemmas.heap.QueueLemmas.{newcomer, grown_heap, grown_placed, one_more_added}
 use Rattle.sat_store.proofs.vsids.heap.add_variables.Goals as goal
 
@@ -11,7 +11,7 @@ loop-index-preserved c =
     let p = c.loop-index.positions.items in
     rw (c.push_reserved.ensures.items, c.push_reserved-in-loop-index.ensures.items) record {
       heap = λ m heap. subst (λ (x : ℕ). IsHeap (h ++ newcomer x ∷ []) (p ++ x ∷ []) m) before.count (grown_heap h p m (before.heap m heap) (omega (arith, before.count, c.requires.few)));
-      placed = subst (λ (x : ℕ). Placed (h ++ newcomer x ∷ []) (p ++ x ∷ [])) before.count (grown_placed h p before.placed);
+      placed = subst (λ (x : ℕ). PositionsMatch (h ++ newcomer x ∷ []) (p ++ x ∷ [])) before.count (grown_placed h p before.placed);
       adds = one_more_added c.args.heap.now.items h c.args.positions.now.items p i (omega (arith, c.loop-index.auto.index)) before.count before.placed before.adds;
       count = omega (arith, length-append h (newcomer i ∷ []), before.count);
       counts = omega (arith, length-append p (i ∷ []), before.counts);

@@ -1,7 +1,7 @@
 use Rattle.std.proofs.Common.{◌≡◌, ◌≢◌, ◌<◌, ◌∙◌, length, get_or, set, refl, sym, arith, subst}
 use Rattle.std.proofs.lemmas.List.{get_or_read, length-set}
 use Rattle.sat_store.specs.declared.vsids.heap.Entry.{Entry}
-use Rattle.sat_store.specs.heap.Heap.{no_entry, rank_at, FirstAbove, Exchanged}
+use Rattle.sat_store.specs.heap.Heap.{no_entry, rank_at, FirstChildRanksAbove, SwapsEntries}
 use Rattle.sat_store.proofs.lemmas.heap.OrderLemmas.{down_step}
 use Rattle.sat_store.proofs.lemmas.heap.MoveLemmas.{full_again, not_moved, written_listed, child_is_above, child_is_first, exchanged_by_moving, one_more_exchanged}
 use Rattle.sat_store.proofs.vsids.heap.sift_down.Goals as goal
@@ -37,11 +37,11 @@ loop-child-preserved c =
     let b = c.in-Some.child.entry in
     let within : hole < length h = omega (arith, before.within, before.count, c.requires.within) in
     let above = rw c.deref.ensures.value at c.in-Some.ensures in
-    let f : FirstAbove h m e hole child = above.0 in
+    let f : FirstChildRanksAbove h m e hole child = above.0 in
     let differ : hole ≢ child = omega (arith, f.some) in
     let in_child : child < length h = omega (arith, f.within, before.count, c.requires.within) in
     let is : b ≡ get_or h child no_entry = above.1.1 in
-    let ex : Exchanged (set h hole e) (set p e.var hole) (set (set h hole b) child e) (set (set p b.var hole) e.var child) hole child =
+    let ex : SwapsEntries (set h hole e) (set p e.var hole) (set (set h hole b) child e) (set (set p b.var hole) e.var child) hole child =
     exchanged_by_moving h p e b hole child before.same.placed within in_child differ is in
     let b_var : b.var < length h = subst (λ (x : Entry). x.var < length h) (sym is) (before.listed child in_child) in
     rw (c.put.ensures.heap, c.put.ensures.positions) record {

@@ -2,7 +2,7 @@ use Rattle.std.proofs.Common.{◌≡◌, ◌≢◌, ◌<◌, ◌≤◌, ◌∙�
 use Rattle.std.proofs.lemmas.Bool.{cases_lt, false≢true}
 use Rattle.std.proofs.lemmas.List.{get_or_read, length-set}
 use Rattle.sat_store.specs.declared.vsids.heap.Entry.{Entry}
-use Rattle.sat_store.specs.heap.Heap.{no_entry, rank, rank_at, parent, Exchanged}
+use Rattle.sat_store.specs.heap.Heap.{no_entry, rank, rank_at, parent, SwapsEntries}
 use Rattle.sat_store.proofs.lemmas.heap.OrderLemmas.{up_step, up_done}
 use Rattle.sat_store.proofs.lemmas.heap.MoveLemmas.{full_again, not_moved, written_listed, rank_there, rank_elsewhere, exchanged_by_moving, one_more_exchanged}
 use Rattle.sat_store.proofs.vsids.heap.sift_up.Goals as goal
@@ -40,7 +40,7 @@ loop-above-preserved c =
     let in_above : parent hole < length h = omega (arith, within) in
     let differ : hole ≢ parent hole = omega (arith, goes.0) in
     let is : b ≡ _ = get_or_read h (parent hole) b in_above c.index-other.ensures no_entry in
-    let ex : Exchanged (set h hole e) (set p e.var hole) (set (set h hole b) (parent hole) e) (set (set p b.var hole) e.var (parent hole)) hole (parent hole) =
+    let ex : SwapsEntries (set h hole e) (set p e.var hole) (set (set h hole b) (parent hole) e) (set (set p b.var hole) e.var (parent hole)) hole (parent hole) =
     exchanged_by_moving h p e b hole (parent hole) before.same.placed within in_above differ is in
     let b_var : b.var < length h = subst (λ (x : Entry). x.var < length h) (sym is) (before.listed (parent hole) in_above) in
     let above : rank_at (set h hole e) (parent hole) < rank_at (set h hole e) hole = omega (arith, rank_there h hole e within, rank_elsewhere h hole (parent hole) e (λ s. differ (sym s)), goes.1) in

@@ -14,14 +14,14 @@ sift_up-requires-clause-up c =
     let h = c.args.heap.now.items in
     let new = c.exchange.new.heap.items in
     let at = c.args.at in
-    let up = c.if-goes_up.ensures.0 refl in
+    let up = c.if-ranks_above_parent.ensures.0 refl in
     let within : at < length new = omega (arith, c.requires.at, c.requires.heap.within, c.exchange.ensures.count) in
     let is : c.index.result.now ≡ _ = get_or_read new at c.index.result.now within c.index.ensures no_entry in
     let above : rank_at new (parent at) < rank_at new at = subst (λ (x : Entry). rank_at new (parent at) < rank x) is (rw c.deref.ensures.value at up.1) in
     taken_up (rank_at h) (rank_at new) (c.args.available - 1) at up.0 (omega arith) c.exchange.ensures.ranks above (one_fewer (rank_at h) c.args.available (omega arith) c.requires.heap.ordered)
 
-pub returns-then-goes_up-clause-flags : goal.returns-then-goes_up-clause-flags
-returns-then-goes_up-clause-flags c = c.sift_up.ensures.same.flags ∙ taken_flags c.args.heap.now.items c.args.positions.now.items c.exchange.new.positions.items c.args.available c.args.at c.requires.heap.placed c.requires.at c.requires.heap.within c.exchange.ensures.places
+pub returns-then-ranks_above_parent-clause-flags : goal.returns-then-ranks_above_parent-clause-flags
+returns-then-ranks_above_parent-clause-flags c = c.sift_up.ensures.same.flags ∙ taken_flags c.args.heap.now.items c.args.positions.now.items c.exchange.new.positions.items c.args.available c.args.at c.requires.heap.placed c.requires.at c.requires.heap.within c.exchange.ensures.places
 
 pub returns-clause-heap : goal.returns-clause-heap
 returns-clause-heap c =
@@ -31,7 +31,7 @@ returns-clause-heap c =
     let within : at < length new = omega (arith, c.requires.at, c.requires.heap.within, c.exchange.ensures.count) in
     let is : c.index.result.now ≡ _ = get_or_read new at c.index.result.now within c.index.ensures no_entry in
     let fits : 0 < at → rank_at new at ≤ rank_at new (parent at) = λ some. elim (cases_lt (rank_at new (parent at)) (rank_at new at)) [
-      | inl above ↦ absurd (false≢true (c.if-goes_up.ensures.1 (some, rw c.deref.ensures.value (subst (λ (x : Entry). rank_at new (parent at) < rank x) (sym is) above))))
+      | inl above ↦ absurd (false≢true (c.if-ranks_above_parent.ensures.1 (some, rw c.deref.ensures.value (subst (λ (x : Entry). rank_at new (parent at) < rank x) (sym is) above))))
       | inr below ↦ below
     ] in
     let down = taken_down (rank_at h) (rank_at new) (c.args.available - 1) at (omega arith) c.exchange.ensures.ranks fits (one_fewer (rank_at h) c.args.available (omega arith) c.requires.heap.ordered) in

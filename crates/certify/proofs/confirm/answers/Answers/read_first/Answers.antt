@@ -1,5 +1,5 @@
 use Rattle.std.proofs.Common.{List, ℕ, refl, sym, ◌∙◌, subst}
-use Rattle.certify.specs.answers.AnswerReading.{NoKind}
+use Rattle.certify.specs.answers.AnswerReading.{WhyNoFirstLine}
 use Rattle.certify.specs.declared.confirm.lines.Wanted.TheVariants as wanted
 use Rattle.certify.specs.confirm.Lines.{IsWantedLine, answers_source}
 use Rattle.certify.proofs.lemmas.confirm.Lines.{kind_read, kind_differs}
@@ -15,5 +15,5 @@ pub returns-in-Err : goal.returns-in-Err
 returns-in-Err g c =
     let a = answers_source g.A.CountedRead.seen c.args.answers.now c.args.self.now in
     let b = answers_source g.A.CountedRead.seen c.next_line.new.answers c.next_line.new.self in
-    rw c.unanswered.ensures
-    (kind_differs (IsWantedLine wanted.First c.args.self.now.due.items) a b c.next_line.new.self.lines.line.items c.requires.open_yet (λ k. (k, refl)) c.in-Err.fault (subst (λ (xs : List ℕ). NoKind xs c.in-Err.fault) c.deref.ensures.value c.in-Err.ensures) c.in_ok-next_line.ensures.line)
+    rw c.answer_stop.ensures
+    (kind_differs (IsWantedLine wanted.First c.args.self.now.due.items) a b c.next_line.new.self.lines.line.items c.requires.open_yet (λ k. (k, refl)) c.in-Err.fault (subst (λ (xs : List ℕ). WhyNoFirstLine xs c.in-Err.fault) c.deref.ensures.value c.in-Err.ensures) c.in_ok-next_line.ensures.line)

@@ -25,7 +25,7 @@ pub returns-in-Cut-clause-confirms : goal.returns-in-Cut-clause-confirms
 returns-in-Cut-clause-confirms g c =
     let x = (goal.at.returns-in-Cut-clause-confirms g c).After-await_ordered in
     let names = c.args.self.now.names in
-    expects_cut (due_of c.args.expected.now) names (old g x) (new g x) c.requires.open_yet c.excuse_unmet.result (rw c.in-Cut.is at (c.in_ok-await_ordered.ensures.confirms names)) c.excuse_unmet.ensures
+    expects_cut (due_of c.args.expected.now) names (old g x) (new g x) c.requires.open_yet c.require_optional.result (rw c.in-Cut.is at (c.in_ok-await_ordered.ensures.confirms names)) c.require_optional.ensures
 
 pub returns-in_err-why-clause-confirms : goal.returns-in_err-why-clause-confirms
 returns-in_err-why-clause-confirms g c =

@@ -1,6 +1,6 @@
 use Rattle.std.proofs.lemmas.Result.{err_from_is_err_and}
-use Rattle.certify.specs.confirm.Confirming.{table_of}
-use Rattle.certify.specs.confirm.ConfirmStates.{answers_in, stream_in}
+use Rattle.certify.specs.confirm.Confirming.{name_table_of}
+use Rattle.certify.specs.confirm.ConfirmStates.{answers_source_in, stream_in}
 use Rattle.certify.specs.confirm.Lines.{answers_source}
 use Rattle.certify.proofs.lemmas.confirm.ConfirmStateMet.{end_stops, end_goes, if_ok}
 use Rattle.certify.proofs.confirm.commands.ConfirmState.confirm_over.Goals as goal
@@ -17,7 +17,7 @@ returns-in_err-expect g c = record {
         same = c.in_err-expect.ensures.same;
         bound = c.in_err-expect.ensures.bound;
         goes_on = tt;
-        joins = end_stops n (table_of old.matching) c.expect.new.self.names (answers_in A c.args.answers.now old) (stream_in C c.args.steps.now old.matching) (stream_in C c.expect.new.steps new) c.requires.open_yet c.in_err-expect.field-0.0 c.in_err-expect.ensures.confirms;
+        joins = end_stops n (name_table_of old.matching) c.expect.new.self.names (answers_source_in A c.args.answers.now old) (stream_in C c.args.steps.now old.matching) (stream_in C c.expect.new.steps new) c.requires.open_yet c.in_err-expect.field-0.0 c.in_err-expect.ensures.confirms;
       });
 }
 
@@ -32,7 +32,7 @@ returns g c = record {
         same = c.in_ok-expect.ensures.same;
         bound = c.in_ok-expect.ensures.bound;
         goes_on = if_ok c.expect_over.result c.in_ok-expect.ensures.goes_on;
-        joins = end_goes n (table_of old.matching) c.expect.new.self.names (answers_in A c.args.answers.now old) (stream_in C c.args.steps.now old.matching) (stream_in C c.expect.new.steps new) c.requires.open_yet (answers_source A c.expect_over.new.answers c.expect_over.new.self) c.expect_over.result
+        joins = end_goes n (name_table_of old.matching) c.expect.new.self.names (answers_source_in A c.args.answers.now old) (stream_in C c.args.steps.now old.matching) (stream_in C c.expect.new.steps new) c.requires.open_yet (answers_source A c.expect_over.new.answers c.expect_over.new.self) c.expect_over.result
             c.requires.goes_on.open_yet c.in_ok-expect.ensures.goes_on.open_yet c.in_ok-expect.ensures.confirms c.expect_over.ensures;
       };
 }

@@ -1,7 +1,7 @@
 use Rattle.std.proofs.Common.{ℕ, ◌≡◌, ◌+◌, ◌^◌, ◌<◌, ◌≤◌, Ok, Err, [], ◌∷◌, true, false, ◌∙◌, ap, arith}
 use Rattle.std.proofs.lemmas.Result.{err_from_is_err_and}
-use Rattle.certify.specs.confirm.Confirming.{ConfirmsLast, ConfirmsNext, table_of}
-use Rattle.certify.specs.confirm.ConfirmStates.{answers_in, stream_in}
+use Rattle.certify.specs.confirm.Confirming.{ConfirmsRest, ConfirmsCommand, name_table_of}
+use Rattle.certify.specs.confirm.ConfirmStates.{answers_source_in, stream_in}
 use Rattle.certify.specs.script.Commands.{end_reading}
 use Rattle.certify.specs.confirm.VerdictPromises.{command_count}
 use Rattle.sat_base.specs.script.Language.{prepend_commands}
@@ -17,8 +17,8 @@ returns-in_err-confirm_next-clause-confirms g c w is =
     let old = c.args.self.now.session in
     let new = c.confirm_next.new.self.session in
     let k = c.in_err-confirm_next.ensures.confirms w is in
-    let a = answers_in A c.args.answers.now old in
-    let b = answers_in A c.confirm_next.new.answers new in
+    let a = answers_source_in A c.args.answers.now old in
+    let b = answers_source_in A c.confirm_next.new.answers new in
     let s = stream_in C c.args.steps.now old.matching in
     let u = stream_in C c.confirm_next.new.steps new.matching in
     let p = err_from_is_err_and c.from_residual.result c.from_residual.ensures.1 in
@@ -26,9 +26,9 @@ returns-in_err-confirm_next-clause-confirms g c w is =
       same = k.same;
       bound = k.bound;
       goes_on = tt;
-      joins = command_stops (old.number + 1) (old.number + 1 + 1) (table_of old.matching) (table_of new.matching) a b b s u u c.requires.open_yet c.requires.goes_on.open_yet (2 ^ 64 < old.number + 1 + command_count (prepend_commands (w ∷ []) (end_reading c.args.end))) w (end_reading c.args.end)
+      joins = command_stops (old.number + 1) (old.number + 1 + 1) (name_table_of old.matching) (name_table_of new.matching) a b b s u u c.requires.open_yet c.requires.goes_on.open_yet (2 ^ 64 < old.number + 1 + command_count (prepend_commands (w ∷ []) (end_reading c.args.end))) w (end_reading c.args.end)
           c.in_err-confirm_next.field-0.0
-          (joins_as (2 ^ 64 ≤ old.number + 1) (2 ^ 64 < old.number + 1 + command_count (prepend_commands (w ∷ []) (end_reading c.args.end))) true (Err c.in_err-confirm_next.field-0.0) a b s u (ConfirmsNext (old.number + 1) w (table_of old.matching) (table_of new.matching))
+          (joins_as (2 ^ 64 ≤ old.number + 1) (2 ^ 64 < old.number + 1 + command_count (prepend_commands (w ∷ []) (end_reading c.args.end))) true (Err c.in_err-confirm_next.field-0.0) a b s u (ConfirmsCommand (old.number + 1) w (name_table_of old.matching) (name_table_of new.matching))
           (λ m. let more = numbers_more w (end_reading c.args.end) in omega (arith, m, more)) k.joins);
     })
 
@@ -42,7 +42,7 @@ confirm_end-requires-clause-open_yet g c =
     let A = g.A.CountedRead.seen in
     let w = c.requires.whole in
     let k = c.in_ok-confirm_next.ensures.confirms w.0 w.1 in
-    took_open (answers_in A c.args.answers.now c.args.self.now.session) (answers_in A c.confirm_next.new.answers c.confirm_next.new.self.session) c.requires.open_yet k.joins.0
+    took_open (answers_source_in A c.args.answers.now c.args.self.now.session) (answers_source_in A c.confirm_next.new.answers c.confirm_next.new.self.session) c.requires.open_yet k.joins.0
 
 pub returns-clause-confirms : goal.returns-clause-confirms
 returns-clause-confirms g c w is =
@@ -51,9 +51,9 @@ returns-clause-confirms g c w is =
     let old = c.args.self.now.session in
     let mid = c.confirm_next.new.self.session in
     let new = c.confirm_end.new.self in
-    let a = answers_in A c.args.answers.now old in
-    let b = answers_in A c.confirm_next.new.answers mid in
-    let d = answers_in A c.confirm_end.new.answers new in
+    let a = answers_source_in A c.args.answers.now old in
+    let b = answers_source_in A c.confirm_next.new.answers mid in
+    let d = answers_source_in A c.confirm_end.new.answers new in
     let s = stream_in C c.args.steps.now old.matching in
     let u = stream_in C c.confirm_next.new.steps mid.matching in
     let v = stream_in C c.confirm_end.new.steps new.matching in
@@ -66,8 +66,8 @@ returns-clause-confirms g c w is =
       same = over.same ∙ k.same;
       bound = over.bound;
       goes_on = over.goes_on;
-      joins = command_end (old.number + 1) (mid.number + 1) (table_of old.matching) (table_of mid.matching) a b d s u v c.requires.open_yet c.requires.goes_on.open_yet M w (end_reading c.args.end) c.confirm_end.result (ap (λ (n : ℕ). n + 1) next)
-          (joins_as (2 ^ 64 ≤ old.number + 1) M true (Ok tt) a b s u (ConfirmsNext (old.number + 1) w (table_of old.matching) (table_of mid.matching)) (λ m. omega (arith, m, more)) k.joins)
-          (joins_as (2 ^ 64 < mid.number + 1 + command_count (end_reading c.args.end)) M false c.confirm_end.result b d u v (λ before following x y. ConfirmsLast (mid.number + 1) (end_reading c.args.end) (table_of mid.matching) before x)
+      joins = command_end (old.number + 1) (mid.number + 1) (name_table_of old.matching) (name_table_of mid.matching) a b d s u v c.requires.open_yet c.requires.goes_on.open_yet M w (end_reading c.args.end) c.confirm_end.result (ap (λ (n : ℕ). n + 1) next)
+          (joins_as (2 ^ 64 ≤ old.number + 1) M true (Ok tt) a b s u (ConfirmsCommand (old.number + 1) w (name_table_of old.matching) (name_table_of mid.matching)) (λ m. omega (arith, m, more)) k.joins)
+          (joins_as (2 ^ 64 < mid.number + 1 + command_count (end_reading c.args.end)) M false c.confirm_end.result b d u v (λ before following x y. ConfirmsRest (mid.number + 1) (end_reading c.args.end) (name_table_of mid.matching) before x)
           (λ m. omega (arith, m, more, next)) over.joins);
     }

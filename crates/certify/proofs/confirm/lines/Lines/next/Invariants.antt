@@ -1,5 +1,5 @@
 use Rattle.std.proofs.Common.{◌-◌, ◌<◌}
-use Rattle.sat_base.specs.device.Device.{most_reads}
+use Rattle.sat_base.specs.device.Device.{max_reads}
 use Rattle.sat_base.specs.device.Reading.{ConsumesBytes}
 use Rattle.certify.specs.confirm.Lines.{HasNoLf}
 use Rattle.certify.specs.script.LastPiece.{source_in}
@@ -13,4 +13,4 @@ invariant-loop-wanted g l = record {
 }
 
 abbrev pub decreases-loop-wanted : goal.decreases-loop-wanted
-decreases-loop-wanted g l = most_reads - l.self.ahead.reads
+decreases-loop-wanted g l = max_reads - l.self.ahead.reads

@@ -4,7 +4,7 @@ use Rattle.std.proofs.Common.{◌≡◌, ◌∷◌, ◌++◌, [], true, refl, sy
 use Rattle.std.specs.Prelude.{not}
 use Rattle.sat_base.specs.text.Text.{Number}
 use Rattle.sat_base.specs.script.Script.{Literal}
-use Rattle.sat_base.specs.script.Language.{Within, allows_sign}
+use Rattle.sat_base.specs.script.Language.{InCommand, allows_sign}
 use Rattle.certify.specs.script.Commands.{kind_of}
 use Rattle.certify.proofs.lemmas.script.Tokens.{fails, goes_on, turn_number, valid, misplaced, held_some}
 use Rattle.certify.proofs.script.commands.Commands.add_literal.Goals as goal
@@ -21,4 +21,4 @@ returns c value e hand h =
     let t = turn_number hand c.args.negative value (held_some value c.args.name e c.requires) in
     let new = record old { draft = c.add.new.self } in
     let holds = c.in_ok-add.ensures s.0 s.1 l (record { number = e; sign = refl }) s.2 in
-    (Within s.0 (s.1 ++ l ∷ []), holds, goes_on old new hand (Within s.0 (s.1 ++ l ∷ [])) (Number c.args.negative value) refl refl refl (t ∙ s.3))
+    (InCommand s.0 (s.1 ++ l ∷ []), holds, goes_on old new hand (InCommand s.0 (s.1 ++ l ∷ [])) (Number c.args.negative value) refl refl refl (t ∙ s.3))

@@ -1,6 +1,6 @@
 use Rattle.std.proofs.Common.{refl, []}
 use Rattle.sat_base.specs.text.Text.{Letter}
-use Rattle.sat_base.specs.script.Language.{Within}
+use Rattle.sat_base.specs.script.Language.{InCommand}
 use Rattle.certify.specs.script.Commands.{kind_of}
 use Rattle.certify.proofs.lemmas.script.Tokens.{fails, goes_on, letter_inside, letter_unknown, letter_begins}
 use Rattle.certify.proofs.script.commands.Commands.begin.Goals as goal
@@ -16,4 +16,4 @@ returns c hand h =
     let old = c.args.self.now in
     let kind = kind_of c.in-Some.kind in
     let next = letter_begins old.draft hand c.args.letter kind c.if-self.false h c.in-Some.ensures in
-    (Within kind [], c.begin.ensures, goes_on old (record old { draft = c.begin.new.self }) hand (Within kind []) (Letter c.args.letter) refl refl refl next)
+    (InCommand kind [], c.begin.ensures, goes_on old (record old { draft = c.begin.new.self }) hand (InCommand kind []) (Letter c.args.letter) refl refl refl next)

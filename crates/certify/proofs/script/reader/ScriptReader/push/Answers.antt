@@ -3,7 +3,7 @@ use Rattle.certify.specs.declared.script.Reached.{Reached}
 use Rattle.certify.specs.declared.script.Reached.TheVariants as reached
 use Rattle.certify.specs.declared.script.reader.ScriptReader.{ScriptReader}
 use Rattle.sat_base.specs.text.Tokenizing.{ReceivesPrefix}
-use Rattle.certify.specs.script.Commands.{TakesBytes}
+use Rattle.certify.specs.script.Commands.{ReceivesBytes}
 use Rattle.certify.specs.script.LastChunk.{ConsumesText}
 use Rattle.certify.proofs.lemmas.script.Bytes.{reader, bytes_go, bytes_take, bytes_wrong, followed_front, no_more}
 use Rattle.certify.proofs.lemmas.script.LastChunks.{consumes_front, consumes_prefix}
@@ -19,7 +19,7 @@ module _ (c : After-take_token-count) where
   within = no_more c.args.bytes.now c.loop-at.at c.take_token-count.result.0 c.loop-at.invariant.within c.take_token-count.ensures.within
 
   -- after those before
-  taken : (r : Reached) (new : ScriptReader) → TakesBytes r c.loop-at.self front new → TakesBytes r c.args.self.now (take (c.loop-at.at + c.take_token-count.result.0) c.args.bytes.now) new
+  taken : (r : Reached) (new : ScriptReader) → ReceivesBytes r c.loop-at.self front new → ReceivesBytes r c.args.self.now (take (c.loop-at.at + c.take_token-count.result.0) c.args.bytes.now) new
   taken r new t = followed_front r c.args.self.now c.loop-at.self new c.args.bytes.now c.loop-at.at c.take_token-count.result.0 c.loop-at.invariant.within c.take_token-count.ensures.within c.loop-at.invariant.taken t
 
   consumed : (next : _) (new : _) → ReceivesPrefix c.loop-at.self.tokenizer front c.take_token-count.result.1 next → ConsumesText c.args.self.now (take (c.loop-at.at + c.take_token-count.result.0) c.args.bytes.now) (reader next new)
@@ -29,7 +29,7 @@ module _ (c : After-take_token-count) where
 
 -- they end a token
 module _ (c : In_ok-take) where
-  took : (r : Reached) → c.in_ok-take.field-0 ≡ r → TakesBytes r c.args.self.now (take (c.loop-at.at + c.take_token-count.result.0) c.args.bytes.now) (reader c.take_token-count.new.tokenizer c.take.new.self)
+  took : (r : Reached) → c.in_ok-take.field-0 ≡ r → ReceivesBytes r c.args.self.now (take (c.loop-at.at + c.take_token-count.result.0) c.args.bytes.now) (reader c.take_token-count.new.tokenizer c.take.new.self)
   took r is =
       let x = (goal.at.In_ok-take c).After-take_token-count in
       taken x r (reader c.take_token-count.new.tokenizer c.take.new.self)

@@ -1,6 +1,6 @@
 use Rattle.std.proofs.Common.{◌-◌, ◌<◌, ◌≤◌, Bool, length, take}
-use Rattle.sat_base.specs.text.Chunks.{Follows}
-use Rattle.certify.specs.script.Commands.{CanContinue, MeansIf}
+use Rattle.sat_base.specs.text.Chunks.{LeadsByBytes}
+use Rattle.certify.specs.script.Commands.{CanContinue, ReaderMeansIf}
 use Rattle.certify.specs.script.LastChunk.{ConsumesText}
 use Rattle.certify.proofs.script.reader.ScriptReader.push.Given as goal
 
@@ -8,7 +8,7 @@ abbrev pub invariant-loop-at : goal.invariant-loop-at
 invariant-loop-at l = record {
   within : l.at ≤ length l.bytes;
   right : 0 < l.at → CanContinue l.self;
-  taken : (asks : Bool) → Follows (MeansIf asks) l.fn.self (take l.at l.bytes) l.self;
+  taken : (asks : Bool) → LeadsByBytes (ReaderMeansIf asks) l.fn.self (take l.at l.bytes) l.self;
   text : ConsumesText l.fn.self (take l.at l.bytes) l.self;
 }
 

@@ -29,3 +29,6 @@ returns-in-More-clause-stops g c = keeps_taken g.S.CountedRead.seen c.args.scrip
 
 pub returns-in-Command-clause-stops : goal.returns-in-Command-clause-stops
 returns-in-Command-clause-stops g c = keeps_taken g.S.CountedRead.seen c.args.script.now c.args.self.now c.take.new.self reached.Command (rw c.in-Command.is at c.in_ok-take.ensures)
+
+pub returns-in-Malformed-clause-stops : goal.returns-in-Malformed-clause-stops
+returns-in-Malformed-clause-stops g c = keeps_taken g.S.CountedRead.seen c.args.script.now c.args.self.now c.take.new.self reached.Malformed (rw c.in-Malformed.is at c.in_ok-take.ensures)

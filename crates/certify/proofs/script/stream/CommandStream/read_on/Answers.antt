@@ -6,3 +6,6 @@ pub returns-in-Some-clause-brings : goal.returns-in-Some-clause-brings
 returns-in-Some-clause-brings g c =
     let self = c.args.self.now in
     brings_over (source_in g.S.CountedRead.seen c.args.script.now self.ahead) self.reader c.in-Some.end c.requires.open_yet c.in-Some.ensures
+
+pub returns-in-Some-clause-stops : goal.returns-in-Some-clause-stops
+returns-in-Some-clause-stops g c start h = h

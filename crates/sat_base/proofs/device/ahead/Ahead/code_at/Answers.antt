@@ -1,7 +1,7 @@
 use Rattle.std.proofs.Common.{◌+◌, ◌*◌, ◌-◌, ◌/◌, ◌<◌, inl, inr, arith}
 use Rattle.std.proofs.lemmas.Bool.{cases_lt}
 use Rattle.std.proofs.lemmas.Grind.{common_steps}
-use Rattle.sat_base.specs.device.TakenAhead.{buffered_from}
+use Rattle.sat_base.specs.device.ConsumedAhead.{buffered_from}
 use Rattle.sat_base.proofs.lemmas.steps.NumbersAhead.{looked_at_none, looked_on, stands_last, stands_between}
 use Rattle.sat_base.proofs.device.ahead.Ahead.code_at.Goals as goal
 

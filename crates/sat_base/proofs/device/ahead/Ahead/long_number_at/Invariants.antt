@@ -1,5 +1,5 @@
 use Rattle.std.proofs.Common.{◌-◌}
-use Rattle.sat_base.specs.device.TakenAhead.{buffered_from}
+use Rattle.sat_base.specs.device.ConsumedAhead.{buffered_from}
 use Rattle.sat_base.proofs.lemmas.steps.NumbersAhead.{LookedAt}
 use Rattle.sat_base.proofs.device.ahead.Ahead.long_number_at.Given as goal
 

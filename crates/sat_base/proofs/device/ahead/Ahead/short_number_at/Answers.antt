@@ -1,5 +1,5 @@
 use Rattle.std.proofs.Common.{◌+◌, ◌*◌, ◌-◌, ◌^◌, inl, inr, arith}
-use Rattle.sat_base.specs.device.TakenAhead.{buffered_from}
+use Rattle.sat_base.specs.device.ConsumedAhead.{buffered_from}
 use Rattle.sat_base.proofs.lemmas.steps.NumbersAhead.{looked_at_none, looked_on, stands_last, positive_from}
 use Rattle.sat_base.proofs.device.ahead.Ahead.short_number_at.Goals as goal
 

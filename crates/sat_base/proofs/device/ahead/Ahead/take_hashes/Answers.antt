@@ -1,5 +1,5 @@
 use Rattle.std.proofs.Common.{refl, arith}
-use Rattle.sat_base.specs.steps.StepText.{IsHash}
+use Rattle.sat_base.specs.steps.StepText.{SpellsHash}
 use Rattle.sat_base.proofs.lemmas.steps.NumbersAhead.{encoded_shrinks}
 use Rattle.sat_base.proofs.lemmas.steps.TakenItems.{taken_more}
 use Rattle.sat_base.proofs.device.ahead.Ahead.take_hashes.Goals as goal
@@ -16,7 +16,7 @@ loop-taken-preserved c =
     let i = c.loop-taken.invariant in
     let p = c.push_reserved.ensures in
     record {
-      items = rw p.items (taken_more IsHash c.loop-taken.taken _ c.args.hashes.now.items c.loop-taken.hashes.items _ _ n.0 _ i.items n.1 n.2);
+      items = rw p.items (taken_more SpellsHash c.loop-taken.taken _ c.args.hashes.now.items c.loop-taken.hashes.items _ _ n.0 _ i.items n.1 n.2);
       some = omega arith;
       room = omega (arith, s, i.room, p.len, p.capacity);
       capacity = omega (arith, i.capacity, p.capacity);

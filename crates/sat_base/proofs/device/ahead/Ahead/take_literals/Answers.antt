@@ -1,5 +1,5 @@
 use Rattle.std.proofs.Common.{refl, arith}
-use Rattle.sat_base.specs.steps.StepText.{IsLiteral}
+use Rattle.sat_base.specs.steps.StepText.{SpellsLiteral}
 use Rattle.sat_base.proofs.lemmas.steps.NumbersAhead.{encoded_shrinks}
 use Rattle.sat_base.proofs.lemmas.steps.TakenItems.{taken_more}
 use Rattle.sat_base.proofs.device.ahead.Ahead.take_literals.Goals as goal
@@ -16,7 +16,7 @@ loop-taken-preserved c =
     let i = c.loop-taken.invariant in
     let p = c.push_reserved.ensures in
     record {
-      items = rw (p.items, c.from_code.ensures) (taken_more IsLiteral c.loop-taken.taken _ c.args.lits.now.items c.loop-taken.lits.items _ _ n.0 _ i.items n.1 n.2);
+      items = rw (p.items, c.from_code.ensures) (taken_more SpellsLiteral c.loop-taken.taken _ c.args.lits.now.items c.loop-taken.lits.items _ _ n.0 _ i.items n.1 n.2);
       some = omega arith;
       room = omega (arith, s, i.room, p.len, p.capacity);
       capacity = omega (arith, i.capacity, p.capacity);

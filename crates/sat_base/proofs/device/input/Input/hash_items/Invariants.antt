@@ -1,6 +1,6 @@
 use Rattle.std.proofs.Common.{◌≡◌, ◌<◌, ◌≤◌, ◌+◌}
 use Rattle.std.specs.Prelude.{vec_len, vec_capacity}
-use Rattle.sat_base.specs.steps.StepText.{IsHash}
+use Rattle.sat_base.specs.steps.StepText.{SpellsHash}
 use Rattle.sat_base.specs.device.ReadRoom.{unread_in}
 use Rattle.sat_base.specs.device.Reading.{source_of}
 use Rattle.sat_base.proofs.lemmas.steps.FormatReads.{Counted}
@@ -8,7 +8,7 @@ use Rattle.sat_base.proofs.device.input.Input.hash_items.Given as goal
 
 abbrev pub invariant-loop-left : goal.invariant-loop-left
 invariant-loop-left g l = record {
-  counted : Counted IsHash l.count l.left l.hashes.items (source_of g.R.CountedRead.seen l.fn.self) (source_of g.R.CountedRead.seen l.self);
+  counted : Counted SpellsHash l.count l.left l.hashes.items (source_of g.R.CountedRead.seen l.fn.self) (source_of g.R.CountedRead.seen l.self);
   list : vec_len l.hashes + unread_in l.self ≤ vec_capacity l.hashes;
   capacity : vec_capacity l.fn.hashes ≤ vec_capacity l.hashes;
   within : unread_in l.self < l.fn.self.room;

@@ -3,14 +3,14 @@ use Rattle.std.proofs.lemmas.Bool.Decides.{nat_tests}
 use Rattle.std.proofs.lemmas.Result.{err_from_is_err_and}
 use Rattle.sat_base.specs.declared.steps.error.StepError.{StepError}
 use Rattle.sat_base.specs.steps.Steps.{Step}
-use Rattle.sat_base.specs.steps.StepText.{AreLiterals}
-use Rattle.sat_base.specs.device.Reading.{Source, ReadsValue, FieldsAfter, source_of, valued}
+use Rattle.sat_base.specs.steps.StepText.{SpellsLiterals}
+use Rattle.sat_base.specs.device.Reading.{Source, ReadsValue, SpellsFieldsOfTag, source_of, map_result}
 use Rattle.sat_base.proofs.lemmas.steps.TagForms.{stops_following, clause_form, at_form, units_form, deletion_form, model_form, assumptions_form, failed_form}
 use Rattle.sat_base.proofs.device.input.Input.list_fields.Goals as goal
 
 -- after a tag with literals alone
 literals_stop : {X : Type 0} (tag : ℕ) (five ten : Bool) → nat_eq tag 5 ≡ five → nat_eq tag 10 ≡ ten → (nat_eq tag 5 ≡ false → nat_eq tag 10 ≡ false → 11 ≡ tag)
-    → (g : X → Step) (r : Result X StepError) (d e : StepError) (old new : Source) → r ≡ Err d → d ≡ e → ReadsValue AreLiterals (Err e) old new → ReadsValue (FieldsAfter tag) (valued g r) old new
+    → (g : X → Step) (r : Result X StepError) (d e : StepError) (old new : Source) → r ≡ Err d → d ≡ e → ReadsValue SpellsLiterals (Err e) old new → ReadsValue (SpellsFieldsOfTag tag) (map_result g r) old new
 literals_stop tag true ten f t other g r d e old new p q h = stops_following 5 tag _ _ clause_form g r d e old new p q (grind (arith, nat_tests)) h
 literals_stop tag false true f t other g r d e old new p q h = stops_following 10 tag _ _ model_form g r d e old new p q (grind (arith, nat_tests)) h
 literals_stop tag false false f t other g r d e old new p q h = stops_following 11 tag _ _ assumptions_form g r d e old new p q (sym (other f t)) h

@@ -3,7 +3,7 @@ use Rattle.std.specs.Prelude.{vec_len, vec_capacity}
 use Rattle.sat_base.specs.device.ReadRoom.{unread_in}
 use Rattle.sat_base.specs.device.Reading.{source_of}
 use Rattle.sat_base.specs.steps.Formats.{Both}
-use Rattle.sat_base.specs.steps.StepText.{IsLiteral, IsHash}
+use Rattle.sat_base.specs.steps.StepText.{SpellsLiteral, SpellsHash}
 use Rattle.sat_base.proofs.lemmas.device.ReadLemmas.{none_waits}
 use Rattle.sat_base.proofs.lemmas.device.RoomLemmas.{none_read, on_ok}
 use Rattle.sat_base.proofs.device.input.Input.unit_for.Goals as goal
@@ -11,7 +11,7 @@ use Rattle.sat_base.proofs.device.input.Input.unit_for.Goals as goal
 pub returns-then-most-eq0-clause-reads : goal.returns-then-most-eq0-clause-reads
 returns-then-most-eq0-clause-reads g c =
     let a = c.args.self.now.ahead.now in
-    none_read (Both IsLiteral IsHash) (source_of g.R.CountedRead.seen c.args.self.now) (none_waits a.at a.end a.piece (omega (arith, c.requires.room.fits, c.room_for-most.ensures.least, c.if-most-eq0.true))) ((0, 0), 0, (0 ∷ []), ((0 ∷ []), (0 ∷ []), ((omega arith, refl), omega arith), ((omega arith, refl), omega arith), refl))
+    none_read (Both SpellsLiteral SpellsHash) (source_of g.R.CountedRead.seen c.args.self.now) (none_waits a.at a.end a.piece (omega (arith, c.requires.room.fits, c.room_for-most.ensures.least, c.if-most-eq0.true))) ((0, 0), 0, (0 ∷ []), ((0 ∷ []), (0 ∷ []), ((omega arith, refl), omega arith), ((omega arith, refl), omega arith), refl))
 
 pub returns-clause-items : goal.returns-clause-items
 returns-clause-items g c =

@@ -3,8 +3,8 @@ use Rattle.sat_base.specs.declared.dimacs.parser.Parser.{Parser}
 use Rattle.sat_base.specs.declared.dimacs.clauses.Refusal.TheVariants as refusal
 use Rattle.sat_base.specs.dimacs.Collecting.{CollectsToken, token_of}
 use Rattle.sat_base.specs.dimacs.Dimacs.{Malformed, Limit}
-use Rattle.sat_base.specs.dimacs.Parsing.{Finishes}
-use Rattle.sat_base.specs.dimacs.ParserPlaces.{IsParser, progress_of}
+use Rattle.sat_base.specs.dimacs.Parsing.{FinishEffect}
+use Rattle.sat_base.specs.dimacs.ParserPlaces.{ParserInvariant, progress_of}
 use Rattle.sat_base.proofs.lemmas.dimacs.Feeding.{at_end_of, read_none, read_some, finish_parser, finish_answer, FaultAtEnd, finish_fails, finish_inside, finish_short}
 use Rattle.sat_base.proofs.dimacs.parser.Parser.finish.Goals as goal
 
@@ -12,13 +12,13 @@ pub returns-in_default-clause-parser : goal.returns-in_default-clause-parser
 returns-in_default-clause-parser c =
     let old = c.args.self.now in
     let g = c.requires.goes c.if-self.false in
-    subst IsParser (sym c.end.ensures.parser) (finish_parser old old g (read_none old c.requires g (c.in_default.ensures g.left_of g.valid)))
+    subst ParserInvariant (sym c.end.ensures.parser) (finish_parser old old g (read_none old c.requires g (c.in_default.ensures g.left_of g.valid)))
 
 pub returns-in_default-clause-answer : goal.returns-in_default-clause-answer
 returns-in_default-clause-answer c =
     let old = c.args.self.now in
     let g = c.requires.goes c.if-self.false in
-    subst (λ (p : Parser). Finishes c.end.result (progress_of old) (progress_of p)) (sym c.end.ensures.parser)
+    subst (λ (p : Parser). FinishEffect c.end.result (progress_of old) (progress_of p)) (sym c.end.ensures.parser)
     (finish_answer c.end.result old old g c.if-self.false (read_none old c.requires g (c.in_default.ensures g.left_of g.valid)) c.end.ensures.answer)
 
 pub returns-in-Ok-clause-parser : goal.returns-in-Ok-clause-parser
@@ -26,14 +26,14 @@ returns-in-Ok-clause-parser c =
     let old = c.args.self.now in
     let p : Parser = record old { clauses = c.take.new.self } in
     let g = c.requires.goes c.if-self.false in
-    subst IsParser (sym c.end-in-Ok.ensures.parser) (finish_parser old p g (read_some old p c.requires g c.in-Some.token refl refl (c.in-Some.ensures g.left_of g.valid) c.in-Ok.ensures.0 c.in-Ok.ensures.1))
+    subst ParserInvariant (sym c.end-in-Ok.ensures.parser) (finish_parser old p g (read_some old p c.requires g c.in-Some.token refl refl (c.in-Some.ensures g.left_of g.valid) c.in-Ok.ensures.0 c.in-Ok.ensures.1))
 
 pub returns-in-Ok-clause-answer : goal.returns-in-Ok-clause-answer
 returns-in-Ok-clause-answer c =
     let old = c.args.self.now in
     let p : Parser = record old { clauses = c.take.new.self } in
     let g = c.requires.goes c.if-self.false in
-    subst (λ (q : Parser). Finishes c.end-in-Ok.result (progress_of old) (progress_of q)) (sym c.end-in-Ok.ensures.parser)
+    subst (λ (q : Parser). FinishEffect c.end-in-Ok.result (progress_of old) (progress_of q)) (sym c.end-in-Ok.ensures.parser)
     (finish_answer c.end-in-Ok.result old p g c.if-self.false (read_some old p c.requires g c.in-Some.token refl refl (c.in-Some.ensures g.left_of g.valid) c.in-Ok.ensures.0 c.in-Ok.ensures.1) c.end-in-Ok.ensures.answer)
 
 at_malformed : (c : goal.After-line-in-Err-Malformed) → FaultAtEnd Malformed c.line-in-Err-Malformed.result c.args.self.now (at_end_of (record c.args.self.now { clauses = c.take.new.self }))

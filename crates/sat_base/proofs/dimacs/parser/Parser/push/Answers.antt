@@ -3,7 +3,7 @@ use Rattle.std.proofs.lemmas.List.{append-nil}
 use Rattle.sat_base.specs.declared.dimacs.clauses.Refusal.TheVariants as refusal
 use Rattle.sat_base.specs.declared.dimacs.parser.Parser.{Parser}
 use Rattle.sat_base.specs.dimacs.Collecting.{CollectsToken, token_of}
-use Rattle.sat_base.specs.dimacs.Parsing.{GoesWell, cut_short}
+use Rattle.sat_base.specs.dimacs.Parsing.{NeedsMemoryAt, stopped_by_memory}
 use Rattle.sat_base.specs.dimacs.ParserPlaces.{progress_of}
 use Rattle.sat_base.specs.dimacs.Dimacs.{Malformed, Limit}
 use Rattle.sat_base.proofs.lemmas.dimacs.Feeding.{pushed, push_none, push_some, push_short, fed_none, FaultAt, push_fails, push_wrong}
@@ -59,8 +59,8 @@ returns-in-Err-OutOfMemory-clause-answer c =
         byte = c.args.byte;
         following = [];
         whole = refl;
-        progress = ap cut_short (fed_none (progress_of old));
-        well = subst (λ (text : List ℕ). GoesWell text c.args.byte) (sym (append-nil old.history.fed))
+        progress = ap stopped_by_memory (fed_none (progress_of old));
+        well = subst (λ (text : List ℕ). NeedsMemoryAt text c.args.byte) (sym (append-nil old.history.fed))
             (push_short old taken c.args.byte c.in-Some.token c.requires.parser c.requires.open p (record { fed = refl; taken = refl }) e.1);
       },
     )

@@ -1,5 +1,5 @@
 use Rattle.std.proofs.Common.{ℕ, ◌+◌, ◌-◌, ◌<◌, ◌≡◌, length, get_or, map, drop, sym, ◌∙◌, ap, arith, Some}
-use Rattle.sat_checker.specs.announcements.Following.{followed_back}
+use Rattle.sat_checker.specs.announcements.Following.{with_causes}
 use Rattle.sat_checker.specs.inner.Reasons.{reason_in, conflict_at}
 use Rattle.sat_checker.specs.inner.SlotView.{literals_at}
 use Rattle.sat_checker.proofs.lemmas.announcements.Marking.{back_next, read_next, within_notes}
@@ -39,7 +39,7 @@ loop-done-preserved c =
     let r = c.index-reasons-count.result in
     record {
       followed = back_next c.args.clauses.now rs (k x) (n x) r (omega arith) (inside x) (there x) c.follow.new.self (conflict_at c.args.clauses.now (Some c.in-Some.place))
-          (c.in_ok-follow.ensures.followed (followed_back (map (reason_in c.args.clauses.now) (drop (n x) rs)) (conflict_at c.args.clauses.now (Some c.in-Some.place))) c.loop-done.invariant.followed);
+          (c.in_ok-follow.ensures.followed (with_causes (map (reason_in c.args.clauses.now) (drop (n x) rs)) (conflict_at c.args.clauses.now (Some c.in-Some.place))) c.loop-done.invariant.followed);
       looks = read_next c.args.clauses.now rs (k x) (n x) r (omega arith) (inside x) (there x) c.args.looks.now c.loop-done.looks c.follow.new.looks (length (literals_at c.args.clauses.now c.in-Some.place)) c.loop-done.invariant.looks c.follow.ensures.looks.most;
       rise = omega (arith, c.loop-done.invariant.rise, c.follow.ensures.looks.rise);
     }

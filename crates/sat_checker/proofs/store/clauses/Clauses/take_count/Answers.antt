@@ -8,11 +8,11 @@ use Rattle.sat_checker.proofs.store.clauses.Clauses.take_count.Goals as goal
 pub subtract-requires : goal.subtract-requires
 subtract-requires c =
     were_counted c.self.inside.slots c.args.self.now c.take_count.new.self c.self.inside.index c.self.inside.occurrences c.args.redundant c.args.place c.self.view_is c.requires.inside c.requires.some c.self.invariant.0 c.take_count.ensures
-    c.args.literals.now c.requires.literals (sym c.is_gone.ensures ∙ c.if-is_gone.true)
+    c.args.literals.now c.requires.literals (sym c.is_removed.ensures ∙ c.if-is_removed.true)
 
 pub invariant_of-self : goal.invariant_of-self
 invariant_of-self c =
-    let gone = sym c.is_gone.ensures ∙ c.if-is_gone.true in
+    let gone = sym c.is_removed.ensures ∙ c.if-is_removed.true in
     let kept =
     kept_removed c.self.inside.slots c.args.self.now c.take_count.new.self c.self.inside.index c.self.inside.occurrences c.args.redundant c.args.place c.self.view_is c.requires.inside c.requires.some c.self.invariant.0 c.take_count.ensures
     c.remove.new.self c.subtract.new.self c.args.literals.now c.remove.ensures c.requires.literals c.subtract.ensures gone in (
@@ -21,9 +21,9 @@ invariant_of-self c =
           ∙ sym (gone_removed c.self.inside.slots c.args.self.now c.take_count.new.self c.args.redundant c.args.place c.self.view_is c.requires.inside c.requires.some c.take_count.ensures gone),
     )
 
-pub invariant_of-self-else-is_gone : goal.invariant_of-self-else-is_gone
-invariant_of-self-else-is_gone c =
-    let there = sym c.is_gone.ensures ∙ c.if-is_gone.false in
+pub invariant_of-self-else-is_removed : goal.invariant_of-self-else-is_removed
+invariant_of-self-else-is_removed c =
+    let there = sym c.is_removed.ensures ∙ c.if-is_removed.false in
     let kept =
     kept_left c.self.inside.slots c.args.self.now c.take_count.new.self c.self.inside.index c.self.inside.occurrences c.args.redundant c.args.place c.self.view_is c.requires.inside c.requires.some c.self.invariant.0 c.take_count.ensures
     there in (

@@ -2,7 +2,7 @@ use Rattle.std.proofs.Common.{◌+◌, ◌<◌, ◌≡◌, ◌∷◌, ◌++◌, 
 use Rattle.std.proofs.lemmas.List.{length-set}
 use Rattle.std.specs.List.{AllByRecursion}
 use Rattle.sat_checker.specs.inner.PairView.{Indexed}
-use Rattle.sat_checker.specs.inner.LinkView.{listed_pairs, AreLinkedFrom, AreKeptPairs, IsLinkSet}
+use Rattle.sat_checker.specs.inner.LinkView.{listed_pairs, AreLinkedFrom, PairListsInvariant, SetsLink}
 use Rattle.sat_checker.specs.declared.store.links.Link.{Link}
 use Rattle.sat_checker.proofs.lemmas.pairs.Places.{only_after}
 use Rattle.sat_checker.proofs.lemmas.pairs.Changing.{linked_same, filed_before, kept_before, written}
@@ -22,11 +22,11 @@ invariant_of-self c =
     let old = c.self.inside.links.items in
     let above = subst (λ (x : Indexed). AllByRecursion (λ q. c.args.place < q.place) x.pairs) (sym c.self.view_is) c.requires.above in
     let inside : c.args.place < length c.self.inside.links.items = omega (arith, ap (λ (x : Indexed). x.places) c.self.view_is, c.requires.inside) in
-    let set = subst (λ ls. IsLinkSet c.args.place c.args.hash ls c.link_before.new.links) c.deref_mut-2.ensures.value c.link_before.ensures.set in
+    let set = subst (λ ls. SetsLink c.args.place c.args.hash ls c.link_before.new.links) c.deref_mut-2.ensures.value c.link_before.ensures.set in
     let count : length c.link_before.new.heads ≡ length c.self.inside.heads.items = c.link_before.ensures.heads ∙ ap length c.deref_mut.ensures.value in
     let places : length c.link_before.new.links ≡ length c.self.inside.links.items = ap length set.is ∙ length-set old c.args.place (record { hash = c.args.hash; next = set.next }) in
-    subst (λ hs. AreKeptPairs hs (take c.self.inside.links.len (links ++ drop (length links) old)) c.self.inside.shift) (sym (written c.self.inside.heads.len heads (drop (length heads) c.self.inside.heads.items) (omega (arith, count, c.self.inside.heads.ok.0))))
-    (subst (λ ls. AreKeptPairs c.link_before.new.heads ls c.self.inside.shift) (sym (written c.self.inside.links.len links (drop (length links) c.self.inside.links.items) (omega (arith, places, c.self.inside.links.ok.0))))
+    subst (λ hs. PairListsInvariant hs (take c.self.inside.links.len (links ++ drop (length links) old)) c.self.inside.shift) (sym (written c.self.inside.heads.len heads (drop (length heads) c.self.inside.heads.items) (omega (arith, count, c.self.inside.heads.ok.0))))
+    (subst (λ ls. PairListsInvariant c.link_before.new.heads ls c.self.inside.shift) (sym (written c.self.inside.links.len links (drop (length links) c.self.inside.links.items) (omega (arith, places, c.self.inside.links.ok.0))))
     (kept_before c.self.inside.heads.items heads old links c.self.inside.shift c.args.place c.args.hash c.self.invariant c.link_before.ensures.linked set count inside above))
 
 pub returns : goal.returns
@@ -36,7 +36,7 @@ returns c =
     let old = c.self.inside.links.items in
     let above = subst (λ (x : Indexed). AllByRecursion (λ q. c.args.place < q.place) x.pairs) (sym c.self.view_is) c.requires.above in
     let inside : c.args.place < length c.self.inside.links.items = omega (arith, ap (λ (x : Indexed). x.places) c.self.view_is, c.requires.inside) in
-    let set = subst (λ ls. IsLinkSet c.args.place c.args.hash ls c.link_before.new.links) c.deref_mut-2.ensures.value c.link_before.ensures.set in
+    let set = subst (λ ls. SetsLink c.args.place c.args.hash ls c.link_before.new.links) c.deref_mut-2.ensures.value c.link_before.ensures.set in
     let places : length c.link_before.new.links ≡ length c.self.inside.links.items = ap length set.is ∙ length-set old c.args.place (record { hash = c.args.hash; next = set.next }) in
     ap (λ (ls : List Link). record { pairs = listed_pairs ls; places = length ls }) (written c.self.inside.links.len links (drop (length links) c.self.inside.links.items) (omega (arith, places, c.self.inside.links.ok.0)))
     ∙ ap (λ ps. record { pairs = ps; places = length c.link_before.new.links }) (filed_before heads old links c.self.inside.shift c.args.place c.args.hash c.link_before.ensures.linked set inside above).is

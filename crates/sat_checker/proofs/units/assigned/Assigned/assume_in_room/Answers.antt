@@ -2,7 +2,7 @@ use Rattle.std.proofs.Common.{◌≤◌, ◌≡◌, ◌∙◌, true, false, [], 
 use Rattle.std.proofs.lemmas.List.{reverse-append, length-reverse}
 use Rattle.sat_base.proofs.lemmas.values.TableLemmas.{value_set}
 use Rattle.sat_checker.specs.LiteralSets.{is_among}
-use Rattle.sat_checker.specs.inner.Marks.{AreMarks, HoldsRoom}
+use Rattle.sat_checker.specs.inner.Marks.{AreMarks, CountsRoom}
 use Rattle.sat_checker.specs.inner.AssumedRoom.{LiteralsAndRoom}
 use Rattle.sat_checker.specs.declared.units.assigned.Mark.{Mark}
 use Rattle.sat_checker.specs.declared.units.assigned.Mark.TheVariants as mark
@@ -28,5 +28,5 @@ invariant_of-self c =
     let set = value_set (λ (m : Mark). m) c.self.inside.marks c.put.new.self mark.NoRoom mark.NoRoom mark.Assumed c.code.result c.args.lit refl c.code.ensures.value (c.put.ensures.set mark.NoRoom) in
     let are = newly_assumed c.self.inside.marks c.put.new.self ls room c.args.lit set fresh there c.self.invariant.0 in (
       subst (λ xs. AreMarks c.put.new.self xs room) (sym (ap reverse c.push_reserved.ensures.items ∙ reverse-append c.self.inside.trail.items (c.args.lit ∷ []))) are,
-      subst (λ n. HoldsRoom c.self.inside.count n room) (sym c.push_reserved.ensures.capacity) c.self.invariant.1,
+      subst (λ n. CountsRoom c.self.inside.count n room) (sym c.push_reserved.ensures.capacity) c.self.invariant.1,
     )

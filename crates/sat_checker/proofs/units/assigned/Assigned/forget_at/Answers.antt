@@ -4,7 +4,7 @@ use Rattle.std.proofs.lemmas.Bool.{eqb-true}
 use Rattle.std.proofs.lemmas.Grind.{get_or_default_zero}
 use Rattle.std.proofs.lemmas.List.{length-reverse, reverse-reverse}
 use Rattle.sat_checker.specs.LiteralSets.{is_among}
-use Rattle.sat_checker.specs.inner.Marks.{HoldsRoom}
+use Rattle.sat_checker.specs.inner.Marks.{CountsRoom}
 use Rattle.sat_checker.specs.inner.AssumedRoom.{LiteralsAndRoom}
 use Rattle.sat_checker.proofs.lemmas.sets.Distinct.{once_reversed}
 use Rattle.sat_checker.proofs.lemmas.sets.Order.{among-reverse}
@@ -29,7 +29,7 @@ invariant_of-self c =
     λ l e. among-reverse trail l ∙ ap (is_among trail) (eqb-true l x e) ∙ among_at trail c.args.place x inside c.swap_remove-lit.ensures.value in (
       marks_without c.self.inside.marks c.unmark.new.marks (reverse trail) (reverse rest) c.self.inside.room.literals (λ l. eqb l x) c.unmark.ensures.set without there
           (once_reversed rest (once_without trail rest c.args.place x inside c.swap_remove-lit.ensures.value c.swap_remove-lit.ensures.items once)) c.self.invariant.0,
-      subst (λ n. HoldsRoom c.self.inside.count n c.self.inside.room.literals) (sym c.swap_remove-lit.ensures.capacity) c.self.invariant.1,
+      subst (λ n. CountsRoom c.self.inside.count n c.self.inside.room.literals) (sym c.swap_remove-lit.ensures.capacity) c.self.invariant.1,
     )
 
 pub returns-clause-forgotten : goal.returns-clause-forgotten

@@ -5,7 +5,7 @@ use Rattle.std.proofs.lemmas.List.{length-reverse}
 use Rattle.sat_base.specs.values.Literals.{negated}
 use Rattle.sat_base.proofs.lemmas.values.TableLemmas.{value_set}
 use Rattle.sat_checker.specs.LiteralSets.{is_among}
-use Rattle.sat_checker.specs.inner.Marks.{mark_at, AreMarks, HoldsRoom}
+use Rattle.sat_checker.specs.inner.Marks.{mark_at, AreMarks, CountsRoom}
 use Rattle.sat_checker.specs.inner.AssumedRoom.{LiteralsAndRoom}
 use Rattle.sat_checker.specs.declared.units.assigned.Mark.{Mark}
 use Rattle.sat_checker.specs.declared.units.assigned.Mark.TheVariants as mark
@@ -36,11 +36,11 @@ invariant_of-self-2 c =
     let two = newly_roomy c.put.new.self c.put-2.new.self ls (negated l ∷ room) l second (or_from (eqb (negated l) l) (is_among room l) (ne_eqb (negated l) l (other l)) fresh) one in
     let whole : l ∷ negated l ∷ room ≡ c.and-self-inside.result.literals =
     sym (c.and-self-inside.ensures ∙ ap (λ x. x ∷ c.and-room.result.literals) c.code-6.ensures.value ∙ ap (λ xs. l ∷ xs) (c.and-room.ensures ∙ ap (λ x. x ∷ room) (c.code-5.ensures.value ∙ c.not-other.ensures))) in
-    let counted : HoldsRoom (c.self.inside.count + 2) (vec_capacity c.reserve.new.self) (l ∷ negated l ∷ room) = record {
+    let counted : CountsRoom (c.self.inside.count + 2) (vec_capacity c.reserve.new.self) (l ∷ negated l ∷ room) = record {
       exact = omega (arith, c.self.invariant.1.exact);
       enough = omega (arith, c.in_ok-reserve.ensures.ok, c.in_ok-reserve.ensures.len, c.len.ensures);
       paired = paired_more l room c.self.invariant.1.paired;
     } in (
       subst (λ xs. AreMarks c.put-2.new.self xs c.and-self-inside.result.literals) (ap reverse (sym c.reserve.ensures.items)) (subst (AreMarks c.put-2.new.self ls) whole two),
-      subst (HoldsRoom (c.self.inside.count + 2) (vec_capacity c.reserve.new.self)) whole counted,
+      subst (CountsRoom (c.self.inside.count + 2) (vec_capacity c.reserve.new.self)) whole counted,
     )

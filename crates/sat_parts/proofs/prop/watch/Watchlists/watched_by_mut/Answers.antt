@@ -1,13 +1,13 @@
 use Rattle.std.proofs.Common.{ℕ, List, [], get_or, ap, sym, refl, ◌∙◌}
 use Rattle.std.proofs.lemmas.List.{get_or_read}
 use Rattle.sat_parts.specs.declared.prop.watch.Watch.{Watch}
-use Rattle.sat_parts.specs.prop.WatchLists.{Watching, watches_of, widened}
+use Rattle.sat_parts.specs.prop.WatchLists.{WatchState, watches_of, with_lists_up_to}
 use Rattle.sat_parts.proofs.lemmas.prop.WidenLemmas.{wide_step, wide_at}
 use Rattle.sat_parts.proofs.prop.watch.Watchlists.watched_by_mut.Goals as goal
 
 pub returns : goal.returns
 returns c =
-    let made : List (List Watch) → Watching = λ ls. record { lists = ls; enabled = c.self.inside.enabled } in
+    let made : List (List Watch) → WatchState = λ ls. record { lists = ls; enabled = c.self.inside.enabled } in
     let x : List Watch = c.index_mut.result.now in (
       (
         refl,
@@ -21,8 +21,8 @@ returns c =
             get_or_read c.make_list.new.watches.items c.code-code.result x c.make_list.ensures.made c.index_mut.ensures.value []
             ∙ sym (wide_at c.self.inside.count c.make_list.new.watches.items c.code-code.result)
             ∙ ap (λ (ls : List (List Watch)). get_or ls c.code-code.result []) c.make_list.ensures.same
-            ∙ ap (λ (k : ℕ). get_or (widened c.self.inside.count c.self.inside.watches.items) k []) c.code-code.ensures.value
-            ∙ ap (λ (s : Watching). watches_of s.lists c.args.lit) c.self.view_is;
+            ∙ ap (λ (k : ℕ). get_or (with_lists_up_to c.self.inside.count c.self.inside.watches.items) k []) c.code-code.ensures.value
+            ∙ ap (λ (s : WatchState). watches_of s.lists c.args.lit) c.self.view_is;
         writes_back = tt;
       },
     )

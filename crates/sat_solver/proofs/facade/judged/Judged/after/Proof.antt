@@ -15,7 +15,7 @@ use denote.Signature.{plain, types_at, named_lft}
 use denote.Steps.{nothing}
 use denote.Triple.Entry.{alive}
 use denote.Triple.Walked.{Stays, walk_of, says, stay_dropped, Goes-dropped, ends_at}
-use Rattle.sat_solver.specs.facade.Judged.{state_after}
+use Rattle.sat_solver.specs.facade.Judged.{state_after_change}
 use Rattle.sat_solver.specs.contracts.facade.judged.Change as change
 use Rattle.sat_checker.proofs.lemmas.tally.Makers.{no_bytes, makes_empty}
 use Rattle.sat_solver.specs.contracts.facade.judged.Judged as judged
@@ -35,7 +35,7 @@ after_spec 𝓤 𝓛 𝓜 𝓡 wired =
     let vs = shr_vals a.0 in
     let us = shr_vals a.1.0 in
     let y : W.Ghost = ((κs, qs, bounds, a, (vs, (us, tt))), tt) in
-    let made : (judged.the_row).Denot = record { state = state_after a.1.0.now a.0.now.state } in
+    let made : (judged.the_row).Denot = record { state = state_after_change a.1.0.now a.0.now.state } in
     qed 𝓛 ((raw (alive 𝓛 f.signature κs qs) ⊛ ‵ (owns (types_at f.signature.params κs) a (vs, (us, tt)))) ∷ ‵ ftrue ∷ []) ∵
     split ! $ keep ! (0 ∷ []) $
     enter ! _ _ _ _ _ $ alloc_all ! (λ l. pass_all ! refl ((tt, tt), ((tt, tt), tt)) $

@@ -12,12 +12,12 @@ invariant_of-self-in-Err-clause-fed g c =
     let m = c.args.self.now in
     unlistened_fed g.P.ProofProcessor.takes m.lost m.own m.roll.items m.history.steps m.fed c.in-Some.own c.in-Some.is c.add_processor.new.self c.in-Err.error c.args.processor c.requires.begun c.requires.taking c.in-Err.ensures
 
-pub keep_cause-requires : goal.keep_cause-requires
-keep_cause-requires g c =
+pub store_cause-requires : goal.store_cause-requires
+store_cause-requires g c =
     let m = c.args.self.now in
     unlistened_cause g.P.ProofProcessor.takes m.lost m.own m.roll.items m.history.steps m.fed c.in-Some.own c.in-Some.is c.add_processor.new.self c.in-Err.error c.args.processor c.requires.begun c.requires.taking c.in-Err.ensures
 
 pub returns-in-Err-clause-listens : goal.returns-in-Err-clause-listens
 returns-in-Err-clause-listens g c =
     let m = c.args.self.now in
-    rw (c.keep_cause.ensures.fault, unlistened_why g.P.ProofProcessor.takes m.lost m.own m.roll.items m.history.steps m.fed c.in-Some.own c.in-Some.is c.add_processor.new.self c.in-Err.error c.args.processor c.requires.begun c.requires.taking c.in-Err.ensures, c.in-Some.is) refl
+    rw (c.store_cause.ensures.fault, unlistened_why g.P.ProofProcessor.takes m.lost m.own m.roll.items m.history.steps m.fed c.in-Some.own c.in-Some.is c.add_processor.new.self c.in-Err.error c.args.processor c.requires.begun c.requires.taking c.in-Err.ensures, c.in-Some.is) refl

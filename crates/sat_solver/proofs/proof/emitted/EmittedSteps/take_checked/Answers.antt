@@ -17,15 +17,15 @@ invariant_of-self-in-Err-clause-fed g c =
     let m = c.args.self.now in
     failed_fed g.P.ProofProcessor.takes m.lost m.own m.roll.items m.history.steps m.fed c.in-Some.own c.in-Some.is c.take.new.self c.in-Err.error (step_of c.args.step.now) c.and-self.result.steps c.and-self.ensures c.if-self-2.false c.requires.may c.in-Err.ensures.takes
 
-pub keep_cause-requires : goal.keep_cause-requires
-keep_cause-requires g c =
+pub store_cause-requires : goal.store_cause-requires
+store_cause-requires g c =
     let m = c.args.self.now in
     taken_cause g.P.ProofProcessor.takes m.lost m.own m.roll.items m.history.steps m.fed c.in-Some.own c.in-Some.is c.take.new.self c.in-Err.error (step_of c.args.step.now) c.if-self-2.false c.requires.may c.in-Err.ensures.takes
 
 pub returns-in-Err-clause-fails : goal.returns-in-Err-clause-fails
 returns-in-Err-clause-fails g c =
     let m = c.args.self.now in
-    (rw c.keep_cause.ensures.fault (taken_why g.P.ProofProcessor.takes m.lost m.own m.roll.items m.history.steps m.fed c.in-Some.own c.in-Some.is c.take.new.self c.in-Err.error (step_of c.args.step.now) c.and-self.result.steps c.and-self.ensures c.if-self-2.false c.requires.may c.in-Err.ensures.takes), c.keep_cause.ensures.kept)
+    (rw c.store_cause.ensures.fault (taken_why g.P.ProofProcessor.takes m.lost m.own m.roll.items m.history.steps m.fed c.in-Some.own c.in-Some.is c.take.new.self c.in-Err.error (step_of c.args.step.now) c.and-self.result.steps c.and-self.ensures c.if-self-2.false c.requires.may c.in-Err.ensures.takes), c.store_cause.ensures.kept)
 
 pub invariant_of-self-clause-may : goal.invariant_of-self-clause-may
 invariant_of-self-clause-may g c = may_more c.args.self.now.history.steps c.and-self.result.steps (step_of c.args.step.now) c.and-self.ensures c.requires.may

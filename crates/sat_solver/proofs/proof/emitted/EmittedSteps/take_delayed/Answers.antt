@@ -12,8 +12,8 @@ invariant_of-self-in-Err-clause-fed g c =
     let m = c.args.self.now in
     unreported_fed g.P.ProofProcessor.takes m.lost m.own m.roll.items m.history.steps m.fed c.in-Some.own c.in-Some.is c.take_delayed.new.self c.in-Err.error c.if-self.false c.in-Err.ensures.takes
 
-pub keep_cause-requires : goal.keep_cause-requires
-keep_cause-requires g c =
+pub store_cause-requires : goal.store_cause-requires
+store_cause-requires g c =
     let m = c.args.self.now in
     unreported_cause g.P.ProofProcessor.takes m.lost m.own m.roll.items m.history.steps m.fed c.in-Some.own c.in-Some.is c.take_delayed.new.self c.in-Err.error c.if-self.false c.in-Err.ensures.takes
 
@@ -25,4 +25,4 @@ returns-in-Ok-clause-reported g c =
 pub returns-in-Err-clause-fails : goal.returns-in-Err-clause-fails
 returns-in-Err-clause-fails g c =
     let m = c.args.self.now in
-    inl (rw c.keep_cause.ensures.fault (unreported_why g.P.ProofProcessor.takes m.lost m.own m.roll.items m.history.steps m.fed c.in-Some.own c.in-Some.is c.take_delayed.new.self c.in-Err.error c.if-self.false c.in-Err.ensures.takes), c.keep_cause.ensures.kept)
+    inl (rw c.store_cause.ensures.fault (unreported_why g.P.ProofProcessor.takes m.lost m.own m.roll.items m.history.steps m.fed c.in-Some.own c.in-Some.is c.take_delayed.new.self c.in-Err.error c.if-self.false c.in-Err.ensures.takes), c.store_cause.ensures.kept)

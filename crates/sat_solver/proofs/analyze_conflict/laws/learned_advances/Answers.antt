@@ -1,5 +1,0 @@
-use Rattle.sat_solver.proofs.lemmas.analyze_conflict.Advancing.{learned_advances}
-use Rattle.sat_solver.proofs.analyze_conflict.laws.learned_advances.Goals as goal
-
-pub returns : goal.returns
-returns c = learned_advances

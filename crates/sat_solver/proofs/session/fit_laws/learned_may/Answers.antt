@@ -1,5 +1,0 @@
-use Rattle.sat_solver.proofs.lemmas.fits.MayLemmas.{learned_may}
-use Rattle.sat_solver.proofs.session.fit_laws.learned_may.Goals as goal
-
-pub returns : goal.returns
-returns c = learned_may
