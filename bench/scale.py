@@ -115,7 +115,7 @@ def widths(n):
 
 
 def renames(n):
-    """A variable in every clause repeatedly gets another solver name."""
+    """One variable, which is in every clause, repeatedly gets another solver name."""
     return join(add([1, i + 2]) for i in range(n)) + join(solver_name(0, i % 2 * 5) for i in range(n)) + END
 
 

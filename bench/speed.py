@@ -90,7 +90,7 @@ def scale(text):
         mark = "**" if above else ""
         rows.append(f"| {what} | `{call}` | {size(int(count))} | {float(seconds):.2f} | {mark}{exponent}{mark} |")
     if any(row.endswith("| - |") for row in rows):
-        rows += ["", "An exponent `-`: the smallest of the three texts takes less than 0.01 s, too little for a fit."]
+        rows += ["", "An exponent of `-` means that the smallest of the three texts takes less than 0.01 s, too little for a fit."]
     return "\n".join(rows) + "\n"
 
 

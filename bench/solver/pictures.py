@@ -70,7 +70,7 @@ def averages(rows):
     """Prints the averages over the rows that count, one sentence each."""
     rows = [r for r in rows if r.counts()]
     run, minisat = lambda r: r.run, lambda r: r.minisat
-    print(f"All averages are geometric means over the same {len(rows)} formulas: those that every program finished, and on which `run` or MiniSat took at least {SHORT} s.\n")
+    print(f"Averages are geometric means over {len(rows)} formulas, or over the stated part of these. The {len(rows)} are the formulas that every program finished, and on which `run` or MiniSat took at least {SHORT} s.\n")
     all_mean, all_most = ratios(rows, run, minisat)
     print(f"- On average, `run` takes **{all_mean}** times MiniSat's time; at worst, {all_most}. In total, `run` takes {sum(map(run, rows)):.0f} s and MiniSat {sum(map(minisat, rows)):.0f} s.")
     for answer, word in (("UNSATISFIABLE", "unsatisfiable"), ("SATISFIABLE", "satisfiable")):
