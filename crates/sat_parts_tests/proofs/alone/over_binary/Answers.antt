@@ -5,7 +5,7 @@ use Rattle.sat_parts_tests.proofs.alone.over_binary.Goals as goal
 pub propagate_binary-requires-clause-agrees : goal.propagate_binary-requires-clause-agrees
 propagate_binary-requires-clause-agrees c =
     let s = state_of c.args.parts.now.assignment c.args.parts.now.graph c.args.parts.now.trail in
-    rw c.in-Some.ensures.next.1 (next_agrees s c.in-Some.lit c.requires.asks.agrees c.in-Some.ensures.next.0)
+    rw c.in-Some.ensures.next.1 (next_agrees s c.in-Some.lit c.requires.propagation.agrees c.in-Some.ensures.next.0)
 
 pub propagate_binary-requires-clause-left : goal.propagate_binary-requires-clause-left
 propagate_binary-requires-clause-left c =
@@ -15,4 +15,4 @@ propagate_binary-requires-clause-left c =
 pub propagate_binary-requires-clause-top : goal.propagate_binary-requires-clause-top
 propagate_binary-requires-clause-top c =
     let s = state_of c.args.parts.now.assignment c.args.parts.now.graph c.args.parts.now.trail in
-    rw c.in-Some.ensures.next.1 (next_top s c.in-Some.lit c.requires.asks.queue c.in-Some.ensures.next.0)
+    rw c.in-Some.ensures.next.1 (next_top s c.in-Some.lit c.requires.propagation.queue c.in-Some.ensures.next.0)
