@@ -16,16 +16,18 @@ The cubes that are still open are split, and make the next wave. `--engine` sele
 
     processes    processes of this machine
     parallel     GNU parallel; `--sshlogin` is passed on, and `--jobs` holds for each host
-    slurm        Slurm, with an array job for each wave; `--sbatch` has further options for `sbatch`
+    slurm        Slurm, with an array job for each wave; `--sbatch '--partition=P --mem=8G'` has further options for `sbatch`
 
 Hosts must see FOLDER and PROGRAM under the same paths. A run that was interrupted continues when it is called again, with any engine.
+If a run with Slurm is killed by `kill -9`, its job isn't cancelled: continue with Slurm, or cancel the job in slurm.job and remove this file.
 
 `--confirm` reads only FORMULA and FOLDER: it makes each script again, and `certify confirm` has to accept its answers. PROGRAM is by default
-the proved program, crates/certify_cli/out/certify_cli. The status is 0 if there is a result; otherwise the last line is `refused: REASON`, and the
-status is 1.
+the proved program, crates/certify_cli/out/certify_cli. The status is 0 if there is a result. If there is none, the last line is `refused: REASON`,
+and the status is 1. An interrupted run has the status 130, and a wrong call 2.
 
 FOLDER has wave-N.cubes, with the number of a script and a cube on each line; K.script, K.answers, K.certificate; K.said, which `confirm` said;
-K.log, the program's standard error; K.times, its processor times; and the same for `last`. Certificates take some 150 bytes for each round.
+K.log, the program's standard error; K.times, its processor times; and the same for `last`. slurm.log says which tasks Slurm has ended early.
+Certificates take some 150 bytes for each round.
 """
 import argparse
 import collections
@@ -361,7 +363,7 @@ class Slurm:
                 "--wrap", f"exec {shlex.join(self.call)} $((SLURM_ARRAY_TASK_ID + {before}))"]
         done = subprocess.run(call, capture_output=True, encoding="utf-8", check=False)
         if done.returncode:
-            raise Refused(f"sbatch: {done.stderr.strip()}")
+            raise Refused("; ".join(done.stderr.split("\n")[:-1]) or f"sbatch has the status {done.returncode}")
         self.job = done.stdout.split(";")[0].strip()
         self.folder.write("slurm.job", self.job + "\n")
 
@@ -398,8 +400,8 @@ class Progress:
     def show(self, scripts, now=False):
         if now or self.seconds() >= self.next:
             self.next = self.seconds() + (1 if self.is_terminal else 10)
-            texts = [self.folder.read(f"{script}.answers") for script in scripts if self.folder.has(f"{script}.answers")]
-            answered = sum(text.count("s UNSATISFIABLE\n") for text in texts)
+            names = [f"{script}.answers" for script, cubes in scripts.items() if cubes]
+            answered = sum(self.folder.read(name).count("s UNSATISFIABLE\n") for name in names if self.folder.has(name))
             open = sum(map(len, scripts.values())) - answered
             line = f"{open} open, {len(self.tree.cores) + answered} answered, {self.tree.splits} split; {self.seconds():.0f} s"
             print(f"\r{line}  " if self.is_terminal else line, end="" if self.is_terminal else "\n", file=sys.stderr, flush=True)
@@ -422,6 +424,17 @@ def with_model(folder, scripts):
     return None
 
 
+def last_words(folder, script, engine):
+    """Returns why a script isn't answered, as far as logs say it."""
+    def last_line(name):
+        lines = folder.read(name).splitlines() if folder.has(name) else []
+        return next((line.strip() for line in reversed(lines) if line.strip() and "] progress " not in line), "")
+
+    own, outer = last_line(f"{script}.log"), last_line("slurm.log") if isinstance(engine, Slurm) else ""
+    silent = "the program said nothing" if folder.has(f"{script}.log") else "it did not begin"
+    return own or silent + (f"; slurm.log ends with: {outer}" if outer else "")
+
+
 def answer(folder, engine, wave, scripts, progress):
     """Has the scripts of a wave answered and confirmed, or one that has a model."""
     for _ in range(3):
@@ -442,8 +455,7 @@ def answer(folder, engine, wave, scripts, progress):
             engine.stop()
     missing = [script for script in scripts if not folder.has(f"{script}.said")]
     if missing:
-        log = folder.read(f"{missing[0]}.log").strip() if folder.has(f"{missing[0]}.log") else "it did not begin"
-        raise Refused(f"script {missing[0]} isn't answered and confirmed: {log.splitlines()[-1] if log else 'the program said nothing'}")
+        raise Refused(f"script {missing[0]} isn't answered and confirmed: {last_words(folder, missing[0], engine)}")
 
 
 def said_yes(folder, script):
@@ -466,8 +478,8 @@ def next_scripts(tree, formula, folder, wave, options):
     return scripts
 
 
-def solve(formula, folder, engine, options, last_call):
-    """Answers cubes until none is open. Returns the result in words."""
+def solve(formula, folder, engine, last_engine, options):
+    """Answers cubes until none is open, and then the last script. Returns the result in words."""
     tree, waves = Tree(), []
     progress = Progress(folder, tree)
     while scripts := next_scripts(tree, formula, folder, len(waves) + 1, options):
@@ -482,7 +494,7 @@ def solve(formula, folder, engine, options, last_call):
             said_yes(folder, script)
             tree.add(cubes, folder.verdicts(script, cubes))
     folder.keep_script("last", negated(tree.cores))
-    subprocess.run(last_call, check=False)
+    answer(folder, last_engine, len(waves), {"last": []}, progress)
     said_yes(folder, "last")
     if folder.verdicts("last", [()]) != [[]]:
         raise Refused("the last script is not unsatisfiable")
@@ -503,7 +515,8 @@ def begin(formula, folder, program, options):
     folder.write("answer", ANSWER)
     call = ["sh", folder.at("answer"), folder.path, program]
     engine = ENGINES[options.engine](folder, [*call, str(options.steps)], options, lock)
-    return solve(formula, folder, engine, options, [*call, str(MOST_STEPS), "last"])
+    last_engine = Processes(folder, [*call, str(MOST_STEPS)], options, lock)
+    return solve(formula, folder, engine, last_engine, options)
 
 
 # Confirming.
@@ -532,6 +545,9 @@ def confirm(formula, folder, program, jobs):
         if folder.has(f"{script}.answers") and "s SATISFIABLE\n" in folder.read(f"{script}.answers"):
             confirmed(folder, program, script, formula.script(cubes))
             return f"satisfiable: the model in {script}.answers is confirmed"
+
+    if not folder.has("last.script"):
+        raise Refused("last.script is missing: the run hasn't ended")
 
     def cores(script):
         confirmed(folder, program, script, formula.script(scripts[script]))
@@ -599,6 +615,11 @@ class Trial:
 def write(path, text):
     with open(path, "w", encoding="ascii") as file:
         file.write(text)
+
+
+def write_program(path, lines):
+    write(path, f"#!/bin/sh\n{lines}\n")
+    os.chmod(path, 0o755)
 
 
 def edit(path, form, made, count=1):
@@ -683,10 +704,11 @@ def try_model(trial, clauses):
     trial.want(f"refused: the answers of {found}.script are not confirmed: no [0-9]+ AnswerDiffers", 1, "--confirm", "formula", "files")
 
 
-def interrupted(trial, engine, kind, scripts):
+def interrupted(trial, engine, kind, scripts, **options):
     """Interrupts a run once this many scripts are confirmed. Returns the times at which they were, or `None` if the run ended before."""
     words = ["--engine", engine, "--steps", "50", "--batch", "1", "--jobs", "2", "formula", "files", trial.program]
-    running = subprocess.Popen([sys.executable, __file__, *words], stdout=subprocess.DEVNULL, stderr=subprocess.DEVNULL)
+    silent = {"stdout": subprocess.DEVNULL, "stderr": subprocess.DEVNULL}
+    running = subprocess.Popen([sys.executable, __file__, *words], **silent, **options)
     while running.poll() is None:
         said = [name for name in os.listdir("files") if name.endswith(".said")] if os.path.exists("files") else []
         if len(said) >= scripts:
@@ -708,11 +730,22 @@ def try_engine(trial, engine, clauses):
             sys.exit(f"{engine}: the run ended before it was interrupted")
         kept = times | kept
         counts.append(len(kept))
+        trial.want("refused: last.script is missing: the run hasn't ended", 1, "--confirm", "formula", "files")
     trial.want("unsatisfiable: ", 0, "--engine", engine, "--steps", "50", "--batch", "1", "--jobs", "2", "formula", "files")
     trial.want("unsatisfiable: ", 0, "--confirm", "formula", "files")
     if any(os.stat("files/" + name).st_mtime_ns != when for name, when in kept.items()):
         sys.exit(f"{engine}: a script was answered again")
     return counts
+
+
+def try_hangup(trial, clauses):
+    """Hangs up on a run that ignores it, as under `nohup`."""
+    write("formula", "".join(spelt(clause) + "\n" for clause in clauses))
+    shutil.rmtree("files", ignore_errors=True)
+    ignore = lambda: signal.signal(signal.SIGHUP, signal.SIG_IGN)
+    kept = interrupted(trial, "processes", signal.SIGHUP, 3, preexec_fn=ignore)
+    if kept is None or not os.path.exists("files/last.said"):
+        sys.exit("a run that ignores SIGHUP was ended by it")
 
 
 def has_engine(engine):
@@ -733,11 +766,19 @@ def try_refusals(trial):
     write("formula", "".join(spelt([sign_1 * 1, sign_2 * 2]) + "\n" for sign_1 in (1, -1) for sign_2 in (1, -1)))
     trial.want("refused: the cube `1 0` isn't answered, and leaves no name", 1, "--steps", "1", "formula", "files-3")
     trial.want("unsatisfiable: ", 0, "--steps", "9", "formula", "files-4")
+    trial.want("refused: wave-1.cubes is missing", 1, "--confirm", "formula", "files-5")
+    program, trial.program = trial.program, "./failing"
     for line, form in (("echo 'certify: OutOfMemory' >&2", "certify: OutOfMemory"), ("", "the program said nothing")):
-        write("failing", f"#!/bin/sh\n{line}\nexit 3\n")
-        os.chmod("failing", 0o755)
-        trial.program = "./failing"
-        trial.want(f"refused: script 1 isn't answered and confirmed: {form}", 1, "formula", "files-5")
+        write_program("failing", f"{line}\nexit 3")
+        trial.want(f"refused: script 1 isn't answered and confirmed: {form}$", 1, "formula", "files-5")
+    write_program("failing", f'[ "$2" != last.script ] || exit 3\nexec {shlex.quote(program)} "$@"')
+    trial.want("refused: script last isn't answered and confirmed: the program said nothing", 1, "formula", "files-6")
+    if has_engine("slurm"):
+        write_program("failing", "scancel $SLURM_JOB_ID\nexec sleep 60")
+        form = "refused: script 1 isn't answered and confirmed: the program said nothing; slurm.log ends with: .*CANCELLED"
+        trial.want(form, 1, "--engine", "slurm", "formula", "files-7")
+        form = "refused: sbatch: unrecognized option '--unknown'; Try"
+        trial.want(form, 1, "--engine", "slurm", "--sbatch", "--unknown", "formula", "files-7")
     trial.program = "no-program"
     trial.want("refused: there is no program", 1, "formula", "files-1")
 
@@ -758,8 +799,9 @@ def try_all(program):
         for engine in filter(has_engine, ENGINES):
             counts = try_engine(trial, engine, formulas["random-130"])
             print(f"{engine}: interrupted after {counts[0]} and {counts[1]} scripts, gone on with, confirmed", flush=True)
+        try_hangup(trial, formulas["random-130"])
         try_refusals(trial)
-        print(f"{len(formulas)} formulas; without {', '.join(e for e in ENGINES if not has_engine(e)) or 'no engine'}")
+        print(f"{len(formulas)} formulas, and the engines {', '.join(filter(has_engine, ENGINES))}")
         os.chdir("/")
 
 
@@ -774,6 +816,15 @@ def found(program):
     if not (os.path.isfile(program) and os.access(program, os.X_OK)):
         raise Refused(f"there is no program {os.path.normpath(program)}: build it as README.md says, or give another one as PROGRAM")
     return os.path.abspath(program)
+
+
+def joined(words):
+    """Joins `--sbatch` and its value. Otherwise the parser takes a value that begins with `-` for an option."""
+    words = list(words)
+    while "--sbatch" in words[:-1]:
+        place = words.index("--sbatch")
+        words[place : place + 2] = ["--sbatch=" + words[place + 1]]
+    return words
 
 
 def positive(word):
@@ -796,9 +847,10 @@ def main():
     parser.add_argument("folder")
     parser.add_argument("program", nargs="?", default=PROVED)
     is_test = sys.argv[1:2] == ["try"] and len(sys.argv) <= 3
-    options = None if is_test else parser.parse_args()
+    options = None if is_test else parser.parse_args(joined(sys.argv[1:]))
     for kind in (signal.SIGTERM, signal.SIGHUP):
-        signal.signal(kind, interrupt)
+        if signal.getsignal(kind) != signal.SIG_IGN:  # `nohup` ignores SIGHUP
+            signal.signal(kind, interrupt)
     try:
         if is_test:
             return try_all(found((sys.argv[2:] or [PROVED])[0]))
@@ -810,7 +862,7 @@ def main():
         print(f"refused: {why}")
         sys.exit(1)
     except KeyboardInterrupt:
-        print("interrupted: the same call goes on", file=sys.stderr)
+        print("\n" * sys.stderr.isatty() + "interrupted: the same call continues the run", file=sys.stderr)
         sys.exit(130)
     return None
 
