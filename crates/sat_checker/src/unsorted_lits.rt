@@ -1,19 +1,27 @@
 //! Finds a variable that occurs twice among literals that need not be sorted, without allocating.
-ghost use Rattle.std.specs.Prelude.{ℕ, List, ◌≡◌, ◌+◌, ◌*◌, ◌^◌, ◌<◌, ◌≤◌, ◌%◌, true, false, length, get_or};
-ghost use Rattle.std.specs.Prelude.{IfSome, None, MatchBool};
-ghost use Rattle.sat_base.specs.values.Literals.{var_limit};
+ghost use Rattle.std.specs.Prelude.{ℕ, List, ◌≡◌, ◌+◌, ◌-◌, ◌*◌, ◌/◌, ◌^◌, ◌<◌, ◌≤◌, ◌%◌, ◌==◌, ◌||◌, true, false};
+ghost use Rattle.std.specs.Prelude.{length, get_or, IfSome, None, MatchBool};
+ghost use Rattle.sat_base.specs.values.Literals.{negated, var_limit};
 ghost use Rattle.sat_checker.specs.Accepts.{VariablesDistinct};
 ghost use Rattle.sat_checker.specs.LiteralSets.{is_tautology};
-ghost use Rattle.sat_checker.specs.inner.Clashes.{has_clash, clashes_with, CodesBelow, MarksCodes, NoClash};
-ghost use Rattle.sat_checker.specs.inner.Clashes.{NoCodeBetween};
+ghost use Rattle.sat_checker.specs.inner.Clashes.{has_clash, key_of, is_marked, KeysBelow, NoClash, NoKeyBetween};
 
 use sat_base::Lit;
 
-/// The number of codes that are marked at a time.
-const WINDOW: usize = 1 << 14;
-
-/// The least number that is above all codes.
+/// The least number that is above all keys.
 const LIMIT: usize = 1 << 29;
+
+/// The least length of a list that is called long.
+const LONG: usize = 1 << 10;
+
+/// The number of words of marks for a list that is not long. A word has 64 marks.
+const FEW_WORDS: usize = 1 << 8;
+
+/// The number of words of marks for a long list.
+///
+/// These marks take 32 of the 132 KiB of stack that Linux maps when a process starts. Once memory has run out, the stack
+/// cannot grow.
+const MANY_WORDS: usize = 1 << 12;
 
 /// Returns `true` if the literals include both signs of a variable. Never allocates.
 pub fn include_both_signs(literals: &[Lit]) -> bool
@@ -31,35 +39,51 @@ pub(crate) fn are_apart(literals: &[Lit]) -> bool
 
 /// Returns `true` if the literals include both signs of a variable or, if `repeats` is true, a variable more than once.
 ///
-/// Goes over the literals once for each window of codes that contains any, and marks the codes that occur.
+/// Many marks make fewer passes, but for a short list, clearing them would take longer than the passes.
 #[inline(never)]
 fn have_clash(literals: &[Lit], repeats: bool) -> bool
     ensures { result ≡ has_clash repeats literals.now }
 {
-    let mut marks = [false; WINDOW];
+    if literals.len() < LONG {
+        have_clash_by_windows(literals, repeats, &mut [0; FEW_WORDS])
+    } else {
+        have_clash_by_windows(literals, repeats, &mut [0; MANY_WORDS])
+    }
+}
+
+/// Returns what `have_clash` returns, whatever `marks` contains.
+///
+/// Goes over the literals twice for each window of keys that contains any: to find the window, and to mark its keys. The
+/// window has a key for each mark.
+fn have_clash_by_windows(literals: &[Lit], repeats: bool, marks: &mut [u64]) -> bool
+    requires some { 0 < length marks.old }
+    requires few { length marks.old ≤ 2 ^ 12 }
+    ensures { result ≡ has_clash repeats literals.now }
+{
+    let width = 64 * marks.len();
     let mut low = 0;
-    while let Some(start) = first_window(literals, low) {
-        if clash_in_window(literals, repeats, start, &mut marks) {
+    while let Some(start) = first_window(literals, repeats, low) {
+        if clash_in_window(literals, repeats, start, marks) {
             return true;
         }
-        low = start + WINDOW;
+        low = start + width;
     }
     false
 }
 
-/// Returns the start of the next window: an even code from `low` on, below which no code from `low` on occurs. Returns
-/// `None` if all codes are below `low`.
-fn first_window(literals: &[Lit], low: usize) -> Option<usize>
+/// Returns the start of the next window: an even key from `low` on, below which no key from `low` on occurs. Returns
+/// `None` if all keys are below `low`.
+fn first_window(literals: &[Lit], repeats: bool, low: usize) -> Option<usize>
     requires { low % 2 ≡ 0 }
     ensures some { IfSome result (λ start. (low ≤ start) × ((start % 2 ≡ 0) × ((start < 2 * var_limit)
-        × NoCodeBetween low start literals.now))) }
-    ensures none { result ≡ None → CodesBelow low literals.now }
+        × NoKeyBetween repeats low start literals.now))) }
+    ensures none { result ≡ None → KeysBelow repeats low literals.now }
 {
     let mut least = LIMIT;
     for lit in literals {
-        let code = lit.code();
-        if low <= code {
-            least = least.min(code);
+        let key = key_of(*lit, repeats);
+        if low <= key {
+            least = least.min(key);
         }
     }
     if least == LIMIT {
@@ -68,51 +92,66 @@ fn first_window(literals: &[Lit], low: usize) -> Option<usize>
     Some(least - least % 2)
 }
 
-/// Clears all marks.
-fn clear(marks: &mut [bool])
-    ensures none { (k : ℕ) → k < length marks.new → get_or marks.new k false ≡ false }
-    ensures count { length marks.new ≡ length marks.old }
-{
-    marks.fill(false);
-}
-
-/// Returns `true` if a literal whose code is in the window from `start` on clashes with a later literal.
-fn clash_in_window(literals: &[Lit], repeats: bool, start: usize, marks: &mut [bool]) -> bool
+/// Returns `true` if a literal whose key is in the window from `start` on clashes with a later literal.
+fn clash_in_window(literals: &[Lit], repeats: bool, start: usize, marks: &mut [u64]) -> bool
     requires even { start % 2 ≡ 0 }
-    requires count { length marks.old ≡ 2 ^ 14 }
-    ensures count { length marks.new ≡ 2 ^ 14 }
+    requires start { start < 2 * var_limit }
+    requires few { length marks.old ≤ 2 ^ 12 }
+    ensures count { length marks.new ≡ length marks.old }
     ensures found { result ≡ true → has_clash repeats literals.now ≡ true }
-    ensures clear { result ≡ false → NoClash repeats 0 start (start + 2 ^ 14) literals.now }
+    ensures clear { result ≡ false → NoClash repeats 0 start (start + 64 * length marks.old) literals.now }
 {
     clear(marks);
-    for place in (0..literals.len()).rev() {
-        let lit = literals[place];
-        let code = lit.code();
-        if code < start {
+    for index in (0..literals.len()).rev() {
+        let lit = literals[index];
+        // A key before the window wraps to a place after it.
+        let place = key_of(lit, repeats).wrapping_sub(start);
+        if place >= 64 * marks.len() {
             continue;
         }
-        if code - start >= WINDOW {
-            continue;
-        }
-        if clashes_with_marked(marks, start, lit, repeats) {
+        let opposite = key_of(!lit, repeats);
+        if is_marked(marks, opposite - start) {
             return true;
         }
-        marks[code - start] = true;
+        mark(marks, place);
     }
     false
 }
 
-/// Returns `true` if the literal, whose code must be in the window from `start` on, clashes with a marked literal.
+/// Returns the key of a literal: the index of its variable if `repeats` is true, and its code otherwise. A literal
+/// clashes with the literals that have the key of its negation.
 #[inline(always)]
-fn clashes_with_marked(marks: &[bool], start: usize, lit: Lit, repeats: bool) -> bool
-    requires even { start % 2 ≡ 0 }
-    requires count { length marks.now ≡ 2 ^ 14 }
-    requires from { start ≤ lit }
-    requires within { lit < start + 2 ^ 14 }
-    ensures { (ls : List ℕ) → MarksCodes start marks.now ls → result ≡ clashes_with repeats ls lit }
+fn key_of(lit: Lit, repeats: bool) -> usize
+    ensures key { result ≡ key_of repeats lit }
+    ensures bound { result < 2 * var_limit }
+    ensures pair { key_of repeats (negated lit) / 2 ≡ result / 2 }
 {
-    let other = !lit;
-    let is_negated = marks[other.code() - start];
-    let is_repeated = marks[lit.code() - start];
-    is_negated || repeats && is_repeated
+    if repeats { lit.index() } else { lit.code() }
+}
+
+/// Clears all marks.
+fn clear(marks: &mut [u64])
+    ensures none { (k : ℕ) → k < length marks.new → get_or marks.new k 0 ≡ 0 }
+    ensures count { length marks.new ≡ length marks.old }
+{
+    marks.fill(0);
+}
+
+/// Returns `true` if there is a mark at `place`.
+#[inline(always)]
+fn is_marked(marks: &[u64], place: usize) -> bool
+    requires { place < 64 * length marks.now }
+    ensures { result ≡ is_marked marks.now place }
+{
+    (marks[place / 64] >> (place % 64)) & 1 == 1
+}
+
+/// Sets the mark at `place`.
+#[inline(always)]
+fn mark(marks: &mut [u64], place: usize)
+    requires { place < 64 * length marks.old }
+    ensures marks { (k : ℕ) → is_marked marks.new k ≡ (place == k || is_marked marks.old k) }
+    ensures count { length marks.new ≡ length marks.old }
+{
+    marks[place / 64] |= 1 << (place % 64);
 }
