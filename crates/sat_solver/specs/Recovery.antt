@@ -6,7 +6,7 @@ use Rattle.sat_solver.specs.declared.error.SolverError.{SolverError}
 use Rattle.sat_solver.specs.declared.error.SolverError.TheVariants as errors
 
 -- `is_recoverable e` is true if a call that returns `e` leaves the solver usable, as after a refusal; false if every
--- later call fails
+-- later call fails. It is false for `OutOfMemory`, although the solver is usable if `model` returned it.
 abbrev pub is_recoverable : SolverError → Bool
 is_recoverable errors.Interrupted = true
 is_recoverable (errors.ProofProcessorError cause) = false

@@ -104,8 +104,12 @@ impl<W: CountedWrite + Drop, P: ProofProcessor> Solver<W, P> {
         self.inner.steps()
     }
 
-    /// Returns the current numbers of rounds, restarts, variables that have an index but no value, and stored clauses
-    /// of each kind. A variable that no clause or assumption has used has no index. Never allocates.
+    /// Returns the current numbers of rounds (`conflicts`), restarts, variables that have an index but no value, and
+    /// stored clauses of each kind. Never allocates.
+    ///
+    /// The index of a variable is its number in the search. A variable that no clause or assumption has used has no
+    /// index. A clause with a single literal is not stored: it gives its variable a value at once. Contracts do not
+    /// state how clauses, assumptions, asks and names change the numbers of variables and clauses.
     ///
     /// Once the solver has failed, only the numbers of rounds and restarts are exact. Once the clauses are known to be
     /// unsatisfiable, the numbers of clauses are not exact either.
@@ -121,11 +125,16 @@ impl<W: CountedWrite + Drop, P: ProofProcessor> Solver<W, P> {
     /// Adds a clause, and introduces its names from left to right.
     ///
     /// A hidden name gets a new variable. A name that was never used is introduced together with all lower names that
-    /// were never used. Clauses can also be added after asks, which discards the answer. Once the clauses alone are
-    /// known to be unsatisfiable, the clause still becomes part of the script state, but the only steps are those that
-    /// introduce its names. Errors: `NotInDrat` after the first `solve` if DRAT lines are written; `WitnessVariable` if
-    /// a name in `lits` has the mode witness; `VariableLimit` if there is no variable for a name that would be
-    /// introduced.
+    /// were never used. Clauses can also be added after asks, which discards the answer.
+    ///
+    /// Once the clauses alone are known to be unsatisfiable, the clause still becomes part of the script state, but the
+    /// only steps are those that introduce its names. Adding a clause makes this known only if the clause is empty, or
+    /// has a single literal (repeated or not) whose negation is a unit: the single literal of an earlier clause, or a
+    /// literal that an ask derived. In all other cases, `solve` finds it out.
+    ///
+    /// Refusals: `NotInDrat` after the first `solve` if DRAT lines are written; `WitnessVariable` if a name in `lits`
+    /// has the mode witness; `VariableLimit` if there is no variable for a name that would be introduced. Any other
+    /// error means that the solver has failed.
     pub fn add_clause(&mut self, lits: &[Lit]) -> Result<(), SolverError>
         ensures adds { AddsClause result self.old self.new lits.now }
         ensures drat { self.old.failed ≡ false → DratRefusesClauses self.old → IsErrOf result SolverError.NotInDrat }
@@ -158,11 +167,16 @@ impl<W: CountedWrite + Drop, P: ProofProcessor> Solver<W, P> {
     /// Adds the clauses of a text in DIMACS CNF, in order. The text is read in chunks of 4,096 bytes.
     ///
     /// The text may have one header, before its first clause; a header anywhere else is malformed. The numbers in the
-    /// header are ignored, and its variable count introduces no name. A line that begins with `%` ends the text: no
-    /// chunk after it is read. A text that ends inside a clause is malformed.
+    /// header are ignored, and its variable count introduces no name. A line whose first nonblank byte is `c` is a
+    /// comment. A line whose first nonblank byte is `%` ends the text: no chunk after it is read. A text that ends
+    /// inside a clause is malformed.
     ///
-    /// Clauses before an error, or before a clause that is refused, remain. The solver can still be used if the text is
-    /// malformed (`Malformed`), has a number above the limit (`VariableLimit`), or cannot be read (`Read`).
+    /// Clauses before an error, or before a clause that is refused, remain. After `Read`, these are the clauses whose
+    /// closing 0 is followed by a blank in the bytes that were read.
+    ///
+    /// Refusals: `Malformed` if the text is malformed; `VariableLimit` if the number of a literal is above 2^28, or if
+    /// there is no variable for a name that a clause would introduce; `Read` if a read failed, or if the text has not
+    /// ended after 2^48 reads; and those of `add_clause`. Any other error means that the solver has failed.
     pub fn add_dimacs_cnf<R: CountedRead>(&mut self, reader: &mut R) -> Result<(), SolverError>
         ensures adds { AddsText P.takes result self.old self.new (R.seen reader.old) (R.seen reader.new) }
         // No read is made after the one that gave the line that ends the text.
@@ -180,9 +194,11 @@ impl<W: CountedWrite + Drop, P: ProofProcessor> Solver<W, P> {
     /// Replaces the assumptions with `lits`, and introduces the names in `lits` from left to right.
     ///
     /// The assumptions apply to every later `solve` until the next `assume`. The answer is discarded even if the
-    /// assumptions are unchanged, unless the clauses alone are known to be unsatisfiable. Errors: `NotInDrat` if DRAT
-    /// lines are written; `WitnessVariable` if a name in `lits` has the mode witness; `VariableLimit` if there is no
-    /// variable for a name that would be introduced.
+    /// assumptions are unchanged, unless the clauses alone are known to be unsatisfiable.
+    ///
+    /// Refusals: `NotInDrat` if DRAT lines are written; `WitnessVariable` if a name in `lits` has the mode witness;
+    /// `VariableLimit` if there is no variable for a name that would be introduced. Any other error means that the
+    /// solver has failed.
     pub fn assume(&mut self, lits: &[Lit]) -> Result<(), SolverError>
         ensures assumes { AssumesOrRefuses result self.old self.new lits.now }
         ensures drat { self.old.failed ≡ false → IsDrat self.old → IsErrOf result SolverError.NotInDrat }
@@ -199,13 +215,22 @@ impl<W: CountedWrite + Drop, P: ProofProcessor> Solver<W, P> {
 
     /// Returns `true` if the clauses and the assumptions can be satisfied, and `false` if they cannot. The contract of
     /// `model` states that the first answer is correct (`IsModel`), and that of `failed_core` the second (`IsCore`).
+    /// Without assumptions, `false` means that the clauses alone are known to be unsatisfiable (law
+    /// `unsat_without_assumptions`).
+    ///
+    /// Before each round, a restart and the reductions are made if they are due (`rounds`). The first restart is due
+    /// before the first round of all. Every round, except one that gives the answer, derives exactly one empowering
+    /// clause (`StepsOfAsk`).
     ///
     /// Returns `Interrupted` if the rounds that the parameters allow for this call are exhausted, or if the number of
-    /// rounds over all calls has reached 2^64-1. If neither a clause nor assumptions have been accepted since the last
-    /// answer, returns that answer again, without running a round or making a step; so it does once the clauses alone
-    /// are known to be unsatisfiable, even after further clauses or assumptions. By the time this call returns an
-    /// answer or `Interrupted`, it has flushed the open target, if any. The solver's own checker, if any, has by then
-    /// received all steps and announced everything that was pending.
+    /// rounds over all calls has reached 2^64-1. The next `solve` then continues the search, though no contract states
+    /// this. If neither a clause nor assumptions have been accepted since the last answer, returns that answer again,
+    /// without running a round or making a step. Once the clauses alone are known to be unsatisfiable, returns false,
+    /// likewise without a round or a step, even after further clauses or assumptions.
+    ///
+    /// By the time this call returns an answer or `Interrupted`, it has flushed the open target, if any, even if it
+    /// returns a known answer again. The solver's own checker, if any, has by then received all steps and announced
+    /// everything that was pending.
     pub fn solve(&mut self) -> Result<bool, SolverError>
         ensures solves { Solves result self.old self.new }
         ensures steps { self.old.failed ≡ false → self.new.failed ≡ false → StepsOfAsk self.old self.new }
@@ -221,7 +246,8 @@ impl<W: CountedWrite + Drop, P: ProofProcessor> Solver<W, P> {
     ///
     /// There is a model only after a `solve` that returned true, and only until a clause or assumptions are accepted.
     /// Names that were introduced after this `solve` are false, except those that `observe_internal_vars` introduced,
-    /// which have the values of their variables. The solver can still be used after `OutOfMemory`.
+    /// which have the values of their variables. This includes names that were hidden after this `solve` and introduced
+    /// again. The solver can still be used after `OutOfMemory`.
     pub fn model(&self) -> Result<Option<Vec<Lit>>, SolverError>
         ensures model { IfOk result (λ o. MatchOption o (HasNoModel self.now) (λ lits. IsModel self.now lits.items)) }
         ensures fails { IfErr result (λ e. ModelFails e self.now) }
@@ -231,9 +257,9 @@ impl<W: CountedWrite + Drop, P: ProofProcessor> Solver<W, P> {
 
     /// Returns a list of assumptions that together contradict the clauses, or `None` if no such list is known.
     ///
-    /// The list is neither minimal nor sorted. A list is known after a `solve` that returned false, until a clause or
+    /// The list need be neither minimal nor sorted. A list is known after a `solve` that returned false, until a clause or
     /// assumptions are accepted. Once the clauses alone are known to be unsatisfiable, even without a `solve`, the list
-    /// is known and empty. Returns `None` once the solver has failed.
+    /// is known and empty; otherwise, a known list is not empty. Returns `None` once the solver has failed.
     pub fn failed_core(&self) -> Option<&[Lit]>
         ensures { MatchOption result (HasNoCore self.now) (λ core. IsCore self.now core.now) }
     {
@@ -251,14 +277,18 @@ impl<W: CountedWrite + Drop, P: ProofProcessor> Solver<W, P> {
         self.inner.config(update)
     }
 
-    /// Hides a name, which is introduced first if it is not in use.
+    /// Hides a name, whatever its mode. If the name is not in use, it is introduced first.
     ///
-    /// The clauses keep the variable of the name, and the name can be introduced again, for a new variable. If the
-    /// variable has no index, it is deleted immediately: no clause or assumption has used it, a simplification has
-    /// found it unused, or only clauses that were added once the clauses were known to be unsatisfiable contain it.
-    /// Otherwise it remains in use, at least until a simplification finds that no clause uses it. The answer is
-    /// unchanged. Errors: `AssumedVariable` if the name is assumed; `VariableLimit` if there is no variable for a name
-    /// that would be introduced.
+    /// The clauses keep the variable of the name, and the name can be introduced again, for a new variable. The answer
+    /// is unchanged.
+    ///
+    /// A variable has no index (number in the search) if no clause or assumption has used it, if a simplification has
+    /// found it unused, or if it occurs only in clauses that were added once the clauses were known to be
+    /// unsatisfiable. Such a variable is deleted immediately. Any other variable remains in use, at least until a
+    /// simplification finds that no clause uses it.
+    ///
+    /// Refusals: `AssumedVariable` if the name is assumed; `VariableLimit` if there is no variable for a name that
+    /// would be introduced. Any other error means that the solver has failed.
     pub fn hide_var(&mut self, user: Var) -> Result<(), SolverError>
         ensures hides { Hides result self.old self.new user }
         ensures gone { OnOk result (LeavesNoIdleVariable self.new.steps) }
@@ -275,9 +305,12 @@ impl<W: CountedWrite + Drop, P: ProofProcessor> Solver<W, P> {
 
     /// Sets the mode of a name to witness. If the name is not in use, it is introduced first.
     ///
-    /// From now on, clauses and assumptions that contain the name are refused. The answer is unchanged. Errors:
-    /// `AssumedVariable` if the name is assumed; `VariableLimit` if there is no variable for a name that would
-    /// be introduced.
+    /// While the name has this mode, clauses and assumptions that contain it are refused. It keeps the mode until
+    /// `sample_var`, or until it is hidden: afterwards, a clause that contains it introduces it again, with the mode
+    /// sample. The answer is unchanged.
+    ///
+    /// Refusals: `AssumedVariable` if the name is assumed; `VariableLimit` if there is no variable for a name that
+    /// would be introduced. Any other error means that the solver has failed.
     pub fn witness_var(&mut self, user: Var) -> Result<(), SolverError>
         ensures witnesses { Witnesses result self.old self.new user }
         ensures steps { OnOk result (OnlyMakes (IsModeStep (user + 1) false) (due_for_mode Witnessed user) self.old self.new) }
@@ -294,8 +327,9 @@ impl<W: CountedWrite + Drop, P: ProofProcessor> Solver<W, P> {
     /// Sets the mode of a name to sample, which is also the mode of new names. If the name is not in use, it is
     /// introduced first.
     ///
-    /// The answer is unchanged. Errors: `AssumedVariable` if the name is assumed, even if it already has this mode;
-    /// `VariableLimit` if there is no variable for a name that would be introduced.
+    /// The answer is unchanged. Refusals: `AssumedVariable` if the name is assumed, even if it already has this mode;
+    /// `VariableLimit` if there is no variable for a name that would be introduced. Any other error means that the
+    /// solver has failed.
     pub fn sample_var(&mut self, user: Var) -> Result<(), SolverError>
         ensures samples { Samples result self.old self.new user }
         ensures steps { OnOk result (OnlyMakes (IsModeStep (user + 1) true) (due_for_mode Sampled user) self.old self.new) }
@@ -312,7 +346,7 @@ impl<W: CountedWrite + Drop, P: ProofProcessor> Solver<W, P> {
     /// Introduces a name and returns it: the lowest hidden name, or the lowest name never used if no name is hidden.
     ///
     /// The answer is unchanged; if it is a model, the new name is false in it. Returns `VariableLimit` only if every
-    /// proof variable is in use, and then changes nothing.
+    /// proof variable is in use, and then changes nothing. Any other error means that the solver has failed.
     pub fn new_var(&mut self) -> Result<Var, SolverError>
         ensures names { NewNameResult result self.old self.new }
         ensures steps { IfOk result (λ v. OnlyMakes IsDue (due_for_name v) self.old self.new) }
@@ -325,11 +359,11 @@ impl<W: CountedWrite + Drop, P: ProofProcessor> Solver<W, P> {
         result
     }
 
-    /// Gives a name with the mode witness to every hidden variable that is still in use. Returns the names.
+    /// Gives a name with the mode witness to every variable in use that has no name. Returns the names.
     ///
     /// Visits the variables in increasing order, and gives each the name that `new_var` would return. The answer is
-    /// unchanged. If there is no hidden variable, this call does not prevent a proof from being opened. If memory runs
-    /// out, the solver fails permanently.
+    /// unchanged. If there is no such variable, this call does not prevent a proof from being opened. Any error means
+    /// that the solver has failed.
     pub fn observe_internal_vars(&mut self) -> Result<Vec<Var>, SolverError>
         ensures observes { IfOk result (λ users. Observed self.old self.new users.items) }
         ensures steps { IfOk result (λ users. ObservesBetween self.old self.new users.items) }
@@ -382,9 +416,11 @@ impl<W: CountedWrite + Drop, P: ProofProcessor> Solver<W, P> {
     /// Writes the `End` step, flushes the target and returns it. Returns `None` if no proof is open. After an error,
     /// the solver keeps the target.
     ///
-    /// If the proof was opened before any step other than ends of proofs, the target has received the text of steps
-    /// that a checker accepts. The DRAT lines of all steps are a derivation; if the clauses are known to be
-    /// unsatisfiable, they refute them.
+    /// The target has received the text of all steps since the proof was opened, and a checker accepts these steps. The
+    /// contract assumes that only ends of proofs came before them. This always holds, since `write_proof` refuses a
+    /// solver that has been used.
+    ///
+    /// The DRAT lines of all steps are a derivation; if the clauses are known to be unsatisfiable, they refute them.
     pub fn close_proof(&mut self) -> Result<Option<W>, SolverError>
         ensures closes { ClosesProof (writer_given W.seen result) self.old self.new }
         ensures steps { IfOk result (λ o. IfSome o (λ _. MakesLast self.old self.new)) }
@@ -407,10 +443,11 @@ impl<W: CountedWrite + Drop, P: ProofProcessor> Solver<W, P> {
         solver.inner.into_target()
     }
 
-    /// Returns the listeners in the order in which they were added, and the target, even after a failure.
+    /// Returns the listeners in the order in which they were added, and the target, even after a failure. After a
+    /// failure, the listeners may have been notified of only a prefix of the announcements.
     ///
     /// After two contradictory units, the empty clause that follows from them is announced with the next step (`End`
-    /// included) or the next `solve`. If neither has followed, the listeners have not been notified of the empty
+    /// included) or the next `solve`. If neither has followed, the listeners may not have been notified of the empty
     /// clause. The target is the one that `into_target` would return.
     pub fn into_processors(self) -> ReturnedParts<W, P>
         ensures target { ReturnsWriter self.target (returned_writer W.seen result.target) }

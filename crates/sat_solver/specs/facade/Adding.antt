@@ -85,8 +85,8 @@ pub record StepsOfAssumptions {L : Type 0} (old new : SolverView L) (user : List
   pub asked : new.asked ≡ old.asked
 
 -- `ReplacesAssumptions old new user` holds if the assumptions `user` (literal codes over names) replaced all earlier
--- ones: their names were introduced, the schedule is unchanged, and an answer other than `Unsat` is forgotten: it
--- becomes `Unknown`, since no step of this call records unsat
+-- ones: their names were introduced, the schedule is unchanged, and an answer other than `Unsat` is forgotten. It
+-- becomes `Unknown`: the law `steps_record_answers` excludes `Unsat`, since no step of this call records unsat.
 pub record ReplacesAssumptions {L : Type 0} (old new : SolverView L) (user : List ℕ) : Type 0 where
   pub sampled : HasNoWitness old user
   pub room : HasVariablesFor old.names (user_vars_in user)
@@ -96,7 +96,9 @@ pub record ReplacesAssumptions {L : Type 0} (old new : SolverView L) (user : Lis
   pub state : ForgetsAnswer old.answer new.answer
 
 -- `AssumesOrRefuses r old new user` holds if `r` is the result of setting the assumptions `user`: they replace the
--- earlier ones, or they are refused and nothing changes, or the call fails and so does every later one
+-- earlier ones, or they are refused and nothing changes, or the call fails and so does every later one. Refusals are
+-- checked in this order: an earlier failure, DRAT lines (clause `drat` of `assume`), a name of mode witness, no
+-- variable left.
 abbrev pub AssumesOrRefuses : {L : Type 0} → Result (Unit {0}) SolverError → SolverView L → SolverView L → List ℕ → Type 0
 AssumesOrRefuses (Ok x) old new user = ReplacesAssumptions old new user
 AssumesOrRefuses (Err errors.WitnessVariable) old new user = Refuses old new ((old.failed ≡ false) × HasWitness old user)

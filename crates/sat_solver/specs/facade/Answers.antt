@@ -68,9 +68,9 @@ pub record Answered {L : Type 0} (old new : SolverView L) : Type 0 where
   pub known : (old.answer ≡ states.Unknown → ⊥) → AnswersAgain old new
   pub flushed : IsFlushed new.target
 
--- `StepsOfAsk old new` holds if the ordered steps are those of the answer, and only steps were made that an ask may
--- make (after unsat is recorded, only changes of width). Every round except the answering one derived an empowering
--- clause; no other step did. Every name refers to the same variable as before.
+-- `StepsOfAsk old new` holds if the ordered steps are those of the answer, and no step was made once unsat is recorded
+-- (changes of width, which `comes` allows, are never among the steps). Every round except the answering one derived an
+-- empowering clause; no other step did. Every name refers to the same variable as before.
 pub record StepsOfAsk {L : Type 0} (old new : SolverView L) : Type 0 where
   pub ordered : MakesOrdered old new (due_for_answer old.answer new)
   pub comes : OnlyAllowedSteps OnlyWidthAfterUnsat old.steps new.steps
@@ -100,7 +100,7 @@ Solves (Err e) old new = EndsInFailure e old new
 abbrev pub IsRightLine : {L : Type 0} → SolverView L → List ℕ → Type 0
 IsRightLine v line = IsRightModel v.state (assumed_literals v) (map user_literal line)
 
--- `IsRightCoreOf v core` holds if `core` (literal codes over names, in any order, perhaps with repeats) is a correct
+-- `IsRightCoreOf v core` holds if `core` (literal codes over names, in any order; nothing excludes repeats) is a correct
 -- core: some of the assumptions, which can't all be true if the accepted clauses hold
 abbrev pub IsRightCoreOf : {L : Type 0} → SolverView L → List ℕ → Type 0
 IsRightCoreOf v core = IsCoreOf v.state (assumed_literals v) (map user_literal core)
@@ -139,11 +139,12 @@ core_for states.UnsatUnderAssumptions v = v.core
 core_for st v = []
 
 -- `IsCore v core` holds if no call failed, the last answer is unsatisfiable, and `core` is the reported core: literal
--- codes over names, among the assumptions, that can't all be true; empty for the answer `Unsat`
+-- codes over names, among the assumptions, that can't all be true. It is empty if and only if the answer is `Unsat`.
 pub record IsCore {L : Type 0} (v : SolverView L) (core : List ℕ) : Type 0 where
   pub going : v.failed ≡ false
   pub unsat : is_unsat v.answer
   pub core_is : core ≡ core_for v.answer v
+  pub some : v.answer ≡ states.UnsatUnderAssumptions → core ≡ [] → ⊥
   pub right : IsRightCoreOf v core
 
 -- `HasNoCore v` holds if a call failed, or the answer is neither `Unsat` nor `UnsatUnderAssumptions`

@@ -47,8 +47,9 @@ module _ {L : Type 0} (takes : L → Notice → Result Unit Error → L → Type
   AddsFormula (Err errors.HasFailed) old new clauses = Refuses old new (old.failed ≡ true)
   AddsFormula (Err e) old new clauses = StopsAtClause e old new clauses
 
-  -- `TextFails e old new from to` holds if reading the text stopped with `e` (a fault of the text, a failed read or no
-  -- memory) while the reader went from `from` to `to`; the clauses completed before that were added
+  -- `TextFails e old new from to` holds if reading the text stopped with `e` (a fault of the text, a failed read, 2^48
+  -- reads that did not end the text, or no memory) while the reader went from `from` to `to`; the clauses completed
+  -- before that were added
   pub record TextFails (e : SolverError) (old new : SolverView L) (from to : Reader) : Type 0 where
     pub going : old.failed ≡ false
     pub fault : DimacsError

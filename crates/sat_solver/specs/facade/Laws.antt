@@ -29,6 +29,11 @@ pub record CallsReachBySteps {L : Type 0} (old new : SolverView L) : Type 0 wher
   pub closes_none : ClosesProof (Ok None) old new → ReachesBySteps old new
   pub closing_fails : (e : SolverError) → ClosesText (Err e) old new → ReachesBySteps old new
 
+-- `ReachingAddsUp L` holds if `ReachesBySteps` is transitive, so that it holds across any number of calls; `L` is the
+-- type of the listeners
+abbrev pub ReachingAddsUp : Type 0 → Type 0
+ReachingAddsUp L = (a b c : SolverView L) → ReachesBySteps a b → ReachesBySteps b c → ReachesBySteps a c
+
 -- `FlushedIsText` holds if every target that was opened, received steps without a failed call and was then flushed has
 -- received the complete text of these steps when it is returned
 abbrev pub FlushedIsText : Type 0

@@ -55,7 +55,8 @@ pub record StartsChecking {L : Type 0} (more : List L) (old new : SolverView L) 
   pub same : new ≡ record (with_listeners more old) { checking = new.checking }
 
 -- `EnablesChecking r old new` holds if `r` is the result of enabling the own checker: enabled, or refused after an
--- earlier failure, or refused as `TooLate` if the solver is used or a step other than the end of a proof was made
+-- earlier failure, or refused as `TooLate` if the solver is used or a step other than the end of a proof was made (a
+-- call that makes such a step and does not fail also marks the solver as used)
 abbrev pub EnablesChecking : {L : Type 0} → Result (Unit {0}) SolverError → SolverView L → SolverView L → Type 0
 EnablesChecking (Ok x) old new = StartsChecking [] old new
 EnablesChecking (Err errors.HasFailed) old new = Refuses old new (old.failed ≡ true)
@@ -153,7 +154,8 @@ writer_given seen (Ok (Some w)) = Ok (Some (seen w))
 writer_given seen (Err e) = Err e
 
 -- `IsCertificate given old new` holds if the returned target `given` has received, complete and flushed, the text of
--- all steps made since it was opened, and a checker accepts them, provided that only ends of proofs came before
+-- all steps made since it was opened, and a checker accepts them, provided that only ends of proofs came before. This
+-- is always so, since `write_proof` refuses a solver that has been used.
 abbrev pub IsCertificate : {L : Type 0} → Writer → SolverView L → SolverView L → Type 0
 IsCertificate given old new = (f : ProofFormat) (from : Writer) (before : List Step) → has_begun before ≡ false → WroteSince f from before old → ReceivedAcceptedSteps f from given before new.steps
 
@@ -164,7 +166,8 @@ pub record IsDratRefutation {L : Type 0} (old new : SolverView L) : Type 0 where
   pub refutes : old.answer ≡ states.Unsat → RefutesByUnits (present_clauses new.steps) []
 
 -- `ReturnsAcceptedPrefix returned v` holds if the target `returned` has received a prefix of the text of steps that a
--- checker accepts, provided that only ends of proofs came before it was opened, even if a call has failed since
+-- checker accepts, even if a call has failed since, provided that only ends of proofs came before it was opened (which
+-- is always so, as in `IsCertificate`)
 abbrev pub ReturnsAcceptedPrefix : {L : Type 0} → Option Writer → SolverView L → Type 0
 ReturnsAcceptedPrefix {L} returned v = (opened : SolverView L) (f : ProofFormat) (from given : Writer) → returned ≡ Some given
     → opened.target ≡ Open f nothing_counted (empty_sink from) → has_begun opened.steps ≡ false → ReachesBySteps opened v

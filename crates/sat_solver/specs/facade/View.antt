@@ -38,15 +38,16 @@ pub record SolverView (L : Type 0) : Type 0 where
   pub clause_decay : ℕ  -- the decay of clauses that the search uses
   pub progress : Progress  -- what `progress` counts: rounds, restarts, indices without a value, stored clauses
   pub words : ℕ  -- the number of words in the clause buffer
-  pub steps : List Step  -- all steps, the newest first
+  pub steps : List Step  -- all steps but changes of width, which only the text has; the newest first
   pub target : Target  -- where the text of the steps is written
-  pub asked : Bool  -- whether an ask has begun since a proof was opened
+  pub asked : Bool  -- whether an ask has begun since the solver was created or a proof was last opened
   pub listeners : Option (List L)  -- those added to its own checker, or `None` without a checker
   pub lost : Bool  -- whether its own checker has missed a step
   pub checking : Checking  -- the width of hashes, and its own checker
 
 -- `IsInitial v` holds if the solver is as when created: unused, answer unknown, default parameters, no steps, rounds or
--- restarts, no open target, no own checker, and the script state without names and clauses
+-- restarts, no open target, no own checker, and the script state without names and clauses. Nothing is stated of the
+-- other fields, such as `progress`.
 pub record IsInitial {L : Type 0} (v : SolverView L) : Type 0 where
   pub failed : v.failed ≡ false
   pub used : v.used ≡ false

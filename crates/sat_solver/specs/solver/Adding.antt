@@ -42,7 +42,8 @@ abbrev pub due_for_assumptions : Outcome → List ℕ → ScriptState → List E
 due_for_assumptions o user j = steps_introducing (names_in user) j ++ (Opens (map user_literal user) o ∷ [])
 
 -- `ForgetsAnswer before now` holds if `now` is `Unsat` after `Unsat`, and otherwise `Unknown` or `Unsat`: a model or a
--- core for earlier clauses or assumptions is forgotten. Only adding a clause can newly give `Unsat`.
+-- core for earlier clauses or assumptions is forgotten. Of the calls that do this, `add_clause` and `assume`, only
+-- `add_clause` can newly give `Unsat`.
 abbrev pub ForgetsAnswer : SatState → SatState → Type 0
 ForgetsAnswer states.Unsat now = now ≡ states.Unsat
 ForgetsAnswer before states.Unknown = Unit {0}

@@ -50,11 +50,13 @@ engine_core_for states.UnsatUnderAssumptions s = reported_core s
 engine_core_for st s = []
 
 -- `EngineIsCore s core` holds if no call failed, the last answer is unsatisfiable, and `core` is the reported core:
--- literal codes over names, among the assumptions, that can't all be true; empty for the answer `Unsat`
+-- literal codes over names, among the assumptions, that can't all be true. It is empty if and only if the answer is
+-- `Unsat`.
 pub record EngineIsCore {W L : Type 0} {G : Ghosts L} (s : Engine W L G) (core : List ℕ) : Type 0 where
   pub going : engine_has_failed s ≡ false
   pub unsat : is_unsat (answer_in s)
   pub core_is : core ≡ engine_core_for (answer_in s) s
+  pub some : answer_in s ≡ states.UnsatUnderAssumptions → core ≡ [] → ⊥
   pub right : EngineIsRightCore s core
 
 -- `EngineHasNoCore s` holds if a call failed, or the answer is neither `Unsat` nor `UnsatUnderAssumptions`

@@ -1,11 +1,13 @@
 //! Laws about solvers. Each law is the contract of a function that does nothing.
-ghost use Rattle.std.specs.Prelude.{◌≡◌, false};
-ghost use Rattle.sat_solver.specs.facade.Laws.{CallsReachBySteps, FlushedIsText};
+ghost use Rattle.std.specs.Prelude.{◌≡◌, false, []};
+ghost use Rattle.sat_solver.specs.facade.Answers.{is_unsat};
+ghost use Rattle.sat_solver.specs.facade.Laws.{CallsReachBySteps, FlushedIsText, ReachingAddsUp};
 ghost use Rattle.sat_solver.specs.facade.Recording.{RecordsAnswer};
 ghost use Rattle.sat_solver.specs.facade.States.{MatchesState};
 ghost use Rattle.sat_solver.specs.session.Session.{AreAllowedSteps};
 
 use crate::facade::Solver;
+use crate::state::SatState;
 use sat_base::CountedWrite;
 use sat_checker::ProofProcessor;
 
@@ -15,6 +17,12 @@ pub fn calls_go_on<W: CountedWrite + Drop, P: ProofProcessor>(
     _new: &Solver<W, P>,
 )
     ensures { CallsReachBySteps _old.now _new.now }
+{}
+
+/// States that calls made one after another only append steps, as each of them does, so that the law `calls_go_on`
+/// extends to any number of calls.
+pub fn steps_add_up<P: ProofProcessor>()
+    ensures { ReachingAddsUp P }
 {}
 
 /// States that the names and the steps of a solver that has not failed agree with its script state, and that its own
@@ -34,6 +42,16 @@ pub fn steps_record_answers<W: CountedWrite + Drop, P: ProofProcessor>(solver: &
     ensures records { solver.now.failed ≡ false → RecordsAnswer solver.now }
 {
     // The fields say so.
+    let _ = &solver.inner;
+}
+
+/// States that if `solve` returned false and there are no assumptions, the clauses alone are known to be unsatisfiable:
+/// the answer is `Unsat`, not `UnsatUnderAssumptions`.
+pub fn unsat_without_assumptions<W: CountedWrite + Drop, P: ProofProcessor>(solver: &Solver<W, P>)
+    ensures { solver.now.failed ≡ false → solver.now.assumptions ≡ [] → is_unsat solver.now.answer
+        → solver.now.answer ≡ SatState.Unsat }
+{
+    // The invariant of the fields says so.
     let _ = &solver.inner;
 }
 

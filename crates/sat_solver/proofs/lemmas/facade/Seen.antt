@@ -392,7 +392,7 @@ module _ {W L : Type 0} {G : Ghosts L} (seen : W → Writer) (i k : ScriptState)
   core_seen a states.Unsat = refl
 
   pub core_is : (a : Engine W L G) → MatchesEngine a i → (core : List ℕ) → EngineIsCore a core → IsCore (v a) core
-  core_is a m core h = let x = m h.going in record { going = h.going; unsat = h.unsat; core_is = h.core_is ∙ core_seen a a.state; right = h.right i x.0 x.1 }
+  core_is a m core h = let x = m h.going in record { going = h.going; unsat = h.unsat; core_is = h.core_is ∙ core_seen a a.state; some = h.some; right = h.right i x.0 x.1 }
 
   pub core_if : {X : Type 0} (o : Option X) (items : X → List ℕ) (a : Engine W L G) → MatchesEngine a i → MatchOption o (EngineHasNoCore a) (λ core. EngineIsCore a (items core)) → MatchOption o (HasNoCore (v a)) (λ core. IsCore (v a) (items core))
   core_if None items a m h = h
