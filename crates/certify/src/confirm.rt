@@ -1,7 +1,7 @@
 //! Confirms that a script, answers and a certificate match.
 ghost use Rattle.std.specs.Prelude.{◌≡◌, ◌+◌, ◌≤◌, ◌⊎◌, IfOk, IsErrOf};
 ghost use Rattle.sat_base.specs.device.Device.{max_reads, ReadFails};
-ghost use Rattle.sat_base.specs.dimacs.Parsing.{MakesNoReadAfterEnd};
+ghost use Rattle.certify.specs.script.Decided.{MakesNoReadOnceDecided};
 ghost use Rattle.certify.specs.Devices.{reader_before_after};
 ghost use Rattle.certify.specs.confirm.VerdictPromises.{GaveRightAnswers, ResultIsExact, ConfirmGuarantee};
 ghost use Rattle.certify.specs.confirm.VerdictPromises.{KeepsReadFailures};
@@ -61,7 +61,7 @@ fn compare<S: CountedRead, A: CountedRead, C: CountedRead>(
     ensures promised { ConfirmGuarantee (confirm_result result.0 result.1) (reader_before_after S.seen script.old script.new)
         (reader_before_after A.seen answers.old answers.new) (reader_before_after C.seen certificate.old certificate.new) }
     ensures looks { LooksAreBounded (C.seen certificate.old) (C.seen certificate.new) looks.old looks.new }
-    ensures stops { MakesNoReadAfterEnd (S.seen script.old) (S.seen script.new) }
+    ensures stops { MakesNoReadOnceDecided (S.seen script.old) (S.seen script.new) }
 {
     let mut confirmation = Confirmation {
         script: CommandStream::new(alloc),
@@ -76,7 +76,8 @@ fn compare<S: CountedRead, A: CountedRead, C: CountedRead>(
 }
 
 /// Compares a script, answers and a certificate. The verdict is `Yes` exactly when they match. The texts are read in
-/// chunks of at most 4,096 bytes, no further than the next decision needs, and no text is held in memory as a whole.
+/// chunks of at most 4,096 bytes, no further than the next decision needs, and no text is held in memory as a whole. A
+/// line of answers of 1,024 bytes or more is examined only at its end, and each time its length has quadrupled.
 /// The looks of the checker that receives the certificate's steps are added to `looks`, whatever is returned.
 pub fn confirm<S: CountedRead, A: CountedRead, C: CountedRead>(
     alloc: Global,
@@ -115,8 +116,8 @@ pub fn confirm<S: CountedRead, A: CountedRead, C: CountedRead>(
     ensures script_reads { (S.seen script.new).calls ≤ (S.seen script.old).calls + max_reads }
     ensures answers_reads { (A.seen answers.new).calls ≤ (A.seen answers.old).calls + max_reads }
     ensures certificate_reads { (C.seen certificate.new).calls ≤ (C.seen certificate.old).calls + max_reads }
-    // Once a line that begins with `%` has ended the script, no read of it is made.
-    ensures stops { MakesNoReadAfterEnd (S.seen script.old) (S.seen script.new) }
+    // Once the script has ended by a line that begins with `%`, or is malformed, no read of it is made.
+    ensures stops { MakesNoReadOnceDecided (S.seen script.old) (S.seen script.new) }
 {
     let (ended, asks) = compare(alloc, script, answers, certificate, looks);
     conclude(ended, asks)

@@ -2,7 +2,7 @@
 //! the script.
 ghost use Rattle.std.specs.Prelude.{◌≡◌, ◌≤◌, ◌+◌, IfOk, OnOk};
 ghost use Rattle.sat_base.specs.device.Device.{GaveEnough};
-ghost use Rattle.sat_base.specs.dimacs.Parsing.{MakesNoReadAfterEnd};
+ghost use Rattle.certify.specs.script.Decided.{MakesNoReadOnceDecided};
 ghost use Rattle.certify.specs.Devices.{reader_before_after};
 ghost use Rattle.certify.specs.laws.EndToEnd.{CertifyGuarantee, VerdictGuarantee, most_looks_for};
 ghost use Rattle.certify.specs.laws.Headline.{Headline};
@@ -54,7 +54,7 @@ pub(crate) fn run_in_memory<S: CountedRead>(
         (λ text. CertificateGuarantee text budget w.summary w.answers.items w.certificate.items)) }
     ensures kept { OnOk result ((S.seen script.new).failures ≡ (S.seen script.old).failures) }
     ensures reads { ReadsStopAtFailure (reader_before_after S.seen script.old script.new) }
-    ensures stops { MakesNoReadAfterEnd (S.seen script.old) (S.seen script.new) }
+    ensures stops { MakesNoReadOnceDecided (S.seen script.old) (S.seen script.new) }
 {
     let mut answers = Counted::new(Vec::new(alloc));
     let mut certificate = Counted::new(Vec::new(alloc));

@@ -1,7 +1,7 @@
 //! Answers a script while reading it, and writes a certificate.
 ghost use Rattle.std.specs.Prelude.{◌≡◌, ◌+◌, ◌≤◌, ◌⊎◌, true, IfOk, OnErr, OnOk, IsErrOf};
 ghost use Rattle.sat_base.specs.device.Device.{max_reads, ReadFails};
-ghost use Rattle.sat_base.specs.dimacs.Parsing.{MakesNoReadAfterEnd};
+ghost use Rattle.certify.specs.script.Decided.{MakesNoReadOnceDecided};
 ghost use Rattle.certify.specs.Devices.{reader_before_after, writer_before_after};
 ghost use Rattle.certify.specs.run.FinishedRun.{WritesAnswers, CertificateIsGuaranteed, LastWriterCallFails};
 ghost use Rattle.certify.specs.run.FinishedRun.{KeepsWriteFailures};
@@ -47,7 +47,7 @@ fn answer<S: CountedRead, A: CountedWrite, C: CountedWrite + Drop>(
     ensures counter_end { IsErrOf result.1 RunFault.CounterEnd → CounterEnds (reader_before_after S.seen script.old script.new)
         (C.seen certificate, C.seen result.0) }
     ensures reads { ScriptReadsAreFew (reader_before_after S.seen script.old script.new) }
-    ensures stops { MakesNoReadAfterEnd (S.seen script.old) (S.seen script.new) }
+    ensures stops { MakesNoReadOnceDecided (S.seen script.old) (S.seen script.new) }
     ensures line { IfOk result.1 (λ s. EndsAtLine (S.seen script.old) (S.seen script.new) s.line) }
 {
     let mut session = RunState::new(alloc, certificate, budget);
@@ -74,7 +74,7 @@ fn answer_into<S: CountedRead, A: CountedWrite, C: CountedWrite>(
     ensures counter_end { IsErrOf result RunFault.CounterEnd → CounterEnds (reader_before_after S.seen script.old script.new)
         (writer_before_after C.seen certificate.old certificate.new) }
     ensures reads { ScriptReadsAreFew (reader_before_after S.seen script.old script.new) }
-    ensures stops { MakesNoReadAfterEnd (S.seen script.old) (S.seen script.new) }
+    ensures stops { MakesNoReadOnceDecided (S.seen script.old) (S.seen script.new) }
     ensures line { IfOk result (λ s. EndsAtLine (S.seen script.old) (S.seen script.new) s.line) }
 {
     let (lent, result) = answer(alloc, script, answers, certificate, budget);
@@ -135,8 +135,8 @@ pub fn run<S: CountedRead, A: CountedWrite, C: CountedWrite>(
         ⊎ KeepsWriteFailures C.seen certificate.old certificate.new }
     // At most 2^48 reads are made of the script.
     ensures reads { (S.seen script.new).calls ≤ (S.seen script.old).calls + max_reads }
-    // Once a line that begins with `%` has ended the script, no read of it is made.
-    ensures stops { MakesNoReadAfterEnd (S.seen script.old) (S.seen script.new) }
+    // Once the script has ended by a line that begins with `%`, or is malformed, no read of it is made.
+    ensures stops { MakesNoReadOnceDecided (S.seen script.old) (S.seen script.new) }
     // The summary's line is that of the last byte of the script that was consumed.
     ensures line { IfOk result (λ s. EndsAtLine (S.seen script.old) (S.seen script.new) s.line) }
 {

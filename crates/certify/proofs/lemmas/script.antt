@@ -1,5 +1,6 @@
 pub mod Tokens
 pub mod Bytes
+pub mod Decided
 pub mod LastChunks
 pub mod LastPieces
 pub mod Streaming

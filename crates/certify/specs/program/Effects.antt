@@ -4,7 +4,7 @@ use Rattle.std.specs.IoError.{error_kind}
 use Rattle.std.specs.declared.io.Error.{Error}
 use Rattle.std.specs.declared.io.ErrorKind.TheVariants.{OutOfMemory}
 use Rattle.sat_base.specs.device.Device.{Reader, Writer}
-use Rattle.sat_base.specs.dimacs.Parsing.{MakesNoReadAfterEnd}
+use Rattle.certify.specs.script.Decided.{MakesNoReadOnceDecided}
 use Rattle.certify.specs.program.Failures.{ReadsStopAtFailure, RunStopsAtFailure, ConfirmStopsAtFailure}
 use Rattle.certify.specs.program.HintPrinting.{PrintsHintVerdict, PrintsHintVerdictPrefix, WritesHints, WritesHintsPrefix}
 use Rattle.certify.specs.program.Printing.{Prints, PrintsPrefix, PrintsYesOrNo, PrintsYesOrNoPrefix, WroteFinishedRun}
@@ -39,26 +39,26 @@ ByStatus status Done Cut = ((status ≤ 1) × Done) ⊎ ((status ≡ 3) × Cut)
 
 -- `StandardCall e` holds in two cases. With status 0 or 1, the answers to the bytes that were read from standard input
 -- were printed, whatever bytes could follow, and then `c confirmed`. With status 3, nothing was printed, or the answers
--- alone, or a write failed after a prefix of what is due. In both, `ReadsStopAtFailure` and `MakesNoReadAfterEnd` hold
+-- alone, or a write failed after a prefix of what is due. In both, `ReadsStopAtFailure` and `MakesNoReadOnceDecided` hold
 -- of standard input.
 abbrev pub StandardCall : Effect → Type 0
-StandardCall e = ReadsStopAtFailure e.input × MakesNoReadAfterEnd e.input.0 e.input.1 × ByStatus e.status
+StandardCall e = ReadsStopAtFailure e.input × MakesNoReadOnceDecided e.input.0 e.input.1 × ByStatus e.status
     (Prints e.status e.input e.output)
     (PrintsNothing e ⊎ PrintsPrefix e.input e.output)
 
 -- `RunCall budget script answers certificate e` holds in two cases. With status 0 or 1, the answers and the certificate
 -- of a finished run were written. With status 3, a prefix of correct answers and a prefix of accepted steps were
--- written. In both, standard input and output are left alone, and `RunStopsAtFailure` and `MakesNoReadAfterEnd` hold.
+-- written. In both, standard input and output are left alone, and `RunStopsAtFailure` and `MakesNoReadOnceDecided` hold.
 abbrev pub RunCall : (budget : ℕ) → Reader × Reader → (answers certificate : Writer × Writer) → Effect → Type 0
-RunCall budget script answers certificate e = LeavesStreams e × RunStopsAtFailure script answers certificate × MakesNoReadAfterEnd script.0 script.1 × ByStatus e.status
+RunCall budget script answers certificate e = LeavesStreams e × RunStopsAtFailure script answers certificate × MakesNoReadOnceDecided script.0 script.1 × ByStatus e.status
     (WroteFinishedRun e.status budget script answers certificate)
     (Stopped budget script answers certificate)
 
 -- `ConfirmCall script answers certificate e` holds in two cases. With status 0 or 1, the line was printed that says
 -- whether the three texts match. With status 3, nothing was printed, or writing a correct line failed after a prefix.
--- In both, standard input is not read, and `ConfirmStopsAtFailure` and `MakesNoReadAfterEnd` hold.
+-- In both, standard input is not read, and `ConfirmStopsAtFailure` and `MakesNoReadOnceDecided` hold.
 abbrev pub ConfirmCall : (script answers certificate : Reader × Reader) → Effect → Type 0
-ConfirmCall script answers certificate e = ReadsNothing e × ConfirmStopsAtFailure script answers certificate × MakesNoReadAfterEnd script.0 script.1 × ByStatus e.status
+ConfirmCall script answers certificate e = ReadsNothing e × ConfirmStopsAtFailure script answers certificate × MakesNoReadOnceDecided script.0 script.1 × ByStatus e.status
     (PrintsYesOrNo e.status script answers certificate e.output)
     (PrintsNothing e ⊎ PrintsYesOrNoPrefix script answers certificate e.output)
 

@@ -22,7 +22,7 @@ use Rattle.certify.specs.declared.script.stream.Next.TheVariants as next
 -- and the result says what they led to (`ReceivesBytes`). Nothing was read. With an error, none were consumed.
 abbrev pub ConsumesWaiting : {E : Type 0} → Result Reached E → CommandStream → CommandStream → Type 0
 ConsumesWaiting (Ok r) old new = (text : List ℕ) × (waiting_bytes old.ahead ≡ text ++ waiting_bytes new.ahead) × (new.ahead.reads ≡ old.ahead.reads)
-    × (0 < length (waiting_bytes old.ahead) → 0 < length text) × ReceivesBytes r old.reader text new.reader × ConsumesText old.reader text new.reader
+    × (0 < length (waiting_bytes old.ahead) → 0 < length text) × ReceivesBytes r old.reader text new.reader × ConsumesText r old.reader text new.reader
 ConsumesWaiting (Err e) old new = new.ahead ≡ old.ahead
 
 -- `FinishesText next old new` holds if `next` is what the end of the text led to, right after the position of `old`: a

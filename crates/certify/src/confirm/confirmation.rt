@@ -1,14 +1,14 @@
 //! Confirms the commands of a script as they are read, and then its end.
 ghost use Rattle.std.specs.Prelude.{◌≡◌, ◌+◌, ◌^◌, ◌<◌, ◌≤◌, [], ◌∷◌, true, false, OnOk};
 ghost use Rattle.sat_base.specs.device.Device.{Reader};
-ghost use Rattle.sat_base.specs.dimacs.Parsing.{MakesNoReadAfterEnd};
+ghost use Rattle.certify.specs.script.Decided.{MakesNoReadOnceDecided};
 ghost use Rattle.sat_base.specs.script.Script.{Command as Spelled};
 ghost use Rattle.certify.specs.confirm.Streams.{StepsGoOn, StepReadsAreFew, SameLoan};
 ghost use Rattle.certify.specs.confirm.VerdictPromises.{command_count};
 ghost use Rattle.certify.specs.confirm.Confirming.{ConfirmsRest, ConfirmsCommand, name_table_of};
 ghost use Rattle.certify.specs.confirm.ConfirmStates.{CommandCall, answers_source_in};
 ghost use Rattle.certify.specs.confirm.ConfirmedScript.{ConfirmsScript, script_source, confirm_place};
-ghost use Rattle.certify.specs.script.LastChunk.{AccountsForBytes};
+ghost use Rattle.certify.specs.script.LastChunk.{AccountsForValidBytes};
 ghost use Rattle.certify.specs.script.LastPiece.{IsNotAtEnd};
 ghost use Rattle.certify.specs.script.Commands.{HasWholeCommand, ReaderMeans, end_reading};
 ghost use Rattle.sat_base.specs.script.Language.{prepend_commands, reading};
@@ -90,8 +90,8 @@ impl Confirmation {
         ensures ends { ConfirmsScript reading result
             (confirm_place S.seen A.seen C.seen script.old answers.old steps.old self.old)
             (confirm_place S.seen A.seen C.seen script.new answers.new steps.new self.new) }
-        ensures stops { (start : Reader) → AccountsForBytes start (script_source S.seen script.old self.old) self.old.script.reader
-            → MakesNoReadAfterEnd start (S.seen script.new) }
+        ensures stops { (start : Reader) → AccountsForValidBytes start (script_source S.seen script.old self.old) self.old.script.reader
+            → MakesNoReadOnceDecided start (S.seen script.new) }
     {
         loop {
             let next = match self.script.next(script) {

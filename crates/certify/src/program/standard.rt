@@ -1,7 +1,7 @@
 //! Handles the call without arguments: answers a script while it is read from standard input. The certificate and the
 //! bytes that were read are kept in memory.
 ghost use Rattle.std.specs.Prelude.{◌≡◌, ◌⊎◌, [], IfOk, OnErr, false};
-ghost use Rattle.sat_base.specs.dimacs.Parsing.{MakesNoReadAfterEnd};
+ghost use Rattle.certify.specs.script.Decided.{MakesNoReadOnceDecided};
 ghost use Rattle.certify.specs.Devices.{reader_before_after, writer_before_after};
 ghost use Rattle.certify.specs.program.Calls.{HasStatus};
 ghost use Rattle.certify.specs.program.Copies.{GaveKept};
@@ -67,7 +67,7 @@ fn run_kept<R: CountedRead>(alloc: Global, script: &mut Keeping<R>) -> Result<Wr
     ensures gave { IfOk result (λ w. GaveKept (R.seen script.old.reader) (R.seen script.new.reader) script.new.kept.items
         (λ text. IsWritten text w)) }
     ensures reads { ReadsStopAtFailure (reader_before_after R.seen script.old.reader script.new.reader) }
-    ensures stops { MakesNoReadAfterEnd (R.seen script.old.reader) (R.seen script.new.reader) }
+    ensures stops { MakesNoReadOnceDecided (R.seen script.old.reader) (R.seen script.new.reader) }
 {
     match run_in_memory(alloc, script, u64::MAX) {
         Ok(written) => {
@@ -96,7 +96,7 @@ fn answer_kept<R: CountedRead, O: CountedWrite, E: CountedWrite>(
         ⊎ PrintsPrefix (reader_before_after R.seen script.old.reader script.new.reader)
         (writer_before_after O.seen output.old output.new)) }
     ensures reads { ReadsStopAtFailure (reader_before_after R.seen script.old.reader script.new.reader) }
-    ensures stops { MakesNoReadAfterEnd (R.seen script.old.reader) (R.seen script.new.reader) }
+    ensures stops { MakesNoReadOnceDecided (R.seen script.old.reader) (R.seen script.new.reader) }
 {
     let written = run_kept(alloc, script)?;
     report_progress(errors, &written.summary);
@@ -116,7 +116,7 @@ fn answer_and_return<R: CountedRead + Drop, O: CountedWrite, E: CountedWrite>(
     ensures cut { OnErr result.1 ((O.seen output.new ≡ O.seen output.old)
         ⊎ PrintsPrefix (R.seen input, R.seen result.0) (writer_before_after O.seen output.old output.new)) }
     ensures reads { ReadsStopAtFailure (R.seen input, R.seen result.0) }
-    ensures stops { MakesNoReadAfterEnd (R.seen input) (R.seen result.0) }
+    ensures stops { MakesNoReadOnceDecided (R.seen input) (R.seen result.0) }
 {
     let mut script = Keeping::new(alloc, input);
     let result = answer_kept(alloc, &mut script, output, errors);
@@ -137,7 +137,7 @@ pub(super) fn answer<I: CountedRead, O: CountedWrite, E: CountedWrite>(
     ensures cut { OnErr result ((O.seen output.new ≡ O.seen output.old)
         ⊎ PrintsPrefix (reader_before_after I.seen input.old input.new) (writer_before_after O.seen output.old output.new)) }
     ensures reads { ReadsStopAtFailure (reader_before_after I.seen input.old input.new) }
-    ensures stops { MakesNoReadAfterEnd (I.seen input.old) (I.seen input.new) }
+    ensures stops { MakesNoReadOnceDecided (I.seen input.old) (I.seen input.new) }
 {
     let (lent, result) = answer_and_return(alloc, input, output, errors);
     let _input: &mut I = lent;

@@ -1,7 +1,7 @@
 //! Carries out calls that name files, with any readers and writers instead of the files. All calls return the status.
 ghost use Rattle.std.specs.Prelude.{◌≡◌, ◌≤◌, ◌↔◌, ◌⊎◌, None, [], IfOk, OnErr, OnOk, true};
 ghost use Rattle.sat_base.specs.device.Device.{WriterFails, WriterAccepts};
-ghost use Rattle.sat_base.specs.dimacs.Parsing.{MakesNoReadAfterEnd};
+ghost use Rattle.certify.specs.script.Decided.{MakesNoReadOnceDecided};
 ghost use Rattle.certify.specs.Devices.{reader_before_after, writer_before_after};
 ghost use Rattle.certify.specs.declared.verdict.Verdict.TheVariants.{Yes};
 ghost use Rattle.certify.specs.program.Calls.{HasStatus};
@@ -53,7 +53,7 @@ pub(super) fn run_text<S: CountedRead, A: CountedWrite, C: CountedWrite, E: Coun
     ensures unfinished { OnErr result
         (Stopped budget (reader_before_after S.seen script.old script.new) (writer_before_after A.seen answers.old answers.new)
         (writer_before_after C.seen certificate.old certificate.new)) }
-    ensures stops { MakesNoReadAfterEnd (S.seen script.old) (S.seen script.new) }
+    ensures stops { MakesNoReadOnceDecided (S.seen script.old) (S.seen script.new) }
     ensures calls { RunStopsAtFailure (reader_before_after S.seen script.old script.new)
         (writer_before_after A.seen answers.old answers.new) (writer_before_after C.seen certificate.old certificate.new) }
 {
@@ -101,7 +101,7 @@ pub(super) fn confirm_given<S: CountedRead, A: CountedRead, C: CountedRead, O: C
     ensures cut { OnErr result ((O.seen output.new ≡ O.seen output.old)
         ⊎ PrintsYesOrNoPrefix (reader_before_after S.seen script.old script.new) (reader_before_after A.seen answers.old answers.new)
         (reader_before_after C.seen certificate.old certificate.new) (writer_before_after O.seen output.old output.new)) }
-    ensures stops { MakesNoReadAfterEnd (S.seen script.old) (S.seen script.new) }
+    ensures stops { MakesNoReadOnceDecided (S.seen script.old) (S.seen script.new) }
     ensures calls { ConfirmStopsAtFailure (reader_before_after S.seen script.old script.new)
         (reader_before_after A.seen answers.old answers.new) (reader_before_after C.seen certificate.old certificate.new) }
 {

@@ -4,7 +4,7 @@ ghost use Rattle.sat_base.specs.device.Device.{WriterAccepts};
 ghost use Rattle.sat_base.specs.script.ScriptState.{ScriptState, initial_state};
 ghost use Rattle.sat_base.specs.script.Script.{Command as Spelled, Malformed};
 ghost use Rattle.certify.specs.answers.Answers.{malformed_line};
-ghost use Rattle.certify.specs.script.LastChunk.{KeepsAccount};
+ghost use Rattle.certify.specs.script.LastChunk.{AccountsForBytes, KeepsAccount};
 ghost use Rattle.certify.specs.script.LastPiece.{IsNotAtEnd, source_in};
 ghost use Rattle.certify.specs.script.Commands.{RepresentsCommand, RepresentsSomeCommand, ReaderMeans, ReaderMeansIf};
 ghost use Rattle.certify.specs.script.Commands.{end_reading};
@@ -154,7 +154,7 @@ pub(crate) fn serve_all<S: CountedRead, A: CountedWrite, C: CountedWrite + Drop>
     ensures serves { ServesScript initial_state reading plain_reading result
         (source_in S.seen script.old stream.old.ahead) (source_in S.seen script.new stream.new.ahead) session.old
         session.new (A.seen answers.old) (A.seen answers.new) }
-    ensures stops { KeepsAccount result (source_in S.seen script.old stream.old.ahead)
+    ensures stops { KeepsAccount (λ at. AccountsForBytes) result (source_in S.seen script.old stream.old.ahead)
         (source_in S.seen script.new stream.new.ahead) stream.old.reader stream.new.reader }
 {
     loop {

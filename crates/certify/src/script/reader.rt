@@ -8,7 +8,7 @@ ghost use Rattle.sat_base.specs.text.WrongWords.{HasValidContinuation};
 ghost use Rattle.certify.specs.script.Commands.{EndsScript, EndsWhateverFollows, HasWholeCommand, RepresentsCommand};
 ghost use Rattle.certify.specs.script.Commands.{RestMatters, CanContinue};
 ghost use Rattle.certify.specs.script.Commands.{ReaderMeansIf, ReaderMeans, ReceivesBytes};
-ghost use Rattle.certify.specs.script.LastChunk.{ConsumesText, HasConsumed};
+ghost use Rattle.certify.specs.script.LastChunk.{ConsumesText, HasConsumed, HasConsumedValid};
 
 use super::commands::Commands;
 use super::{Command, Reached, ScriptEnd};
@@ -46,7 +46,7 @@ impl ScriptReader {
     pub fn new(alloc: Global) -> ScriptReader
         ensures means { ReaderMeans result reading }
         ensures counts { ReaderMeansIf false result plain_reading }
-        ensures text { HasConsumed result [] }
+        ensures text { HasConsumedValid result [] }
     {
         ScriptReader {
             tokenizer: Tokenizer::new(),
@@ -75,7 +75,7 @@ impl ScriptReader {
         // A malformed word is reported at the first byte after which it can no longer become a valid one.
         ensures right { IfOk result (λ r. 0 < length bytes.now → r.1 ≡ Reached.More → CanContinue self.new) }
         ensures takes { IfOk result (λ r. ReceivesBytes r.1 self.old (take r.0 bytes.now) self.new) }
-        ensures text { IfOk result (λ r. ConsumesText self.old (take r.0 bytes.now) self.new) }
+        ensures text { IfOk result (λ r. ConsumesText r.1 self.old (take r.0 bytes.now) self.new) }
     {
         let mut at = 0;
         while at < bytes.len() {

@@ -4,7 +4,8 @@ ghost use Rattle.sat_base.specs.script.Script.{Command as SpelledCommand};
 ghost use Rattle.certify.specs.script.LastPiece.{IsNotAtEnd, source_in, waiting_bytes};
 ghost use Rattle.certify.specs.script.Commands.{HasWholeCommand, RepresentsCommand, RestMatters, ReaderMeansIf};
 ghost use Rattle.certify.specs.script.Commands.{ReaderMeans};
-ghost use Rattle.certify.specs.script.LastChunk.{HasConsumed, KeepsAccount};
+ghost use Rattle.certify.specs.script.LastChunk.{AccountsTowards, AccountsUpTo};
+ghost use Rattle.certify.specs.script.LastChunk.{HasConsumed, HasConsumedValid, KeepsAccount};
 ghost use Rattle.sat_base.specs.script.Language.{reading, plain_reading};
 ghost use Rattle.certify.specs.script.Streaming.{ReadsTowardsNext, NextCommandResult, LeavesFewerCalls, FinishesText};
 ghost use Rattle.certify.specs.script.Streaming.{ConsumesWaiting};
@@ -40,7 +41,7 @@ impl CommandStream {
     pub fn new(alloc: Global) -> CommandStream
         ensures means { ReaderMeans result.reader reading }
         ensures counts { ReaderMeansIf false result.reader plain_reading }
-        ensures text { HasConsumed result.reader [] }
+        ensures text { HasConsumedValid result.reader [] }
         ensures waiting { waiting_bytes result.ahead ≡ [] }
         ensures reads { result.ahead.reads ≡ 0 }
     {
@@ -95,7 +96,7 @@ impl CommandStream {
         ensures brings { ReadsTowardsNext result (source_in S.seen script.old self.old.ahead)
             (source_in S.seen script.new self.new.ahead) self.old.reader self.new.reader }
         ensures falls { LeavesFewerCalls result self.old.ahead self.new.ahead }
-        ensures stops { KeepsAccount result (source_in S.seen script.old self.old.ahead)
+        ensures stops { KeepsAccount AccountsTowards result (source_in S.seen script.old self.old.ahead)
             (source_in S.seen script.new self.new.ahead) self.old.reader self.new.reader }
     {
         if self.ahead.refill(script)? == 0 {
@@ -112,7 +113,7 @@ impl CommandStream {
         ensures brings { ReadsTowardsNext result (source_in S.seen script.old self.old.ahead)
             (source_in S.seen script.new self.new.ahead) self.old.reader self.new.reader }
         ensures falls { LeavesFewerCalls result self.old.ahead self.new.ahead }
-        ensures stops { KeepsAccount result (source_in S.seen script.old self.old.ahead)
+        ensures stops { KeepsAccount AccountsTowards result (source_in S.seen script.old self.old.ahead)
             (source_in S.seen script.new self.new.ahead) self.old.reader self.new.reader }
     {
         match self.reader.end_if_over() {
@@ -128,7 +129,7 @@ impl CommandStream {
         ensures brings { ReadsTowardsNext result (source_in S.seen script.old self.old.ahead)
             (source_in S.seen script.new self.new.ahead) self.old.reader self.new.reader }
         ensures falls { LeavesFewerCalls result self.old.ahead self.new.ahead }
-        ensures stops { KeepsAccount result (source_in S.seen script.old self.old.ahead)
+        ensures stops { KeepsAccount AccountsTowards result (source_in S.seen script.old self.old.ahead)
             (source_in S.seen script.new self.new.ahead) self.old.reader self.new.reader }
     {
         if self.ahead.waiting().is_empty() {
@@ -146,7 +147,7 @@ impl CommandStream {
         requires { IsNotAtEnd (source_in S.seen script.old self.old.ahead) }
         ensures arrives { NextCommandResult result (source_in S.seen script.old self.old.ahead)
             (source_in S.seen script.new self.new.ahead) self.old.reader self.new.reader }
-        ensures stops { KeepsAccount result (source_in S.seen script.old self.old.ahead)
+        ensures stops { KeepsAccount AccountsUpTo result (source_in S.seen script.old self.old.ahead)
             (source_in S.seen script.new self.new.ahead) self.old.reader self.new.reader }
     {
         loop {

@@ -3,7 +3,7 @@ use Rattle.std.proofs.Common.{ℕ, ◌≡◌, ◌+◌, ◌-◌, ◌≤◌, ◌<�
 use Rattle.std.specs.Prelude.{OnOk, if◌then◌else◌, nat_lt}
 use Rattle.std.proofs.lemmas.List.{append-nil, drop_all}
 use Rattle.sat_base.specs.device.Device.{Reader, CouldStillGive, FewReads, GavePrefix, GaveEnough, lent_reader}
-use Rattle.sat_base.specs.dimacs.Parsing.{MakesNoReadAfterEnd}
+use Rattle.certify.specs.script.Decided.{MakesNoReadOnceDecided}
 use Rattle.certify.specs.program.Copies.{GaveKept, IsCopy, given_before, kept_reader}
 use Rattle.certify.specs.program.Failures.{ReadsStopAtFailure}
 
@@ -69,7 +69,7 @@ keeps_loans : (a b : Reader) (k kept : List ℕ) (n m : ℕ) → (kept_reader b 
 keeps_loans a b k kept n m h = let e : ◌≡◌ {A = List ℕ} (given_before b.given kept ∷ b.loans) (given_before a.given k ∷ a.loans) = h in cc
 
 -- a reader was read no further than it was through one that keeps what it gives
-pub keeps_stop : (a b : Reader) (k kept : List ℕ) (n m : ℕ) → n ≡ 0 → MakesNoReadAfterEnd (kept_reader a k n) (kept_reader b kept m) → MakesNoReadAfterEnd a b
+pub keeps_stop : (a b : Reader) (k kept : List ℕ) (n m : ℕ) → n ≡ 0 → MakesNoReadOnceDecided (kept_reader a k n) (kept_reader b kept m) → MakesNoReadOnceDecided a b
 keeps_stop a b k kept n m none h =
     (h.0, record { gave = h.1.gave; known_bytes = h.1.known_bytes; loans = keeps_loans a b k kept n m h.1.loans }, h.2, λ ended called. last (nat_lt 0 m) b.failed b.ended (h.3 ended (omega arith)))
   where
@@ -82,7 +82,7 @@ pub same_loan : (a b : Reader) (given back : ℕ) → (lent_reader back b).loans
 same_loan a b given back e = let h : ◌≡◌ {A = List ℕ} (back ∷ b.loans) (given ∷ a.loans) = e in cc
 
 -- how far a reader that was lent was read
-pub stop_unlent : (a b : Reader) (given back : ℕ) → MakesNoReadAfterEnd (lent_reader given a) (lent_reader back b) → MakesNoReadAfterEnd a b
+pub stop_unlent : (a b : Reader) (given back : ℕ) → MakesNoReadOnceDecided (lent_reader given a) (lent_reader back b) → MakesNoReadOnceDecided a b
 stop_unlent a b given back h =
     (h.0, record { gave = h.1.gave; known_bytes = h.1.known_bytes; loans = let k : ◌≡◌ {A = List ℕ} (back ∷ b.loans) (given ∷ a.loans) = h.1.loans in cc }, h.2, h.3)
 

@@ -2,7 +2,7 @@
 use Rattle.std.proofs.Common.{ℕ, ◌≡◌, ◌+◌, ◌<◌, ◌^◌, ◌⊎◌, Vec, Global, arith, List, ◌++◌, Result, Ok, Err, IfOk, OnOk, inl, inr, length, refl, subst, sym, ◌∙◌, ap, append_assoc}
 use Rattle.std.specs.Prelude.{OnErr, is_ok, is_some, if◌then◌else◌}
 use Rattle.sat_base.specs.device.Device.{Reader, Writer, GaveEnough, lent_reader}
-use Rattle.sat_base.specs.dimacs.Parsing.{MakesNoReadAfterEnd}
+use Rattle.certify.specs.script.Decided.{MakesNoReadOnceDecided}
 use Rattle.sat_base.specs.script.Language.{reading}
 use Rattle.sat_base.proofs.lemmas.device.Given.{enough_as}
 use Rattle.sat_base.specs.script.Script.{ScriptEnding, Clean, Malformed}
@@ -71,13 +71,13 @@ cut_given (Err e) x y a b kept w g p = inr (record { given = enough_as x y (λ t
 
 -- A READER THAT IS LENT
 
-module _ {I : Type 0} (seen : I → Reader) (x c v : I) (given back : ℕ) (same : given ≡ back → c ≡ v) (stops : MakesNoReadAfterEnd (lent_reader given (seen x)) (lent_reader back (seen v))) where
+module _ {I : Type 0} (seen : I → Reader) (x c v : I) (given back : ℕ) (same : given ≡ back → c ≡ v) (stops : MakesNoReadOnceDecided (lent_reader given (seen x)) (lent_reader back (seen v))) where
   came_back : (P : I → Type 0) → P v → P c
   came_back P p = subst P (sym (same (same_loan (seen x) (seen v) given back stops.1.loans))) p
 
   -- once a lent reader is returned, how far it was read holds for it
-  pub stop_lent : MakesNoReadAfterEnd (seen x) (seen c)
-  stop_lent = came_back (λ k. MakesNoReadAfterEnd (seen x) (seen k)) (stop_unlent (seen x) (seen v) given back stops)
+  pub stop_lent : MakesNoReadOnceDecided (seen x) (seen c)
+  stop_lent = came_back (λ k. MakesNoReadOnceDecided (seen x) (seen k)) (stop_unlent (seen x) (seen v) given back stops)
 
   -- once a lent reader is returned, so are its failed reads
   pub reads_lent : ReadsStopAtFailure (lent_reader given (seen x), lent_reader back (seen v)) → ReadsStopAtFailure (seen x, seen c)

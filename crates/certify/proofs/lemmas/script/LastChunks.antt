@@ -1,5 +1,5 @@
--- No chunk of a script is read after the line that ends the text.
-use Rattle.std.proofs.Common.{◌≡◌, ℕ, zero, suc, ◌+◌, ◌-◌, ◌≤◌, ◌<◌, List, [], ◌∷◌, ◌++◌, length, take, drop, Option, Some, None, Result, Ok, Err, refl, sym, ap, subst, ◌∙◌, append_assoc, arith}
+-- What a reader of scripts has consumed, and that no chunk is read once the script is decided.
+use Rattle.std.proofs.Common.{◌≡◌, ℕ, zero, suc, ◌+◌, ◌-◌, ◌≤◌, ◌<◌, List, [], ◌∷◌, ◌++◌, length, take, drop, Bool, false, Option, Some, None, Result, Ok, Err, refl, sym, ap, subst, ◌∙◌, append_assoc, arith, inl, inr}
 use Rattle.std.proofs.lemmas.List.{append-nil, append_cancel_left, length-take}
 use Rattle.std.specs.Io.KnownBytes.{Consumes, prepend_known}
 use Rattle.sat_base.specs.declared.device.whole.ReadError.{ReadError}
@@ -8,37 +8,50 @@ use Rattle.sat_base.specs.declared.text.Token.{Token as CodeToken}
 use Rattle.sat_base.specs.declared.text.Tokenizer.{Tokenizer}
 use Rattle.sat_base.specs.device.Device.{Reader, GavePrefix, max_read_size}
 use Rattle.sat_base.specs.device.Reading.{Source, to_come}
-use Rattle.sat_base.specs.dimacs.Parsing.{EndsInLastPiece, LastReadGaveBytes, MakesNoReadAfterEnd}
+use Rattle.sat_base.specs.dimacs.Parsing.{LastReadGaveBytes}
+use Rattle.sat_base.specs.script.Language.{Reading, PartialCommand, NoCommand, commands_of, without_lines}
 use Rattle.sat_base.specs.text.Chunks.{IgnoresRest}
 use Rattle.sat_base.specs.text.Position.{prepend_tokens}
-use Rattle.sat_base.specs.text.Text.{Token, Scan, HasEnded, scan}
-use Rattle.sat_base.specs.text.Tokenizing.{capped, HasRemainingScan, ReceivesPrefix}
+use Rattle.sat_base.specs.text.Text.{Token, Scan, HasEnded, scan, lines, tokens_of}
+use Rattle.sat_base.specs.text.Tokenizing.{capped, capped_token, HasRemainingScan, ReceivesPrefix}
+use Rattle.sat_base.specs.text.WrongWords.{HaveNoWrongWord, HasValidContinuation}
 use Rattle.sat_base.proofs.lemmas.device.Known.{consumes_more, consumes_none}
-use Rattle.sat_base.proofs.lemmas.dimacs.ReadToEnd.{none_has_ended, stops_after, stops_none}
-use Rattle.certify.specs.script.Commands.{RestMatters}
-use Rattle.certify.specs.script.LastChunk.{HasConsumed, ConsumesText, AccountsForBytes, EndsAtLine, KeepsAccount}
+use Rattle.sat_base.proofs.lemmas.dimacs.ReadToEnd.{none_has_ended}
+use Rattle.certify.specs.script.Commands.{HoldsPartialCommand, ReceivesToken, RestMatters}
+use Rattle.certify.specs.script.Decided.{IsMalformedSoFar, IsDecided, IsDecidedInLastPiece, MakesNoReadOnceDecided}
+use Rattle.certify.specs.script.LastChunk.{HasConsumed, HasConsumedValid, ConsumesText, AccountsFor, AccountsForBytes, AccountsForValidBytes, AccountsUpTo, AccountsTowards, EndsAtLine, KeepsAccount}
 use Rattle.certify.specs.script.LastPiece.{RefillsAhead, source_in, waiting_bytes}
-use Rattle.certify.specs.script.Streaming.{ConsumesWaiting}
+use Rattle.certify.specs.script.Streaming.{ConsumesWaiting, FinishesText}
 use Rattle.certify.specs.declared.script.ahead.LastPiece.{LastPiece}
 use Rattle.certify.specs.declared.script.Reached.{Reached}
+use Rattle.certify.specs.declared.script.Reached.TheVariants as reached
 use Rattle.certify.specs.declared.script.commands.Commands.{Commands}
 use Rattle.certify.specs.declared.script.reader.ScriptReader.{ScriptReader}
 use Rattle.certify.specs.declared.script.stream.CommandStream.{CommandStream}
 use Rattle.certify.specs.declared.script.stream.Next.{Next}
+use Rattle.certify.specs.declared.script.stream.Next.TheVariants as next
 use Rattle.certify.proofs.lemmas.script.Bytes.{front_and, reader}
+use Rattle.certify.proofs.lemmas.script.Decided.{MeansHand, decided_after, decided_none, valid_so_far, without_append}
 
 -- CONSUMED TEXTS
 
--- nothing was consumed at the start of a script
-pub consumed_first : (tokenizer : Tokenizer) (commands : Commands) → HasRemainingScan tokenizer scan → HasConsumed (reader tokenizer commands) []
-consumed_first tokenizer commands s = record { before = []; left_of = scan; valid = s; scans = λ rest. refl }
+none_right : HaveNoWrongWord (scan []).tokens
+unfolding scan lines tokens_of
+none_right = tt
 
--- a tokenizer received bytes
-pub consumes_prefix : (old : ScriptReader) (bytes : List ℕ) (t : Option CodeToken) (next : Tokenizer) (new : Commands) → ReceivesPrefix old.tokenizer bytes t next → ConsumesText old bytes (reader next new)
-consumes_prefix old bytes None next new r = λ text h.
+-- nothing was consumed at the start of a script
+pub consumed_first : (tokenizer : Tokenizer) (commands : Commands) → HasRemainingScan tokenizer scan → HoldsPartialCommand commands.draft NoCommand → HasConsumedValid (reader tokenizer commands) []
+consumed_first tokenizer commands s n = record { consumed = record { before = []; left_of = scan; valid = s; scans = λ rest. refl }; hand = NoCommand; holds = n; means = λ ts. refl; right = ([], none_right) }
+
+-- a tokenizer received bytes that complete no token
+consumed_part : (old : ScriptReader) (bytes : List ℕ) (next : Tokenizer) (new : Commands) → ReceivesPrefix old.tokenizer bytes None next → (text : List ℕ) → HasConsumed old text → HasConsumed (reader next new) (text ++ bytes)
+consumed_part old bytes next new r text h =
     let k = r h.left_of h.valid in
     record { before = h.before; left_of = k.0; valid = k.1; scans = λ rest. ap scan (append_assoc text bytes rest) ∙ h.scans (bytes ++ rest) ∙ ap (prepend_tokens h.before) (k.2 rest) }
-consumes_prefix old bytes (Some t) next new r = λ text h.
+
+-- it received bytes that complete the token `t`
+consumed_token : (old : ScriptReader) (bytes : List ℕ) (t : CodeToken) (next : Tokenizer) (new : Commands) → ReceivesPrefix old.tokenizer bytes (Some t) next → (text : List ℕ) → HasConsumed old text → HasConsumed (reader next new) (text ++ bytes)
+consumed_token old bytes t next new r text h =
     let k = r h.left_of h.valid in
     let one : List (ℕ × Token) = ((k.0 []).last, k.2.0) ∷ [] in
     record {
@@ -50,17 +63,86 @@ consumes_prefix old bytes (Some t) next new r = λ text h.
           ∙ ap (λ (ts : List (ℕ × Token)). record { tokens = ts; last = (k.0 rest).last }) (sym (append_assoc h.before one (k.0 rest).tokens));
     }
 
-pub consumes_nothing : (a : ScriptReader) → ConsumesText a [] a
-consumes_nothing a text h = subst (HasConsumed a) (sym (append-nil text)) h
+-- the unfinished word is wrong
+pub consumes_wrong : (old : ScriptReader) (bytes : List ℕ) (next : Tokenizer) (new : Commands) → ReceivesPrefix old.tokenizer bytes None next → ConsumesText reached.Malformed old bytes (reader next new)
+consumes_wrong old bytes next new r text h = consumed_part old bytes next new r text h.consumed
 
-pub consumes_then : (a b c : ScriptReader) (xs ys : List ℕ) → ConsumesText a xs b → ConsumesText b ys c → ConsumesText a (xs ++ ys) c
-consumes_then a b c xs ys f g text h = subst (HasConsumed c) (append_assoc text xs ys) (g (text ++ xs) (f text h))
+-- the unfinished word can continue
+pub consumes_part : (old : ScriptReader) (bytes : List ℕ) (next : Tokenizer) → ReceivesPrefix old.tokenizer bytes None next → ((after : List ℕ → Scan) → HasRemainingScan next after → HasValidContinuation after)
+    → ConsumesText reached.More old bytes (reader next old.commands)
+consumes_part old bytes next r right text h =
+    let c = h.consumed in
+    let k = r c.left_of c.valid in
+    record {
+      consumed = record { before = c.before; left_of = k.0; valid = k.1; scans = λ rest. ap scan (append_assoc text bytes rest) ∙ c.scans (bytes ++ rest) ∙ ap (prepend_tokens c.before) (k.2 rest) };
+      hand = h.hand;
+      holds = h.holds;
+      means = h.means;
+      right = right k.0 k.1;
+    }
+
+-- what a token makes of the tokens before it
+means_on : (before : List (ℕ × Token)) (line : ℕ) (given : Token) (hand next : PartialCommand) → MeansHand before hand → ((ts : List Token) → (commands_of hand (given ∷ ts)).1 ≡ (commands_of next ts).1) → MeansHand (before ++ (line, given) ∷ []) next
+means_on before line given hand next m n ts =
+    ap (λ (z : List Token). (commands_of NoCommand (z ++ ts)).1) (without_append before ((line, given) ∷ []))
+    ∙ ap (λ (z : List Token). (commands_of NoCommand z).1) (append_assoc (without_lines before) (given ∷ []) ts) ∙ m (given ∷ ts) ∙ n ts
+
+-- a token was completed and taken
+pub consumes_token : (q : Reached) (old : ScriptReader) (bytes : List ℕ) (t : CodeToken) (next : Tokenizer) (new : Commands) → ReceivesPrefix old.tokenizer bytes (Some t) next
+    → ((after : List ℕ → Scan) → HasRemainingScan next after → HasValidContinuation after) → ((given : Token) → t ≡ capped_token given → ReceivesToken q old.commands given new) → ConsumesText q old bytes (reader next new)
+consumes_token reached.More old bytes t next new r right takes = λ text h.
+    let c = h.consumed in
+    let k = r c.left_of c.valid in
+    let n = takes k.2.0 k.2.1 h.hand h.holds in
+    let one : List (ℕ × Token) = ((k.0 []).last, k.2.0) ∷ [] in
+    record {
+      consumed = record {
+        before = c.before ++ one;
+        left_of = k.0;
+        valid = k.1;
+        scans = λ rest.
+            ap scan (append_assoc text bytes rest) ∙ c.scans (bytes ++ rest) ∙ ap (prepend_tokens c.before) (k.2.2 rest)
+            ∙ ap (λ (ts : List (ℕ × Token)). record { tokens = ts; last = (k.0 rest).last }) (sym (append_assoc c.before one (k.0 rest).tokens));
+      };
+      hand = n.0;
+      holds = n.1;
+      means = means_on c.before (k.0 []).last k.2.0 h.hand n.0 h.means (λ ts. ap (λ (x : Reading). x.1) (n.2 false ts));
+      right = right k.0 k.1;
+    }
+consumes_token reached.Command old bytes t next new r right takes = λ text h.
+    let c = h.consumed in
+    let k = r c.left_of c.valid in
+    let n = takes k.2.0 k.2.1 h.hand h.holds in
+    let one : List (ℕ × Token) = ((k.0 []).last, k.2.0) ∷ [] in
+    record {
+      consumed = record {
+        before = c.before ++ one;
+        left_of = k.0;
+        valid = k.1;
+        scans = λ rest.
+            ap scan (append_assoc text bytes rest) ∙ c.scans (bytes ++ rest) ∙ ap (prepend_tokens c.before) (k.2.2 rest)
+            ∙ ap (λ (ts : List (ℕ × Token)). record { tokens = ts; last = (k.0 rest).last }) (sym (append_assoc c.before one (k.0 rest).tokens));
+      };
+      hand = NoCommand;
+      holds = n.2;
+      means = means_on c.before (k.0 []).last k.2.0 h.hand NoCommand h.means (λ ts. ap (λ (x : Reading). x.1) (n.3 false ts));
+      right = right k.0 k.1;
+    }
+consumes_token reached.Malformed old bytes t next new r right takes = λ text h. consumed_token old bytes t next new r text h.consumed
+
+pub consumes_nothing : (a : ScriptReader) → ConsumesText reached.More a [] a
+consumes_nothing a text h = subst (HasConsumedValid a) (sym (append-nil text)) h
+
+pub consumes_then : (q : Reached) (a b c : ScriptReader) (xs ys : List ℕ) → ConsumesText reached.More a xs b → ConsumesText q b ys c → ConsumesText q a (xs ++ ys) c
+consumes_then reached.More a b c xs ys f g = λ text h. subst (HasConsumedValid c) (append_assoc text xs ys) (g (text ++ xs) (f text h))
+consumes_then reached.Command a b c xs ys f g = λ text h. subst (HasConsumedValid c) (append_assoc text xs ys) (g (text ++ xs) (f text h))
+consumes_then reached.Malformed a b c xs ys f g = λ text h. subst (HasConsumed c) (append_assoc text xs ys) (g (text ++ xs) (f text h))
 
 -- a prefix, and then some of the bytes after it
-pub consumes_front : (a b c : ScriptReader) (xs : List ℕ) (n k : ℕ) → n ≤ length xs → k ≤ length (take (length xs - n) (drop n xs)) → ConsumesText a (take n xs) b
-    → ConsumesText b (take k (take (length xs - n) (drop n xs))) c → ConsumesText a (take (n + k) xs) c
-consumes_front a b c xs n k h i f g =
-    subst (λ (bs : List ℕ). ConsumesText a bs c) (sym (front_and n k xs h i)) (consumes_then a b c (take n xs) (take k (take (length xs - n) (drop n xs))) f g)
+pub consumes_front : (q : Reached) (a b c : ScriptReader) (xs : List ℕ) (n k : ℕ) → n ≤ length xs → k ≤ length (take (length xs - n) (drop n xs)) → ConsumesText reached.More a (take n xs) b
+    → ConsumesText q b (take k (take (length xs - n) (drop n xs))) c → ConsumesText q a (take (n + k) xs) c
+consumes_front q a b c xs n k h i f g =
+    subst (λ (bs : List ℕ). ConsumesText q a bs c) (sym (front_and n k xs h i)) (consumes_then q a b c (take n xs) (take k (take (length xs - n) (drop n xs))) f g)
 
 -- THE END OF THE TEXT
 
@@ -79,6 +161,16 @@ consumed_open r text h matters ended = matters h.left_of h.valid ignores
   where
     ignores : IgnoresRest h.left_of
     ignores rest = same_rest h.before (h.left_of rest) (h.left_of []) (sym (h.scans rest) ∙ ended rest ∙ ap scan (sym (append-nil text)) ∙ h.scans [])
+
+not_malformed : (r : ScriptReader) (text : List ℕ) → HasConsumedValid r text → IsMalformedSoFar text → ⊥
+not_malformed r text h bad =
+    let c = h.consumed in
+    valid_so_far r.tokenizer text c.before c.left_of h.hand c.valid (λ rest. ap (λ (s : Scan). s.tokens) (c.scans rest)) h.means h.right bad
+
+-- as long as the script is valid and the bytes that follow matter, it is not decided
+undecided : (r : ScriptReader) (text : List ℕ) → HasConsumedValid r text → RestMatters r → IsDecided text → ⊥
+undecided r text h matters (inl ended) = consumed_open r text h.consumed matters ended
+undecided r text h matters (inr bad) = not_malformed r text h bad
 
 -- CHUNKS
 
@@ -99,31 +191,39 @@ gave_on start a b text fresh none all gave loans known g =
       loans = loans ∙ g.loans;
     }
 
+-- a script that isn't malformed so far
+pub valid_account : (start : Reader) (s : Source) (r : ScriptReader) → AccountsForValidBytes start s r → AccountsForBytes start s r
+valid_account start s r h = record { text = h.text; consumed = h.consumed.consumed; front = h.front; last = h.last; gave = h.gave }
+
 -- a reader that reads on has given no chunk too many
-pub stops_on : (start : Reader) (s : Source) (r : ScriptReader) → AccountsForBytes start s r → MakesNoReadAfterEnd start s.reader
+pub stops_on : (start : Reader) (s : Source) (r : ScriptReader) → AccountsForBytes start s r → MakesNoReadOnceDecided start s.reader
 stops_on start s r h = (h.text ++ s.waiting, h.front, h.last, h.gave)
 
+pub stops_valid : (start : Reader) (s : Source) (r : ScriptReader) → AccountsForValidBytes start s r → MakesNoReadOnceDecided start s.reader
+stops_valid start s r h = stops_on start s r (valid_account start s r h)
+
 -- bytes that were waiting are consumed
-pub reads_waiting : (start r : Reader) (n m : ℕ) (ws vs text : List ℕ) (old new : ScriptReader) → ws ≡ text ++ vs → ConsumesText old text new
-    → AccountsForBytes start (record { reader = r; waiting = ws; reads = n; names = [] }) old → AccountsForBytes start (record { reader = r; waiting = vs; reads = m; names = [] }) new
-reads_waiting start r n m ws vs text old new e f h =
+reads_waiting : (Consumed : ScriptReader → List ℕ → Type 0) (start r : Reader) (n m : ℕ) (ws vs text : List ℕ) (old new : ScriptReader) → ws ≡ text ++ vs
+    → ((front : List ℕ) → HasConsumedValid old front → Consumed new (front ++ text))
+    → AccountsForValidBytes start (record { reader = r; waiting = ws; reads = n; names = [] }) old → AccountsFor Consumed start (record { reader = r; waiting = vs; reads = m; names = [] }) new
+reads_waiting Consumed start r n m ws vs text old new e f h =
     let whole : h.text ++ ws ≡ (h.text ++ text) ++ vs = ap (λ (z : List ℕ). h.text ++ z) e ∙ sym (append_assoc h.text text vs) in
     record {
       text = h.text ++ text;
       consumed = f h.text h.consumed;
       front = subst (GavePrefix start r) whole h.front;
-      last = subst EndsInLastPiece whole h.last;
-      gave = subst (λ (z : List ℕ). HasEnded z → LastReadGaveBytes start r) whole h.gave;
+      last = subst IsDecidedInLastPiece whole h.last;
+      gave = subst (λ (z : List ℕ). IsDecided z → LastReadGaveBytes start r) whole h.gave;
     }
 
--- the last read gave bytes if the text has ended in them
-chunk_last : (start : Reader) (n : ℕ) (a b : Source) (text : List ℕ) → b.reads ≡ a.reads + 1 → RefillsAhead (Ok n) a b → (0 < n → LastReadGaveBytes a.reader b.reader) → (HasEnded text → ⊥) → HasEnded (text ++ b.waiting) → LastReadGaveBytes start b.reader
-chunk_last start zero a b text once f last going ended = absurd (going (subst HasEnded (ap (λ (z : List ℕ). text ++ z) (f.1 refl).waiting ∙ append-nil text) ended))
+-- the last read gave bytes if the text is decided by them
+chunk_last : (start : Reader) (n : ℕ) (a b : Source) (text : List ℕ) → b.reads ≡ a.reads + 1 → RefillsAhead (Ok n) a b → (0 < n → LastReadGaveBytes a.reader b.reader) → (IsDecided text → ⊥) → IsDecided (text ++ b.waiting) → LastReadGaveBytes start b.reader
+chunk_last start zero a b text once f last going ended = absurd (going (subst IsDecided (ap (λ (z : List ℕ). text ++ z) (f.1 refl).waiting ∙ append-nil text) ended))
 chunk_last start (suc n) a b text once f last going ended = λ called. let k = f.0.calls in last (omega arith) (omega arith)
 
 -- another chunk is read
-pub reads_chunk : (start : Reader) (n : ℕ) (a b : Source) (r : ScriptReader) → a.waiting ≡ [] → b.reads ≡ a.reads + 1 → RestMatters r → (0 < n → LastReadGaveBytes a.reader b.reader) → RefillsAhead (Ok n) a b → AccountsForBytes start a r
-    → AccountsForBytes start b r
+pub reads_chunk : (start : Reader) (n : ℕ) (a b : Source) (r : ScriptReader) → a.waiting ≡ [] → b.reads ≡ a.reads + 1 → RestMatters r → (0 < n → LastReadGaveBytes a.reader b.reader) → RefillsAhead (Ok n) a b → AccountsForValidBytes start a r
+    → AccountsForValidBytes start b r
 reads_chunk start n a b r none once matters last f h =
     let k = f.0 in
     let all : k.fresh ≡ b.waiting = ap (λ (z : List ℕ). z ++ k.fresh) (sym none) ∙ k.flows in
@@ -133,36 +233,36 @@ reads_chunk start n a b r none once matters last f h =
       text = h.text;
       consumed = h.consumed;
       front = gave_on start a b h.text k.fresh none all k.gave k.loans k.bytes h.front;
-      last = stops_after h.text b.waiting (consumed_open r h.text h.consumed matters) (omega arith);
-      gave = chunk_last start n a b h.text once f last (consumed_open r h.text h.consumed matters);
+      last = decided_after h.text b.waiting (undecided r h.text h.consumed matters) (omega arith);
+      gave = chunk_last start n a b h.text once f last (undecided r h.text h.consumed matters);
     }
 
 -- a read that failed gave nothing
-pub reads_none : (start : Reader) (e : ReadError) (a b : Source) (r : ScriptReader) → a.waiting ≡ [] → RestMatters r → RefillsAhead (Err e) a b → AccountsForBytes start a r → MakesNoReadAfterEnd start b.reader
+pub reads_none : (start : Reader) (e : ReadError) (a b : Source) (r : ScriptReader) → a.waiting ≡ [] → RestMatters r → RefillsAhead (Err e) a b → AccountsForValidBytes start a r → MakesNoReadOnceDecided start b.reader
 reads_none start errors.Failed a b r none matters f h =
     let all : f.fresh ≡ b.waiting = ap (λ (z : List ℕ). z ++ f.fresh) (sym none) ∙ f.flows ∙ sym f.none in
     let same : h.text ++ a.waiting ≡ h.text ++ b.waiting = ap (λ (z : List ℕ). h.text ++ z) (none ∙ sym f.none) in (
       h.text ++ b.waiting,
       gave_on start a b h.text f.fresh none all f.gave f.loans f.bytes h.front,
-      subst EndsInLastPiece same h.last,
-      λ ended. absurd (consumed_open r h.text h.consumed matters (subst HasEnded (ap (λ (z : List ℕ). h.text ++ z) f.none ∙ append-nil h.text) ended)),
+      subst IsDecidedInLastPiece same h.last,
+      λ decided. absurd (undecided r h.text h.consumed matters (subst IsDecided (ap (λ (z : List ℕ). h.text ++ z) f.none ∙ append-nil h.text) decided)),
     )
 reads_none start errors.OutOfMemory a b r none matters f h = absurd f
 
 -- RESULTS
 
 -- whatever is returned, all bytes are accounted for
-pub keeps_any : {T E : Type 0} (r : Result T E) (a b : Source) (old new : ScriptReader) → ((start : Reader) → AccountsForBytes start a old → AccountsForBytes start b new) → KeepsAccount r a b old new
+pub keeps_any : {T E : Type 0} (r : Result T E) (a b : Source) (old new : ScriptReader) → ((start : Reader) → AccountsForValidBytes start a old → AccountsForBytes start b new) → KeepsAccount (λ k. AccountsForBytes) r a b old new
 keeps_any (Ok x) a b old new f = f
 keeps_any (Err e) a b old new f = λ start h. stops_on start b new (f start h)
 
--- whatever is returned, no read was made after the end
-pub keeps_stops : {T E : Type 0} (r : Result T E) (a b : Source) (old new : ScriptReader) (start : Reader) → KeepsAccount r a b old new → AccountsForBytes start a old → MakesNoReadAfterEnd start b.reader
+-- whatever is returned, no read was made once the script was decided
+pub keeps_stops : {T E : Type 0} (r : Result T E) (a b : Source) (old new : ScriptReader) (start : Reader) → KeepsAccount (λ k. AccountsForBytes) r a b old new → AccountsForValidBytes start a old → MakesNoReadOnceDecided start b.reader
 keeps_stops (Ok x) a b old new start f h = stops_on start b new (f start h)
 keeps_stops (Err e) a b old new start f h = f start h
 
 -- at the end of the text, the tokenizer is left as it is
-pub finishes_account : (start : Reader) (s : Source) (old new : ScriptReader) → new.tokenizer ≡ old.tokenizer → AccountsForBytes start s old → AccountsForBytes start s new
+finishes_account : (start : Reader) (s : Source) (old new : ScriptReader) → new.tokenizer ≡ old.tokenizer → AccountsForBytes start s old → AccountsForBytes start s new
 finishes_account start s old new same h = record {
   text = h.text;
   consumed = record { before = h.consumed.before; left_of = h.consumed.left_of; valid = subst (λ (t : Tokenizer). HasRemainingScan t h.consumed.left_of) (sym same) h.consumed.valid; scans = h.consumed.scans };
@@ -171,16 +271,21 @@ finishes_account start s old new same h = record {
   gave = h.gave;
 }
 
+pub finishes_next : (n : Next) (start : Reader) (s : Source) (old new : ScriptReader) → FinishesText n old new → new.tokenizer ≡ old.tokenizer → AccountsForBytes start s old → AccountsUpTo n start s new
+finishes_next next.Command start s old new f same h = absurd f
+finishes_next (next.Last e) start s old new f same h = finishes_account start s old new same h
+finishes_next (next.End e) start s old new f same h = finishes_account start s old new same h
+
 -- ONE AFTER ANOTHER
 
-module _ (a b c : Source) (old mid new : ScriptReader) (f : (start : Reader) → AccountsForBytes start a old → AccountsForBytes start b mid) where
-  pub reads_then_err : {E : Type 0} (e : E) → KeepsAccount {T = Option Next} {E = E} (Err e) b c mid new → KeepsAccount {T = Next} {E = E} (Err e) a c old new
+module _ (a b c : Source) (old mid new : ScriptReader) (f : (start : Reader) → AccountsForValidBytes start a old → AccountsForValidBytes start b mid) where
+  pub reads_then_err : {E : Type 0} (e : E) → KeepsAccount {E = E} AccountsTowards (Err e) b c mid new → KeepsAccount {E = E} AccountsUpTo (Err e) a c old new
   reads_then_err e g start h = g start (f start h)
 
-  pub reads_then_next : (E : Type 0) (n : Next) → KeepsAccount {T = Option Next} {E = E} (Ok (Some n)) b c mid new → KeepsAccount {T = Next} {E = E} (Ok n) a c old new
+  pub reads_then_next : (E : Type 0) (n : Next) → KeepsAccount {E = E} AccountsTowards (Ok (Some n)) b c mid new → KeepsAccount {E = E} AccountsUpTo (Ok n) a c old new
   reads_then_next E n g start h = g start (f start h)
 
-  pub reads_then_on : (E : Type 0) → KeepsAccount {T = Option Next} {E = E} (Ok None) b c mid new → (start : Reader) → AccountsForBytes start a old → AccountsForBytes start c new
+  pub reads_then_on : (E : Type 0) → KeepsAccount {E = E} AccountsTowards (Ok None) b c mid new → (start : Reader) → AccountsForValidBytes start a old → AccountsForValidBytes start c new
   reads_then_on E g start h = g start (f start h)
 
 -- THE LINE OF THE LAST BYTE
@@ -200,8 +305,12 @@ ends_at_line start s r line few number h = record { text = h.text; rest = s.wait
 
 -- THE START
 
+none_decided : (r : ScriptReader) → HasConsumedValid r [] → IsDecided [] → ⊥
+none_decided r h (inl ended) = none_has_ended ended
+none_decided r h (inr bad) = not_malformed r [] h bad
+
 -- nothing was read yet
-pub reads_first : (start : Reader) (s : Source) (r : ScriptReader) → s.reader ≡ start → s.waiting ≡ [] → HasConsumed r [] → AccountsForBytes start s r
+pub reads_first : (start : Reader) (s : Source) (r : ScriptReader) → s.reader ≡ start → s.waiting ≡ [] → HasConsumedValid r [] → AccountsForValidBytes start s r
 reads_first start s r same none h = record {
   text = [];
   consumed = h;
@@ -210,13 +319,20 @@ reads_first start s r same none h = record {
     known_bytes = subst (λ (x : Reader). Consumes start.to_come x.to_come s.waiting) (sym same) (subst (Consumes start.to_come start.to_come) (sym none) (consumes_none start.to_come));
     loans = ap (λ (x : Reader). x.loans) same;
   };
-  last = subst EndsInLastPiece (sym none) stops_none;
-  gave = λ ended. absurd (none_has_ended (subst HasEnded none ended));
+  last = subst IsDecidedInLastPiece (sym none) decided_none;
+  gave = λ decided. absurd (none_decided r h (subst IsDecided none decided));
 }
 
 -- THE STREAM OF COMMANDS
 
 module _ {R : Type 0} (seen : R → Reader) (r : R) (old new : CommandStream) where
   -- bytes that were waiting are consumed
-  pub keeps_taken : (q : Reached) → ConsumesWaiting {E = ReadError} (Ok q) old new → (start : Reader) → AccountsForBytes start (source_in seen r old.ahead) old.reader → AccountsForBytes start (source_in seen r new.ahead) new.reader
-  keeps_taken q t start h = reads_waiting start (seen r) old.ahead.reads new.ahead.reads (waiting_bytes old.ahead) (waiting_bytes new.ahead) t.0 old.reader new.reader t.1 t.5 h
+  module _ (start : Reader) (h : AccountsForValidBytes start (source_in seen r old.ahead) old.reader) where
+    pub keeps_more : ConsumesWaiting {E = ReadError} (Ok reached.More) old new → AccountsForValidBytes start (source_in seen r new.ahead) new.reader
+    keeps_more t = reads_waiting HasConsumedValid start (seen r) old.ahead.reads new.ahead.reads (waiting_bytes old.ahead) (waiting_bytes new.ahead) t.0 old.reader new.reader t.1 t.5 h
+
+    pub keeps_command : ConsumesWaiting {E = ReadError} (Ok reached.Command) old new → AccountsForValidBytes start (source_in seen r new.ahead) new.reader
+    keeps_command t = reads_waiting HasConsumedValid start (seen r) old.ahead.reads new.ahead.reads (waiting_bytes old.ahead) (waiting_bytes new.ahead) t.0 old.reader new.reader t.1 t.5 h
+
+    pub keeps_malformed : ConsumesWaiting {E = ReadError} (Ok reached.Malformed) old new → AccountsForBytes start (source_in seen r new.ahead) new.reader
+    keeps_malformed t = reads_waiting HasConsumed start (seen r) old.ahead.reads new.ahead.reads (waiting_bytes old.ahead) (waiting_bytes new.ahead) t.0 old.reader new.reader t.1 t.5 h

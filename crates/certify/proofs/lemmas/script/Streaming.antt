@@ -29,8 +29,8 @@ use Rattle.certify.proofs.lemmas.script.Bytes.{followed, goes_nowhere}
 
 -- WAITING BYTES
 
-pub take_parts : (r : Reached) (old new : ScriptReader) (xs w v : List ℕ) (n : ℕ) → xs ≡ w → n ≤ length xs → (0 < length xs → 0 < n) → v ≡ drop n w → ReceivesBytes r old (take n xs) new → ConsumesText old (take n xs) new
-    → (text : List ℕ) × (w ≡ text ++ v) × (0 < length w → 0 < length text) × ReceivesBytes r old text new × ConsumesText old text new
+pub take_parts : (r : Reached) (old new : ScriptReader) (xs w v : List ℕ) (n : ℕ) → xs ≡ w → n ≤ length xs → (0 < length xs → 0 < n) → v ≡ drop n w → ReceivesBytes r old (take n xs) new → ConsumesText r old (take n xs) new
+    → (text : List ℕ) × (w ≡ text ++ v) × (0 < length w → 0 < length text) × ReceivesBytes r old text new × ConsumesText r old text new
 take_parts r old new xs w v n e low some d t u =
     let l = length-take-le n xs low in
     let same : length xs ≡ length w = ap length e in

@@ -2,7 +2,7 @@ use Rattle.std.proofs.Common.{refl, subst}
 use Rattle.sat_base.specs.device.Reading.{Source, new_source}
 use Rattle.sat_base.specs.script.ScriptState.{initial_state}
 use Rattle.certify.specs.script.LastPiece.{source_in}
-use Rattle.certify.specs.script.LastChunk.{AccountsForBytes}
+use Rattle.certify.specs.script.LastChunk.{AccountsForValidBytes}
 use Rattle.sat_base.specs.script.Language.{reading, plain_reading}
 use Rattle.certify.specs.run.ServedScript.{ServesScript}
 use Rattle.certify.proofs.lemmas.run.Runs.{IsNew, counter_so, fresh_source, has_target, is_open_yet, runs_so, steps_so, stopped_so}
@@ -57,7 +57,7 @@ returns-clause-counter_end g c =
 
 module _ (g : Over) (c : After-serve_all-served g) where
   -- no byte was read before
-  account : AccountsForBytes (g.S.CountedRead.seen c.args.script.now) (source_in g.S.CountedRead.seen c.args.script.now c.new-stream.result.ahead) c.new-stream.result.reader
+  account : AccountsForValidBytes (g.S.CountedRead.seen c.args.script.now) (source_in g.S.CountedRead.seen c.args.script.now c.new-stream.result.ahead) c.new-stream.result.reader
   account = let S = g.S.CountedRead.seen in reads_first (S c.args.script.now) (source_in S c.args.script.now c.new-stream.result.ahead) c.new-stream.result.reader refl c.new-stream.ensures.waiting c.new-stream.ensures.text
 
 pub returns-clause-stops : goal.returns-clause-stops

@@ -6,7 +6,7 @@ use Rattle.certify.specs.script.LastPiece.{source_in}
 use Rattle.certify.proofs.lemmas.confirm.Streams.{passes_fewer}
 use Rattle.certify.proofs.lemmas.confirm.Joining.{took_open}
 use Rattle.certify.proofs.lemmas.run.ServedThrough.{ends_last, ends_so, one_more, stops, through_none, unread}
-use Rattle.certify.proofs.lemmas.script.LastChunks.{keeps_any}
+use Rattle.certify.proofs.lemmas.script.LastChunks.{keeps_any, valid_account}
 use Rattle.certify.proofs.run.serve.serve_all.Goals as goal
 
 pub loop-next-init : goal.loop-next-init
@@ -42,7 +42,7 @@ loop-next-preserved g c =
     record {
       script_open = took_open (source_in g.S.CountedRead.seen l.script l.stream.ahead) d l.invariant.script_open (came.0, came.1);
       through = one_more _ _ _ _ _ _ c.next.new.self.reader _ _ _ _ l.invariant.through c.requires.open_yet d c.serve_next.new.session (g.A.CountedWrite.seen c.serve_next.new.answers) came (λ x is. c.in_ok-serve_next-in-Command.ensures.served x (c.command.ensures x is));
-      stops = λ start h. c.in-Ok.ensures.stops start (l.invariant.stops start h);
+      stops = λ start h. rw c.in-Command.is at (c.in-Ok.ensures.stops start (l.invariant.stops start h));
     }
 
 pub loop-next-smaller : goal.loop-next-smaller
@@ -73,14 +73,14 @@ returns-in-Err-clause-stops g c start h = c.in-Err.ensures.stops start (c.loop-n
 pub returns-in_err-serve_next-in-Command-clause-stops : goal.returns-in_err-serve_next-in-Command-clause-stops
 returns-in_err-serve_next-in-Command-clause-stops g c =
     let S = g.S.CountedRead.seen in
-    keeps_any c.from_residual.result (source_in S c.args.script.now c.args.stream.now.ahead) (source_in S c.next.new.script c.next.new.self.ahead) c.args.stream.now.reader c.next.new.self.reader (λ start h. c.in-Ok.ensures.stops start (c.loop-next.invariant.stops start h))
+    keeps_any c.from_residual.result (source_in S c.args.script.now c.args.stream.now.ahead) (source_in S c.next.new.script c.next.new.self.ahead) c.args.stream.now.reader c.next.new.self.reader (λ start h. valid_account start (source_in S c.next.new.script c.next.new.self.ahead) c.next.new.self.reader (rw c.in-Command.is at (c.in-Ok.ensures.stops start (c.loop-next.invariant.stops start h))))
 
 pub returns-in-Last-clause-stops : goal.returns-in-Last-clause-stops
 returns-in-Last-clause-stops g c =
     let S = g.S.CountedRead.seen in
-    keeps_any c.serve_last.result (source_in S c.args.script.now c.args.stream.now.ahead) (source_in S c.next.new.script c.next.new.self.ahead) c.args.stream.now.reader c.next.new.self.reader (λ start h. c.in-Ok.ensures.stops start (c.loop-next.invariant.stops start h))
+    keeps_any c.serve_last.result (source_in S c.args.script.now c.args.stream.now.ahead) (source_in S c.next.new.script c.next.new.self.ahead) c.args.stream.now.reader c.next.new.self.reader (λ start h. rw c.in-Last.is at (c.in-Ok.ensures.stops start (c.loop-next.invariant.stops start h)))
 
 pub returns-in-End-clause-stops : goal.returns-in-End-clause-stops
 returns-in-End-clause-stops g c =
     let S = g.S.CountedRead.seen in
-    keeps_any c.serve_end.result (source_in S c.args.script.now c.args.stream.now.ahead) (source_in S c.next.new.script c.next.new.self.ahead) c.args.stream.now.reader c.next.new.self.reader (λ start h. c.in-Ok.ensures.stops start (c.loop-next.invariant.stops start h))
+    keeps_any c.serve_end.result (source_in S c.args.script.now c.args.stream.now.ahead) (source_in S c.next.new.script c.next.new.self.ahead) c.args.stream.now.reader c.next.new.self.reader (λ start h. rw c.in-End.is at (c.in-Ok.ensures.stops start (c.loop-next.invariant.stops start h)))

@@ -9,7 +9,7 @@ use Rattle.certify.specs.script.LastPiece.{source_in}
 use Rattle.certify.proofs.lemmas.confirm.Streams.{passes_fewer}
 use Rattle.certify.proofs.lemmas.confirm.Joining.{took_open}
 use Rattle.certify.proofs.lemmas.confirm.ConfirmedThrough.{through_none, unread, one_more, stops, ends_so, ends_last}
-use Rattle.certify.proofs.lemmas.script.LastChunks.{stops_on}
+use Rattle.certify.proofs.lemmas.script.LastChunks.{stops_on, stops_valid}
 use Rattle.certify.proofs.confirm.confirmation.Confirmation.confirm_all.Goals as goal
 
 pub loop-next-init : goal.loop-next-init
@@ -80,7 +80,7 @@ loop-next-preserved g c =
       script_open = rw script (took_open (script_source S l.script l.self) (source_in S c.next.new.script c.next.new.self.ahead) l.invariant.script_open (came.0, came.1));
       through = rw script
           (one_more _ _ _ _ c.next.new.self.reader l.invariant.through c.requires.script_open c.requires.open_yet c.requires.goes_on.open_yet new came (ap (λ (n : ℕ). n + 1) c.in_ok-confirm_next-in-Command.ensures.number) (λ v is. (c.in_ok-confirm_next-in-Command.ensures.confirms v is).joins));
-      stops = λ start h. rw script (c.in-Ok.ensures.stops start (l.invariant.stops start h));
+      stops = λ start h. rw script (rw c.in-Command.is at (c.in-Ok.ensures.stops start (l.invariant.stops start h)));
     }
 
 pub loop-next-smaller : goal.loop-next-smaller
@@ -91,10 +91,10 @@ returns-in-Err-clause-stops g c start h = c.in-Err.ensures.stops start (c.loop-n
 
 pub returns-in_err-confirm_next-in-Command-clause-stops : goal.returns-in_err-confirm_next-in-Command-clause-stops
 returns-in_err-confirm_next-in-Command-clause-stops g c start h =
-    stops_on start (source_in g.S.CountedRead.seen c.next.new.script c.next.new.self.ahead) c.next.new.self.reader (c.in-Ok.ensures.stops start (c.loop-next.invariant.stops start h))
+    stops_valid start (source_in g.S.CountedRead.seen c.next.new.script c.next.new.self.ahead) c.next.new.self.reader (rw c.in-Command.is at (c.in-Ok.ensures.stops start (c.loop-next.invariant.stops start h)))
 
 pub returns-in-Last-clause-stops : goal.returns-in-Last-clause-stops
-returns-in-Last-clause-stops g c start h = stops_on start (source_in g.S.CountedRead.seen c.next.new.script c.next.new.self.ahead) c.next.new.self.reader (c.in-Ok.ensures.stops start (c.loop-next.invariant.stops start h))
+returns-in-Last-clause-stops g c start h = stops_on start (source_in g.S.CountedRead.seen c.next.new.script c.next.new.self.ahead) c.next.new.self.reader (rw c.in-Last.is at (c.in-Ok.ensures.stops start (c.loop-next.invariant.stops start h)))
 
 pub returns-in-End-clause-stops : goal.returns-in-End-clause-stops
-returns-in-End-clause-stops g c start h = stops_on start (source_in g.S.CountedRead.seen c.next.new.script c.next.new.self.ahead) c.next.new.self.reader (c.in-Ok.ensures.stops start (c.loop-next.invariant.stops start h))
+returns-in-End-clause-stops g c start h = stops_on start (source_in g.S.CountedRead.seen c.next.new.script c.next.new.self.ahead) c.next.new.self.reader (rw c.in-End.is at (c.in-Ok.ensures.stops start (c.loop-next.invariant.stops start h)))

@@ -4,7 +4,7 @@ use Rattle.sat_base.specs.steps.StepReading.{reader_borrow}
 use Rattle.certify.specs.confirm.Streams.{StepsGoOn, most_bytes_left}
 use Rattle.certify.specs.confirm.ConfirmStates.{answers_source_in}
 use Rattle.certify.specs.confirm.ConfirmedScript.{ConfirmsUpToPlace, script_source, confirm_place}
-use Rattle.certify.specs.script.LastChunk.{AccountsForBytes}
+use Rattle.certify.specs.script.LastChunk.{AccountsForValidBytes}
 use Rattle.certify.specs.script.LastPiece.{IsNotAtEnd}
 use Rattle.sat_base.specs.script.Language.{reading}
 use Rattle.certify.proofs.confirm.confirmation.Confirmation.confirm_all.Given as goal
@@ -17,7 +17,7 @@ invariant-loop-next g l = record {
   script_open : IsNotAtEnd (script_source g.S.CountedRead.seen l.script l.self);
   through : ConfirmsUpToPlace reading (confirm_place g.S.CountedRead.seen g.A.CountedRead.seen g.C.CountedRead.seen l.fn.script l.fn.answers l.fn.steps l.fn.self)
       (confirm_place g.S.CountedRead.seen g.A.CountedRead.seen g.C.CountedRead.seen l.script l.answers l.steps l.self) l.self.script.reader;
-  stops : (start : Reader) → AccountsForBytes start (script_source g.S.CountedRead.seen l.fn.script l.fn.self) l.fn.self.script.reader → AccountsForBytes start (script_source g.S.CountedRead.seen l.script l.self) l.self.script.reader;
+  stops : (start : Reader) → AccountsForValidBytes start (script_source g.S.CountedRead.seen l.fn.script l.fn.self) l.fn.self.script.reader → AccountsForValidBytes start (script_source g.S.CountedRead.seen l.script l.self) l.self.script.reader;
 }
 
 abbrev pub decreases-loop-next : goal.decreases-loop-next

@@ -3,7 +3,7 @@ use Rattle.certify.proofs.lemmas.script.LastChunks.{consumed_first}
 use Rattle.certify.proofs.script.reader.ScriptReader.new.Goals as goal
 
 pub returns-clause-text : goal.returns-clause-text
-returns-clause-text c = consumed_first c.new.result c.new-2.result c.new.ensures
+returns-clause-text c = consumed_first c.new.result c.new-2.result c.new.ensures c.new-2.ensures.draft
 
 pub returns-clause-counts : goal.returns-clause-counts
 returns-clause-counts c = counts_first c.new.result c.new-2.result c.new.ensures c.new-2.ensures.draft

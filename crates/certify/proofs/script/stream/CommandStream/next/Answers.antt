@@ -25,7 +25,7 @@ returns-in-Some g c =
     let d = source_in g.S.CountedRead.seen c.advance.new.script c.advance.new.self.ahead in
     record {
       arrives = arrives_then a b d c.args.self.now.reader l.self.reader c.advance.new.self.reader l.invariant.0 c.requires l.invariant.1 l.invariant.2 c.in-Some.next (rw c.in-Some.is at c.in_ok-next.ensures.brings);
-      stops = reads_then_next a b d c.args.self.now.reader l.self.reader c.advance.new.self.reader l.invariant.3 ReadError c.in-Some.next c.in_ok-next.ensures.stops;
+      stops = reads_then_next a b d c.args.self.now.reader l.self.reader c.advance.new.self.reader l.invariant.3 ReadError c.in-Some.next (rw c.in-Some.is at c.in_ok-next.ensures.stops);
     }
 
 pub loop-next-preserved : goal.loop-next-preserved
@@ -35,4 +35,4 @@ loop-next-preserved g c =
     let b = source_in g.S.CountedRead.seen l.script l.self.ahead in
     let d = source_in g.S.CountedRead.seen c.advance.new.script c.advance.new.self.ahead in
     let p = follows_more a b d c.args.self.now.reader l.self.reader c.advance.new.self.reader l.invariant.0 c.requires l.invariant.1 l.invariant.2 (rw c.in_default.is at c.in_ok-next.ensures.brings) in
-    (p.0, p.1, p.2, reads_then_on a b d c.args.self.now.reader l.self.reader c.advance.new.self.reader l.invariant.3 ReadError c.in_ok-next.ensures.stops)
+    (p.0, p.1, p.2, reads_then_on a b d c.args.self.now.reader l.self.reader c.advance.new.self.reader l.invariant.3 ReadError (rw c.in_default.is at c.in_ok-next.ensures.stops))

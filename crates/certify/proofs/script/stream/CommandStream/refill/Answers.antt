@@ -2,7 +2,7 @@ use Rattle.std.proofs.Common.{arith}
 use Rattle.std.proofs.lemmas.Grind.{common_steps}
 use Rattle.std.proofs.lemmas.Result.{err_from_is_err_and}
 use Rattle.certify.specs.script.LastPiece.{source_in}
-use Rattle.certify.proofs.lemmas.script.LastChunks.{finishes_account, reads_chunk, reads_none}
+use Rattle.certify.proofs.lemmas.script.LastChunks.{finishes_next, reads_chunk, reads_none, valid_account}
 use Rattle.certify.proofs.lemmas.script.Streaming.{refill_ends}
 use Rattle.certify.proofs.script.stream.CommandStream.refill.Goals as goal
 
@@ -17,9 +17,9 @@ returns-clause-stops g c start h =
 pub returns-then-branch-eq0-clause-stops : goal.returns-then-branch-eq0-clause-stops
 returns-then-branch-eq0-clause-stops g c start h =
     let S = g.S.CountedRead.seen in
-    rw c.finish.ensures.ahead (finishes_account start (source_in S c.refill.new.reader c.refill.new.self) c.args.self.now.reader c.finish.new.self.reader c.finish.ensures.tokenizer
-    (reads_chunk start c.in_ok-refill.field-0 (source_in S c.args.script.now c.args.self.now.ahead) (source_in S c.refill.new.reader c.refill.new.self) c.args.self.now.reader
-    c.requires.waiting c.in_ok-refill.ensures.reads c.requires.looks_on c.in_ok-refill.ensures.last c.in_ok-refill.ensures.bytes h))
+    rw c.finish.ensures.ahead (finishes_next c.finish.result start (source_in S c.refill.new.reader c.refill.new.self) c.args.self.now.reader c.finish.new.self.reader c.finish.ensures.finishes c.finish.ensures.tokenizer
+    (valid_account start (source_in S c.refill.new.reader c.refill.new.self) c.args.self.now.reader (reads_chunk start c.in_ok-refill.field-0 (source_in S c.args.script.now c.args.self.now.ahead) (source_in S c.refill.new.reader c.refill.new.self) c.args.self.now.reader
+    c.requires.waiting c.in_ok-refill.ensures.reads c.requires.looks_on c.in_ok-refill.ensures.last c.in_ok-refill.ensures.bytes h)))
 
 pub returns-in_err-refill-clause-stops : goal.returns-in_err-refill-clause-stops
 returns-in_err-refill-clause-stops g c =
